@@ -14,7 +14,7 @@ use Rattle.tac_ir.specs.declared.code.TacInstr.TheVariants as instr
 use Rattle.tac_ir.specs.declared.code.TacKind.{TacKind}
 use Rattle.tac_lower.specs.declared.emitter.Emitter.{Emitter}
 use Rattle.lower_runs.specs.Functions.{end_code, HasEndTemp}
-use Rattle.lower_runs.specs.Shortened.{IsShort, same, left, AreUnlabelled}
+use Rattle.lower_runs.specs.Shortened.{IsShort, same, left, AreNeedless}
 use Rattle.tac_lower.specs.Emitted.{HasKind, HasLeft, Pushed, WellListed}
 use Rattle.tac_lower.specs.Nodes.{kept_as}
 use Rattle.tac_lower.specs.Programs.{EndsWith, gives_in}
@@ -44,9 +44,9 @@ ends_some a m b t k has f h =
     }
 
 -- a run never comes behind a return
-unlabelled : (k : Option TacKind) (at : ℕ) → AreUnlabelled (end_code k at)
-unlabelled None at = tt
-unlabelled (Some k) at = tt
+needless : (k : Option TacKind) (at : ℕ) → AreNeedless (end_code k at)
+needless None at = tt
+needless (Some k) at = tt
 
 append_on : (xs ys zs : List TacInstr) → (xs ++ ys) ++ zs ≡ xs ++ (ys ++ zs)
 append_on [] ys zs = refl
@@ -84,7 +84,7 @@ module _ {p : Typed} {d : FunDef} (fits : FunctionFits p d) (o : IsOrdered p) wh
         at = r.0;
         room = subst (λ z. HasEndTemp z r.0 (length e.kinds.items)) (sym gives_is) r.1;
         short =
-            let short = left h.front end h.value (unlabelled (gives_in p d) r.0) in
+            let short = left h.front end h.value (needless (gives_in p d) r.0) in
             subst (λ z. IsShort z (e.code.items ++ end)) (sym h.is)
             (subst (λ z. IsShort (h.front ++ instr.Return h.value ∷ []) z)
             (sym (ap (λ z. z ++ end) h.is ∙ append_on h.front (instr.Return h.value ∷ []) end)) short);

@@ -52,6 +52,9 @@ use Rattle.tac_lower.proofs.Wells.{keeps_then}
 record_bytes : (f : TypeFacts) → f.«record» ≡ true → record_size f ≡ f.size
 record_bytes f h = ap (λ z. if z then f.size else 0) h
 
+untrue : false ≡ true → ⊥
+untrue h = cc
+
 module _ (s : Setting) (o : Ordered s.program) (t : IsOrdered s.program) where
   -- ---- positions
 
@@ -151,7 +154,7 @@ module _ (s : Setting) (o : Ordered s.program) (t : IsOrdered s.program) where
       by (exprs.Member a m) q = ap chooses (at (exprs.Member a m) q)
       by (exprs.Var x) q = ap chooses (at (exprs.Var x) q)
           ∙ named_plain (is_simple (slice_get s.vars x)) e.pos x (objects_before s.vars x)
-      by of q = absurd (let z = is of q in cc)
+      by of q = absurd (untrue (is of q))
 
   -- a node that is copied as one is no choice
   pub plain_own : (u : Ty) (of : ExprKind) {k : ℕ} → IsTyped (frame_in s u) k → IsNode s.program k of →

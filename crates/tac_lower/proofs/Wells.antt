@@ -1,6 +1,7 @@
 -- Code stays well formed where an instruction is added.
-use Rattle.std.proofs.Common.{◌≡◌, ℕ, zero, suc, ◌<◌, Bool, true, false, not, List, [], ◌∷◌, ◌++◌, length, Some, refl}
-use Rattle.std.proofs.Common.{sym, ap, ◌∙◌, subst, arith, append_assoc, length-append}
+use Rattle.std.proofs.Common.{◌≡◌, ℕ, ◌+◌, zero, suc, ◌<◌, ◌≤◌, Bool, true, false, not, List}
+use Rattle.std.proofs.Common.{[], ◌∷◌, ◌++◌, length, Some}
+use Rattle.std.proofs.Common.{refl, sym, ap, ◌∙◌, subst, arith, append_assoc, length-append}
 use Rattle.std.specs.Prelude.{◌==◌, ◌&&◌, ◌||◌, nat_lt, slice_get}
 use Rattle.std.proofs.lemmas.Bool.Decides.{nat_tests}
 use Rattle.c_tree.specs.declared.typed.FunDef.{FunDef}
@@ -331,6 +332,15 @@ made_adds a b k h = record {
 
 pub adds_same : (a : Emitter) → Adds a a 0 0
 adds_same a = record { temps = omega arith; labels = omega arith }
+
+pub adds_then : {a b c : Emitter} {m n k l : ℕ} → Adds a b m n → Adds b c k l → Adds a c (m + k) (n + l)
+adds_then f g = record {
+  temps = omega (arith, f.temps, g.temps);
+  labels = omega (arith, f.labels, g.labels);
+}
+
+pub adds_within : {a b : Emitter} {m n k : ℕ} → Adds a b m n → m ≤ k → Adds a b k n
+adds_within f i = record { temps = omega (arith, f.temps, i); labels = f.labels }
 
 pub as_same : (a : Emitter) (t u : ℕ) (k : TacKind) → HasKind a t k → HasKind a u k → SameKind a t u
 as_same a t u k h g = record { kind = k; to = h; from = g }

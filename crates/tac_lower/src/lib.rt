@@ -29,30 +29,3 @@ pub use laws::{
     library_calls_fit, parts_add_up, signatures_fit, typed_expressions_fit, typed_statements_fit,
 };
 pub use lowering::lower;
-
-#[cfg(test)]
-mod tests {
-    use super::*;
-    use c_tree::Typed;
-    use ck_base::Sequence;
-    use std::test::Fail;
-
-    #[test]
-    fn lowers_nothing(rt: HostRuntime) -> Result<(), Fail> {
-        let alloc = rt.alloc();
-        let p = Typed {
-            types: Sequence::from_vec(Vec::new(alloc)),
-            globals: Sequence::from_vec(Vec::new(alloc)),
-            literals: Sequence::from_vec(Vec::new(alloc)),
-            funs: Sequence::from_vec(Vec::new(alloc)),
-            exprs: Sequence::from_vec(Vec::new(alloc)),
-            stmts: Sequence::from_vec(Vec::new(alloc)),
-            main: 0,
-        };
-        let Ok(t) = lower(alloc, &p) else {
-            return Ok(());
-        };
-        assert_eq!(rt; t.funs.as_slice().len(), 0);
-        Ok(())
-    }
-}

@@ -12,7 +12,7 @@ use Rattle.std.proofs.Common.{◌≡◌, ◌+◌, ◌<◌, Some, None, [], ◌�
 use Rattle.std.proofs.Common.{true, false, refl, sym, ap, subst, ◌∙◌, arith, rules, drop, unwrap_or}
 use Rattle.std.proofs.lemmas.List.{take_more, append-nil, drop_all}
 use Rattle.std.proofs.lemmas.Option.{slice_get_within, slice_get-get_or, MatchOption-at_none}
-use Rattle.std.proofs.lemmas.Result.{IfOk-weaker}
+use Rattle.std.proofs.lemmas.Result.{IfOk-weaker, IfOk-from_err as fails}
 use Rattle.c_tree.specs.Counts.{parts}
 use Rattle.c_tree.specs.Types.{Function}
 use Rattle.cheri_c_sem.specs.Types.{is_shift}
@@ -78,31 +78,37 @@ use Rattle.tac_lower.proofs.Callees.{call_named, call_by_value}
 use Rattle.tac_lower.proofs.Served.{is_served, call_served, has_length, intrinsic_serves, library_serves}
 use Rattle.tac_lower.specs.Callees.{service_as}
 
-pub conditions::condition-returns-in_default-clause-lowered :
-    goal.conditions::condition-returns-in_default-clause-lowered
-conditions::condition-returns-in_default-clause-lowered t c =
-    tail_grew _ _ c.jump_if.result (start c.requires.scene) c.jump_if.ensures.grown c.jump_if.ensures.adds (omega arith)
+pub conditions::condition-returns-in_default : goal.conditions::condition-returns-in_default
+conditions::condition-returns-in_default t c =
+    record {
+      lowered = tail_grew _ _ c.jump_if.result (start c.requires.scene) c.jump_if.ensures.grown c.jump_if.ensures.adds
+          (omega arith);
+      spends = last_and _ _ _ _ c.jump_if.result nothing c.jump_if.ensures.spent
+          (omega (arith, heavy (expression c.args.cx.p.now c.args.k)))
+          (omega (arith, heavy (expression c.args.cx.p.now c.args.k)))
+          (omega arith);
+      is = IfOk-weaker c.jump_if.result _ _ (λ r f. condition_no_node _ c.requires.ordered
+          c.requires.scene.ready.ordered
+          c.in_default.ensures f) c.jump_if.ensures.emits;
+    }
 
-pub conditions::condition-returns-in_default-clause-spends : goal.conditions::condition-returns-in_default-clause-spends
-conditions::condition-returns-in_default-clause-spends t c =
-    last_and _ _ _ _ c.jump_if.result nothing c.jump_if.ensures.spent
-    (omega (arith, heavy (expression c.args.cx.p.now c.args.k)))
-    (omega (arith, heavy (expression c.args.cx.p.now c.args.k)))
-    (omega arith)
-
-pub conditions::condition-returns-in-Constant-clause-lowered :
-    goal.conditions::condition-returns-in-Constant-clause-lowered
-conditions::condition-returns-in-Constant-clause-lowered t c =
-    tail_grew _ _ c.jump_if-in-Constant.result
-    (start c.requires.scene) c.jump_if-in-Constant.ensures.grown c.jump_if-in-Constant.ensures.adds (omega arith)
-
-pub conditions::condition-returns-in-Constant-clause-spends :
-    goal.conditions::condition-returns-in-Constant-clause-spends
-conditions::condition-returns-in-Constant-clause-spends t c =
-    last_and _ _ _ _ c.jump_if-in-Constant.result nothing c.jump_if-in-Constant.ensures.spent
-    (omega (arith, heavy (expression c.args.cx.p.now c.args.k)))
-    (omega (arith, heavy (expression c.args.cx.p.now c.args.k)))
-    (omega arith)
+pub conditions::condition-returns-in-Constant : goal.conditions::condition-returns-in-Constant
+conditions::condition-returns-in-Constant t c =
+    record {
+      lowered = tail_grew _ _ c.jump_if-in-Constant.result
+          (start c.requires.scene) c.jump_if-in-Constant.ensures.grown c.jump_if-in-Constant.ensures.adds (omega
+          arith);
+      spends = last_and _ _ _ _ c.jump_if-in-Constant.result nothing c.jump_if-in-Constant.ensures.spent
+          (omega (arith, heavy (expression c.args.cx.p.now c.args.k)))
+          (omega (arith, heavy (expression c.args.cx.p.now c.args.k)))
+          (omega arith);
+      is = (let n = node_at c.args.cx.d.now c.requires.scene.ready c.requires.typed c.in-Some.ensures c.in-Constant.is
+          in
+          IfOk-weaker c.jump_if-in-Constant.result _ _
+          (λ r f. condition_constant _ c.requires.ordered c.requires.scene.ready.ordered
+          (record { node = _; there = c.in-Some.ensures; is = c.in-Constant.is }) n.is n.fits f)
+          c.jump_if-in-Constant.ensures.emits);
+    }
 
 pub conditions::condition-opposite_condition-requires : goal.conditions::condition-opposite_condition-requires
 conditions::condition-opposite_condition-requires t c =
@@ -118,7 +124,8 @@ conditions::condition-opposite_condition-requires t c =
             c.requires.scene,
             (
               unary_operand (frame_of c.args.cx.p.now c.args.cx.d.now) c.args.k c.in-Unary-LogicalNot-default.a
-                  c.in-Unary-LogicalNot-default.field-0 (node_at c.args.cx.d.now c.requires.scene.ready c.requires.typed
+                  c.in-Unary-LogicalNot-default.field-0 (node_at c.args.cx.d.now c.requires.scene.ready
+                  c.requires.typed
                   c.in-Some.ensures c.in-Unary-LogicalNot-default.is),
               (c.requires.open, c.requires.room),
             ),
@@ -183,28 +190,46 @@ conditions::condition-joined_condition-requires-in-Or t c =
       ),
     )
 
-pub conditions::condition-returns-in-And-clause-lowered : goal.conditions::condition-returns-in-And-clause-lowered
-conditions::condition-returns-in-And-clause-lowered t c =
-    tail _ _ c.joined_condition.result (start c.requires.scene) c.joined_condition.ensures.lowered (omega arith)
+pub conditions::condition-returns-in-And : goal.conditions::condition-returns-in-And
+conditions::condition-returns-in-And t c =
+    record {
+      lowered = tail _ _ c.joined_condition.result (start c.requires.scene) c.joined_condition.ensures.lowered (omega
+          arith);
+      spends = last _ _ _ _ c.joined_condition.result nothing c.joined_condition.ensures.spends
+          (omega (arith, heavy (expression c.args.cx.p.now c.args.k)))
+          (omega (arith, heavy (expression c.args.cx.p.now c.args.k)))
+          (omega arith);
+      is = (let n = node_at c.args.cx.d.now c.requires.scene.ready c.requires.typed c.in-Some.ensures c.in-And.is in
+          IfOk-weaker c.joined_condition.result _ _
+          (λ r h. h n.is
+          (subst (λ (j : Junction). HasScalar c.args.cx.p.now j.a) (sym c.and.ensures)
+          (record { kind = n.left_kind; is = n.left }))
+          (subst (λ (j : Junction). HasScalar c.args.cx.p.now j.b) (sym c.and.ensures)
+          (record { kind = n.right_kind; is = n.right }))
+          (subst (λ (j : Junction). IsNode c.args.cx.p.now c.args.k (joined j.both j.a j.b)) (sym c.and.ensures)
+          (record { node = _; there = c.in-Some.ensures; is = c.in-And.is }))) c.joined_condition.ensures.is);
+    }
 
-pub conditions::condition-returns-in-And-clause-spends : goal.conditions::condition-returns-in-And-clause-spends
-conditions::condition-returns-in-And-clause-spends t c =
-    last _ _ _ _ c.joined_condition.result nothing c.joined_condition.ensures.spends
-    (omega (arith, heavy (expression c.args.cx.p.now c.args.k)))
-    (omega (arith, heavy (expression c.args.cx.p.now c.args.k)))
-    (omega arith)
-
-pub conditions::condition-returns-in-Or-clause-lowered : goal.conditions::condition-returns-in-Or-clause-lowered
-conditions::condition-returns-in-Or-clause-lowered t c =
-    tail _ _ c.joined_condition-in-Or.result (start c.requires.scene) c.joined_condition-in-Or.ensures.lowered
-    (omega arith)
-
-pub conditions::condition-returns-in-Or-clause-spends : goal.conditions::condition-returns-in-Or-clause-spends
-conditions::condition-returns-in-Or-clause-spends t c =
-    last _ _ _ _ c.joined_condition-in-Or.result nothing c.joined_condition-in-Or.ensures.spends
-    (omega (arith, heavy (expression c.args.cx.p.now c.args.k)))
-    (omega (arith, heavy (expression c.args.cx.p.now c.args.k)))
-    (omega arith)
+pub conditions::condition-returns-in-Or : goal.conditions::condition-returns-in-Or
+conditions::condition-returns-in-Or t c =
+    record {
+      lowered = tail _ _ c.joined_condition-in-Or.result (start c.requires.scene)
+          c.joined_condition-in-Or.ensures.lowered
+          (omega arith);
+      spends = last _ _ _ _ c.joined_condition-in-Or.result nothing c.joined_condition-in-Or.ensures.spends
+          (omega (arith, heavy (expression c.args.cx.p.now c.args.k)))
+          (omega (arith, heavy (expression c.args.cx.p.now c.args.k)))
+          (omega arith);
+      is = (let n = node_at c.args.cx.d.now c.requires.scene.ready c.requires.typed c.in-Some.ensures c.in-Or.is in
+          IfOk-weaker c.joined_condition-in-Or.result _ _
+          (λ r h. h n.is
+          (subst (λ (j : Junction). HasScalar c.args.cx.p.now j.a) (sym c.or.ensures)
+          (record { kind = n.left_kind; is = n.left }))
+          (subst (λ (j : Junction). HasScalar c.args.cx.p.now j.b) (sym c.or.ensures)
+          (record { kind = n.right_kind; is = n.right }))
+          (subst (λ (j : Junction). IsNode c.args.cx.p.now c.args.k (joined j.both j.a j.b)) (sym c.or.ensures)
+          (record { node = _; there = c.in-Some.ensures; is = c.in-Or.is }))) c.joined_condition-in-Or.ensures.is);
+    }
 
 pub conditions::condition-branch-out-requires-clause-open : goal.conditions::condition-branch-out-requires-clause-open
 conditions::condition-branch-out-requires-clause-open t c =
@@ -213,19 +238,21 @@ conditions::condition-branch-out-requires-clause-open t c =
 pub conditions::condition-branch-out-requires-clause-temp : goal.conditions::condition-branch-out-requires-clause-temp
 conditions::condition-branch-out-requires-clause-temp t c = some_temp c.in_ok-on-in_default-kind.ensures.has
 
-pub conditions::condition-returns-in_ok-on-in_default-kind-clause-lowered :
-    goal.conditions::condition-returns-in_ok-on-in_default-kind-clause-lowered
-conditions::condition-returns-in_ok-on-in_default-kind-clause-lowered t c =
-    tail_grew _ _ c.branch-out.result c.in_ok-on-in_default-kind.ensures.lowered c.branch-out.ensures.grown
-    c.branch-out.ensures.adds (omega arith)
-
-pub conditions::condition-returns-in_ok-on-in_default-kind-clause-spends :
-    goal.conditions::condition-returns-in_ok-on-in_default-kind-clause-spends
-conditions::condition-returns-in_ok-on-in_default-kind-clause-spends t c =
-    last_and _ _ _ _ c.branch-out.result c.in_ok-on-in_default-kind.ensures.spends c.branch-out.ensures.spent
-    (omega (arith, heavy (expression c.args.cx.p.now c.args.k)))
-    (omega (arith, heavy (expression c.args.cx.p.now c.args.k)))
-    (omega arith)
+pub conditions::condition-returns-in_ok-on-in_default-kind :
+    goal.conditions::condition-returns-in_ok-on-in_default-kind
+conditions::condition-returns-in_ok-on-in_default-kind t c =
+    record {
+      lowered = tail_grew _ _ c.branch-out.result c.in_ok-on-in_default-kind.ensures.lowered c.branch-out.ensures.grown
+          c.branch-out.ensures.adds (omega arith);
+      spends = last_and _ _ _ _ c.branch-out.result c.in_ok-on-in_default-kind.ensures.spends
+          c.branch-out.ensures.spent
+          (omega (arith, heavy (expression c.args.cx.p.now c.args.k)))
+          (omega (arith, heavy (expression c.args.cx.p.now c.args.k)))
+          (omega arith);
+      is = IfOk-weaker c.branch-out.result _ _
+          (λ r f. condition_branch _ c.requires.ordered c.requires.scene.ready.ordered
+          c.in_ok-on-in_default-kind.ensures.has c.in_ok-on-in_default-kind.ensures.is f) c.branch-out.ensures.emits;
+    }
 
 pub conditions::opposite_condition-condition-requires : goal.conditions::opposite_condition-condition-requires
 conditions::opposite_condition-condition-requires t c = (
@@ -242,27 +269,29 @@ conditions::opposite_condition-condition-requires t c = (
   ),
 )
 
-pub conditions::opposite_condition-returns-clause-lowered : goal.conditions::opposite_condition-returns-clause-lowered
-conditions::opposite_condition-returns-clause-lowered t c =
-    tail _ _ c.condition.result (start c.requires.scene) c.condition.ensures.lowered
-    (omega (arith, c.requires.node.weight))
-
-pub conditions::opposite_condition-returns-clause-spends : goal.conditions::opposite_condition-returns-clause-spends
-conditions::opposite_condition-returns-clause-spends t c =
-    last _ _ _ _ c.condition.result nothing c.condition.ensures.spends
-    (omega (
-      arith,
-      c.requires.node.weight,
-      heavy (expression c.args.cx.p.now c.args.k),
-      heavy (expression c.args.cx.p.now c.args.a),
-    ))
-    (omega (
-      arith,
-      c.requires.node.weight,
-      heavy (expression c.args.cx.p.now c.args.k),
-      heavy (expression c.args.cx.p.now c.args.a),
-    ))
-    (omega (arith, c.requires.node.copies))
+pub conditions::opposite_condition-returns : goal.conditions::opposite_condition-returns
+conditions::opposite_condition-returns t c =
+    record {
+      lowered = tail _ _ c.condition.result (start c.requires.scene) c.condition.ensures.lowered
+          (omega (arith, c.requires.node.weight));
+      spends = last _ _ _ _ c.condition.result nothing c.condition.ensures.spends
+          (omega (
+            arith,
+            c.requires.node.weight,
+            heavy (expression c.args.cx.p.now c.args.k),
+            heavy (expression c.args.cx.p.now c.args.a),
+          ))
+          (omega (
+            arith,
+            c.requires.node.weight,
+            heavy (expression c.args.cx.p.now c.args.k),
+            heavy (expression c.args.cx.p.now c.args.a),
+          ))
+          (omega (arith, c.requires.node.copies));
+      is = IfOk-weaker c.condition.result _ _
+          (λ r h s v n. condition_opposite _ c.requires.ordered c.requires.scene.ready.ordered s v n h)
+          c.condition.ensures.is;
+    }
 
 pub conditions::joined_condition-condition-requires : goal.conditions::joined_condition-condition-requires
 conditions::joined_condition-condition-requires t c = (
@@ -297,29 +326,34 @@ conditions::joined_condition-condition-requires-2 t c = (
   ),
 )
 
-pub conditions::joined_condition-returns-clause-lowered : goal.conditions::joined_condition-returns-clause-lowered
-conditions::joined_condition-returns-clause-lowered t c =
-    tail _ _ c.condition-2.result c.in_ok-condition.ensures.lowered c.condition-2.ensures.lowered
-    (omega (arith, c.requires.node.weight))
-
-pub conditions::joined_condition-returns-clause-spends : goal.conditions::joined_condition-returns-clause-spends
-conditions::joined_condition-returns-clause-spends t c =
-    last _ _ _ _ c.condition-2.result c.in_ok-condition.ensures.spends c.condition-2.ensures.spends
-    (omega (
-      arith,
-      c.requires.node.weight,
-      heavy (expression c.args.cx.p.now c.args.k),
-      heavy (expression c.args.cx.p.now c.args.j.a),
-      heavy (expression c.args.cx.p.now c.args.j.b),
-    ))
-    (omega (
-      arith,
-      c.requires.node.weight,
-      heavy (expression c.args.cx.p.now c.args.k),
-      heavy (expression c.args.cx.p.now c.args.j.a),
-      heavy (expression c.args.cx.p.now c.args.j.b),
-    ))
-    (omega (arith, c.requires.node.copies))
+pub conditions::joined_condition-returns : goal.conditions::joined_condition-returns
+conditions::joined_condition-returns t c =
+    record {
+      lowered = tail _ _ c.condition-2.result c.in_ok-condition.ensures.lowered c.condition-2.ensures.lowered
+          (omega (arith, c.requires.node.weight));
+      spends = last _ _ _ _ c.condition-2.result c.in_ok-condition.ensures.spends c.condition-2.ensures.spends
+          (omega (
+            arith,
+            c.requires.node.weight,
+            heavy (expression c.args.cx.p.now c.args.k),
+            heavy (expression c.args.cx.p.now c.args.j.a),
+            heavy (expression c.args.cx.p.now c.args.j.b),
+          ))
+          (omega (
+            arith,
+            c.requires.node.weight,
+            heavy (expression c.args.cx.p.now c.args.k),
+            heavy (expression c.args.cx.p.now c.args.j.a),
+            heavy (expression c.args.cx.p.now c.args.j.b),
+          ))
+          (omega (arith, c.requires.node.copies));
+      is = (let e = opposite_of c.args.j.both c.args.jump.when c.if-j-jump.false in
+          IfOk-weaker c.condition-2.result _ _
+          (λ r h s a b n. condition_through _ c.requires.ordered c.requires.scene.ready.ordered _ _ _ a b
+          c.args.jump.when s
+          (subst (λ z. IsNode c.args.cx.p.now c.args.k (joined z c.args.j.a c.args.j.b)) e n)
+          c.in_ok-condition.ensures.is h) c.condition-2.ensures.is);
+    }
 
 pub conditions::joined_around-label-requires : goal.conditions::joined_around-label-requires
 conditions::joined_around-label-requires t c =
@@ -364,32 +398,38 @@ conditions::joined_around-condition-requires-2 t c = (
   ),
 )
 
-pub conditions::joined_around-returns-clause-lowered : goal.conditions::joined_around-returns-clause-lowered
-conditions::joined_around-returns-clause-lowered t c =
-    tail_stands _ c.stand.result (opened (opened
-    (label c.requires.scene c.label.ensures.labelled) c.in_ok-condition.ensures.lowered)
-    c.in_ok-condition-2.ensures.lowered) c.stand.ensures.stands (omega (arith, c.requires.node.weight))
-
-pub conditions::joined_around-returns-clause-spends : goal.conditions::joined_around-returns-clause-spends
-conditions::joined_around-returns-clause-spends t c =
-    last_pushed _ _ c.stand.result (after (after
-    (plainly (labelled_spent c.label.ensures.labelled)) c.in_ok-condition.ensures.spends)
-    c.in_ok-condition-2.ensures.spends) c.stand.ensures.stands
-    (omega (
-      arith,
-      c.requires.node.weight,
-      heavy (expression c.args.cx.p.now c.args.k),
-      heavy (expression c.args.cx.p.now c.args.j.a),
-      heavy (expression c.args.cx.p.now c.args.j.b),
-    ))
-    (omega (
-      arith,
-      c.requires.node.weight,
-      heavy (expression c.args.cx.p.now c.args.k),
-      heavy (expression c.args.cx.p.now c.args.j.a),
-      heavy (expression c.args.cx.p.now c.args.j.b),
-    ))
-    (omega (arith, c.requires.node.copies)) refl refl
+pub conditions::joined_around-returns : goal.conditions::joined_around-returns
+conditions::joined_around-returns t c =
+    record {
+      lowered = tail_stands _ c.stand.result (opened (opened
+          (label c.requires.scene c.label.ensures.labelled) c.in_ok-condition.ensures.lowered)
+          c.in_ok-condition-2.ensures.lowered) c.stand.ensures.stands (omega (arith, c.requires.node.weight));
+      spends = last_pushed _ _ c.stand.result (after (after
+          (plainly (labelled_spent c.label.ensures.labelled)) c.in_ok-condition.ensures.spends)
+          c.in_ok-condition-2.ensures.spends) c.stand.ensures.stands
+          (omega (
+            arith,
+            c.requires.node.weight,
+            heavy (expression c.args.cx.p.now c.args.k),
+            heavy (expression c.args.cx.p.now c.args.j.a),
+            heavy (expression c.args.cx.p.now c.args.j.b),
+          ))
+          (omega (
+            arith,
+            c.requires.node.weight,
+            heavy (expression c.args.cx.p.now c.args.k),
+            heavy (expression c.args.cx.p.now c.args.j.a),
+            heavy (expression c.args.cx.p.now c.args.j.b),
+          ))
+          (omega (arith, c.requires.node.copies)) refl refl;
+      is = IfOk-weaker c.stand.result _ _
+          (λ r f s a b n. condition_around _ c.requires.ordered c.requires.scene.ready.ordered _ _ _ a b
+          c.args.jump.when s
+          (subst (λ z. IsNode c.args.cx.p.now c.args.k (joined z c.args.j.a c.args.j.b)) c.requires.around n)
+          c.label.ensures.labelled c.in_ok-condition.ensures.is c.in_ok-condition-2.ensures.is (one_emits _ _ _ refl
+          f))
+          c.stand.ensures.stands;
+    }
 
 pub places::pointer-operand-requires : goal.places::pointer-operand-requires
 places::pointer-operand-requires t c =
@@ -413,43 +453,44 @@ places::pointer-operand-requires t c =
       ),
     )
 
-pub places::pointer-returns-in-Deref-clause-has : goal.places::pointer-returns-in-Deref-clause-has
-places::pointer-returns-in-Deref-clause-has t c =
-    IfOk-weaker c.operand.result _ _ (λ t h. as_kind h
-    (scalar_kind (node_at c.args.cx.d.now c.requires.scene.ready c.requires.typed c.in-Some.ensures
-    c.in-Deref.is).operand)) c.operand.ensures.has
-
-pub places::pointer-returns-in-Deref-clause-lowered : goal.places::pointer-returns-in-Deref-clause-lowered
-places::pointer-returns-in-Deref-clause-lowered t c =
-    tail _ _ c.operand.result (start c.requires.scene) c.operand.ensures.lowered
-    (omega (
-      arith,
-      (node_at c.args.cx.d.now c.requires.scene.ready c.requires.typed c.in-Some.ensures
-          c.in-Deref.is).operands.weight,
-    ))
-
-pub places::pointer-returns-in-Deref-clause-spends : goal.places::pointer-returns-in-Deref-clause-spends
-places::pointer-returns-in-Deref-clause-spends t c =
-    last _ _ _ _ c.operand.result nothing c.operand.ensures.spends
-    (omega (
-      arith,
-      (node_at c.args.cx.d.now c.requires.scene.ready c.requires.typed c.in-Some.ensures
-          c.in-Deref.is).operands.weight,
-      heavy (expression c.args.cx.p.now c.args.k),
-      heavy (expression c.args.cx.p.now c.in-Deref.a),
-    ))
-    (omega (
-      arith,
-      (node_at c.args.cx.d.now c.requires.scene.ready c.requires.typed c.in-Some.ensures
-          c.in-Deref.is).operands.weight,
-      heavy (expression c.args.cx.p.now c.args.k),
-      heavy (expression c.args.cx.p.now c.in-Deref.a),
-    ))
-    (omega (
-      arith,
-      (node_at c.args.cx.d.now c.requires.scene.ready c.requires.typed c.in-Some.ensures
-          c.in-Deref.is).operands.copies,
-    ))
+pub places::pointer-returns-in-Deref : goal.places::pointer-returns-in-Deref
+places::pointer-returns-in-Deref t c =
+    record {
+      has = IfOk-weaker c.operand.result _ _ (λ t h. as_kind h
+          (scalar_kind (node_at c.args.cx.d.now c.requires.scene.ready c.requires.typed c.in-Some.ensures
+          c.in-Deref.is).operand)) c.operand.ensures.has;
+      lowered = tail _ _ c.operand.result (start c.requires.scene) c.operand.ensures.lowered
+          (omega (
+            arith,
+            (node_at c.args.cx.d.now c.requires.scene.ready c.requires.typed c.in-Some.ensures
+                c.in-Deref.is).operands.weight,
+          ));
+      spends = last _ _ _ _ c.operand.result nothing c.operand.ensures.spends
+          (omega (
+            arith,
+            (node_at c.args.cx.d.now c.requires.scene.ready c.requires.typed c.in-Some.ensures
+                c.in-Deref.is).operands.weight,
+            heavy (expression c.args.cx.p.now c.args.k),
+            heavy (expression c.args.cx.p.now c.in-Deref.a),
+          ))
+          (omega (
+            arith,
+            (node_at c.args.cx.d.now c.requires.scene.ready c.requires.typed c.in-Some.ensures
+                c.in-Deref.is).operands.weight,
+            heavy (expression c.args.cx.p.now c.args.k),
+            heavy (expression c.args.cx.p.now c.in-Deref.a),
+          ))
+          (omega (
+            arith,
+            (node_at c.args.cx.d.now c.requires.scene.ready c.requires.typed c.in-Some.ensures
+                c.in-Deref.is).operands.copies,
+          ));
+      is = IfOk-weaker c.operand.result _ _
+          (λ v h. pointer_held _ c.requires.ordered c.requires.scene.ready.ordered c.args.cx.d.now c.args.later
+          (record { node = _; there = c.in-Some.ensures; is = c.in-Deref.is })
+          (node_at c.args.cx.d.now c.requires.scene.ready c.requires.typed c.in-Some.ensures c.in-Deref.is) h)
+          c.operand.ensures.is;
+    }
 
 pub places::pointer-pointer-requires : goal.places::pointer-pointer-requires
 places::pointer-pointer-requires t c =
@@ -473,53 +514,58 @@ places::pointer-pointer-requires t c =
       ),
     )
 
-pub places::pointer-returns-in-Load-clause-lowered : goal.places::pointer-returns-in-Load-clause-lowered
-places::pointer-returns-in-Load-clause-lowered t c =
-    tail _ _ c.pointer.result (start c.requires.scene) c.pointer.ensures.lowered
-    (omega (
-      arith,
-      (node_at c.args.cx.d.now c.requires.scene.ready c.requires.typed c.in-Some.ensures
-          c.in-Load.is).operands.weight,
-    ))
+pub places::pointer-returns-in-Load : goal.places::pointer-returns-in-Load
+places::pointer-returns-in-Load t c =
+    record {
+      has = search rules;
+      lowered = tail _ _ c.pointer.result (start c.requires.scene) c.pointer.ensures.lowered
+          (omega (
+            arith,
+            (node_at c.args.cx.d.now c.requires.scene.ready c.requires.typed c.in-Some.ensures
+                c.in-Load.is).operands.weight,
+          ));
+      spends = last _ _ _ _ c.pointer.result nothing c.pointer.ensures.spends
+          (omega (
+            arith,
+            (node_at c.args.cx.d.now c.requires.scene.ready c.requires.typed c.in-Some.ensures
+                c.in-Load.is).operands.weight,
+            heavy (expression c.args.cx.p.now c.args.k),
+            heavy (expression c.args.cx.p.now c.in-Load.a),
+          ))
+          (omega (
+            arith,
+            (node_at c.args.cx.d.now c.requires.scene.ready c.requires.typed c.in-Some.ensures
+                c.in-Load.is).operands.weight,
+            heavy (expression c.args.cx.p.now c.args.k),
+            heavy (expression c.args.cx.p.now c.in-Load.a),
+          ))
+          (omega (
+            arith,
+            (node_at c.args.cx.d.now c.requires.scene.ready c.requires.typed c.in-Some.ensures
+                c.in-Load.is).operands.copies,
+          ));
+      is = (let n = node_at c.args.cx.d.now c.requires.scene.ready c.requires.typed c.in-Some.ensures c.in-Load.is in
+          IfOk-weaker c.pointer.result _ _
+          (λ v h. pointer_read _ c.requires.ordered c.requires.scene.ready.ordered _ c.args.later
+          (below_load c.args.cx.p.now c.args.k _ c.in-Load.a c.requires.ordered c.in-Some.ensures c.in-Load.is)
+          n.operands.operand
+          (loads (frame_of c.args.cx.p.now c.args.cx.d.now) c.requires.scene.ready.ordered c.args.k _ c.in-Some.ensures
+          c.requires.typed c.in-Load.a c.in-Load.is)
+          (record { node = _; there = c.in-Some.ensures; is = c.in-Load.is }) h) c.pointer.ensures.is);
+    }
 
-pub places::pointer-returns-in-Load-clause-spends : goal.places::pointer-returns-in-Load-clause-spends
-places::pointer-returns-in-Load-clause-spends t c =
-    last _ _ _ _ c.pointer.result nothing c.pointer.ensures.spends
-    (omega (
-      arith,
-      (node_at c.args.cx.d.now c.requires.scene.ready c.requires.typed c.in-Some.ensures
-          c.in-Load.is).operands.weight,
-      heavy (expression c.args.cx.p.now c.args.k),
-      heavy (expression c.args.cx.p.now c.in-Load.a),
-    ))
-    (omega (
-      arith,
-      (node_at c.args.cx.d.now c.requires.scene.ready c.requires.typed c.in-Some.ensures
-          c.in-Load.is).operands.weight,
-      heavy (expression c.args.cx.p.now c.args.k),
-      heavy (expression c.args.cx.p.now c.in-Load.a),
-    ))
-    (omega (
-      arith,
-      (node_at c.args.cx.d.now c.requires.scene.ready c.requires.typed c.in-Some.ensures
-          c.in-Load.is).operands.copies,
-    ))
-
-pub places::pointer-returns-in-Some-pointer_to_variable-clause-has :
-    goal.places::pointer-returns-in-Some-pointer_to_variable-clause-has
-places::pointer-returns-in-Some-pointer_to_variable-clause-has t c =
-    c.in-Some-pointer_to_variable.ensures.has _ _ c.requires.scene.housed
-
-pub places::pointer-returns-in-Some-pointer_to_variable-clause-lowered :
-    goal.places::pointer-returns-in-Some-pointer_to_variable-clause-lowered
-places::pointer-returns-in-Some-pointer_to_variable-clause-lowered t c = at_most (start c.requires.scene) (omega arith)
-
-pub places::pointer-returns-in-Some-pointer_to_variable-clause-spends :
-    goal.places::pointer-returns-in-Some-pointer_to_variable-clause-spends
-places::pointer-returns-in-Some-pointer_to_variable-clause-spends t c =
-    within nothing (omega (arith, heavy (expression c.args.cx.p.now c.args.k)))
-    (omega (arith, heavy (expression c.args.cx.p.now c.args.k)))
-    (omega arith)
+pub places::pointer-returns-in-Some-pointer_to_variable : goal.places::pointer-returns-in-Some-pointer_to_variable
+places::pointer-returns-in-Some-pointer_to_variable t c =
+    record {
+      has = c.in-Some-pointer_to_variable.ensures.has _ _ c.requires.scene.housed;
+      lowered = at_most (start c.requires.scene) (omega arith);
+      spends = within nothing (omega (arith, heavy (expression c.args.cx.p.now c.args.k)))
+          (omega (arith, heavy (expression c.args.cx.p.now c.args.k)))
+          (omega arith);
+      is = pointer_object _ c.requires.ordered c.requires.scene.ready.ordered c.args.later _
+          (record { node = _; there = c.in-Some.ensures; is = c.in-Var.is })
+          c.in-Some-pointer_to_variable.ensures.stands.1;
+    }
 
 pub places::fresh_place-temp-requires : goal.places::fresh_place-temp-requires
 places::fresh_place-temp-requires t c =
@@ -544,89 +590,109 @@ places::fresh_place-place-requires t c = (
   ),
 )
 
-pub places::fresh_place-returns-clause-has : goal.places::fresh_place-returns-clause-has
-places::fresh_place-returns-clause-has t c = still c.in_ok-t.ensures.has c.in_ok-place.ensures.lowered
+pub places::fresh_place-returns : goal.places::fresh_place-returns
+places::fresh_place-returns t c =
+    record {
+      has = still c.in_ok-t.ensures.has c.in_ok-place.ensures.lowered;
+      lowered = at_most (both (grew (start c.requires.scene) c.in_ok-t.ensures.grown c.in_ok-t.ensures.adds)
+          c.in_ok-place.ensures.lowered) (omega (arith, heavy (expression c.args.cx.p.now c.args.k)));
+      spends = within (after (and nothing c.in_ok-t.ensures.spent) c.in_ok-place.ensures.spends)
+          (omega (arith, heavy (expression c.args.cx.p.now c.args.k), heavy (expression c.args.cx.p.now c.args.k)))
+          (omega (arith, heavy (expression c.args.cx.p.now c.args.k), heavy (expression c.args.cx.p.now c.args.k)))
+          (omega arith);
+      is = (λ later.
+          pointer_made _ c.requires.ordered c.requires.scene.ready.ordered later c.in_ok-t.ensures.next
+          c.in_ok-t.ensures.emits c.in_ok-place.ensures.is);
+    }
 
-pub places::fresh_place-returns-clause-lowered : goal.places::fresh_place-returns-clause-lowered
-places::fresh_place-returns-clause-lowered t c =
-    at_most (both (grew (start c.requires.scene) c.in_ok-t.ensures.grown c.in_ok-t.ensures.adds)
-    c.in_ok-place.ensures.lowered) (omega (arith, heavy (expression c.args.cx.p.now c.args.k)))
+pub places::place-returns-in_default : goal.places::place-returns-in_default
+places::place-returns-in_default t c =
+    record {
+      lowered = tail_grew _ _ c.constant.result (start c.requires.scene) c.constant.ensures.grown
+          c.constant.ensures.adds
+          (omega arith);
+      spends = last_and _ _ _ _ c.constant.result nothing (c.constant.ensures.short refl)
+          (omega (arith, heavy (expression c.args.cx.p.now c.args.k)))
+          (omega (arith, heavy (expression c.args.cx.p.now c.args.k)))
+          (omega arith);
+      is = IfOk-weaker c.constant.result _ _
+          (λ r f. no_place _ c.requires.ordered c.requires.scene.ready.ordered
+          (none_place (setting c.args.cx) c.requires.ordered c.requires.scene.ready.ordered c.args.k
+          c.in_default.ensures) f)
+          c.constant.ensures.emits;
+    }
 
-pub places::fresh_place-returns-clause-spends : goal.places::fresh_place-returns-clause-spends
-places::fresh_place-returns-clause-spends t c =
-    within (after (and nothing c.in_ok-t.ensures.spent) c.in_ok-place.ensures.spends)
-    (omega (arith, heavy (expression c.args.cx.p.now c.args.k), heavy (expression c.args.cx.p.now c.args.k)))
-    (omega (arith, heavy (expression c.args.cx.p.now c.args.k), heavy (expression c.args.cx.p.now c.args.k)))
-    (omega arith)
+pub places::place-returns-in-Var : goal.places::place-returns-in-Var
+places::place-returns-in-Var t c =
+    record {
+      lowered = tail _ _ c.variable_pointer.result (start c.requires.scene) c.variable_pointer.ensures.lowered (omega
+          arith);
+      spends = last_and _ _ _ _ c.variable_pointer.result nothing c.variable_pointer.ensures.spent
+          (omega (arith, heavy (expression c.args.cx.p.now c.args.k)))
+          (omega (arith, heavy (expression c.args.cx.p.now c.args.k)))
+          (omega arith);
+      is = IfOk-weaker c.variable_pointer.result _ _
+          (λ r h. h _ (record { node = _; there = c.in-Some.ensures; is = c.in-Var.is })
+          (node_at c.args.cx.d.now c.requires.scene.ready c.requires.typed c.in-Some.ensures c.in-Var.is))
+          c.variable_pointer.ensures.is;
+    }
 
-pub places::place-returns-in_default-clause-lowered : goal.places::place-returns-in_default-clause-lowered
-places::place-returns-in_default-clause-lowered t c =
-    tail_grew _ _ c.constant.result (start c.requires.scene) c.constant.ensures.grown c.constant.ensures.adds
-    (omega arith)
+pub places::place-returns-in-Global : goal.places::place-returns-in-Global
+places::place-returns-in-Global t c =
+    record {
+      lowered = tail_part _ c.global.result (instr.Global c.args.to c.in-Global.g false) (start c.requires.scene) (
+        c.requires.to,
+        (node_at c.args.cx.d.now c.requires.scene.ready c.requires.typed c.in-Some.ensures
+            c.in-Global.is).there,
+      ) c.global.ensures.pushed (omega arith);
+      spends = last_pushed _ (instr.Global c.args.to c.in-Global.g false) c.global.result nothing
+          c.global.ensures.pushed
+          (omega (arith, heavy (expression c.args.cx.p.now c.args.k), extra_small c.args.cx.fixed (Some c.args.to)))
+          (omega (arith, heavy (expression c.args.cx.p.now c.args.k), extra_small c.args.cx.fixed (Some c.args.to)))
+          (omega arith) refl refl;
+      is = IfOk-weaker c.global.result _ _
+          (λ r h. place_named _ c.requires.ordered c.requires.scene.ready.ordered
+          (record { node = _; there = c.in-Some.ensures; is = c.in-Global.is })
+          (λ g kinds m. place_global) (one_emits _ _ _ refl h)) c.global.ensures.pushed;
+    }
 
-pub places::place-returns-in_default-clause-spends : goal.places::place-returns-in_default-clause-spends
-places::place-returns-in_default-clause-spends t c =
-    last_and _ _ _ _ c.constant.result nothing (c.constant.ensures.short refl)
-    (omega (arith, heavy (expression c.args.cx.p.now c.args.k)))
-    (omega (arith, heavy (expression c.args.cx.p.now c.args.k)))
-    (omega arith)
+pub places::place-returns-in-Literal : goal.places::place-returns-in-Literal
+places::place-returns-in-Literal t c =
+    record {
+      lowered = tail_part _ c.global-in-Literal.result (instr.Global c.args.to c.in-Literal.n true) (start
+          c.requires.scene) (
+            c.requires.to,
+            (node_at c.args.cx.d.now c.requires.scene.ready c.requires.typed c.in-Some.ensures
+                c.in-Literal.is).there,
+          ) c.global-in-Literal.ensures.pushed (omega arith);
+      spends = last_pushed _ (instr.Global c.args.to c.in-Literal.n true) c.global-in-Literal.result nothing
+          c.global-in-Literal.ensures.pushed (omega
+          (arith, heavy (expression c.args.cx.p.now c.args.k), extra_small c.args.cx.fixed (Some c.args.to)))
+          (omega (arith, heavy (expression c.args.cx.p.now c.args.k), extra_small c.args.cx.fixed (Some c.args.to)))
+          (omega arith) refl refl;
+      is = IfOk-weaker c.global-in-Literal.result _ _
+          (λ r h. place_named _ c.requires.ordered c.requires.scene.ready.ordered
+          (record { node = _; there = c.in-Some.ensures; is = c.in-Literal.is })
+          (λ g kinds m. place_literal) (one_emits _ _ _ refl h)) c.global-in-Literal.ensures.pushed;
+    }
 
-pub places::place-returns-in-Var-clause-lowered : goal.places::place-returns-in-Var-clause-lowered
-places::place-returns-in-Var-clause-lowered t c =
-    tail _ _ c.variable_pointer.result (start c.requires.scene) c.variable_pointer.ensures.lowered (omega arith)
-
-pub places::place-returns-in-Var-clause-spends : goal.places::place-returns-in-Var-clause-spends
-places::place-returns-in-Var-clause-spends t c =
-    last_and _ _ _ _ c.variable_pointer.result nothing c.variable_pointer.ensures.spent
-    (omega (arith, heavy (expression c.args.cx.p.now c.args.k)))
-    (omega (arith, heavy (expression c.args.cx.p.now c.args.k)))
-    (omega arith)
-
-pub places::place-returns-in-Global-clause-lowered : goal.places::place-returns-in-Global-clause-lowered
-places::place-returns-in-Global-clause-lowered t c =
-    tail_part _ c.global.result (instr.Global c.args.to c.in-Global.g false) (start c.requires.scene) (
-      c.requires.to,
-      (node_at c.args.cx.d.now c.requires.scene.ready c.requires.typed c.in-Some.ensures
-          c.in-Global.is).there,
-    ) c.global.ensures.pushed (omega arith)
-
-pub places::place-returns-in-Global-clause-spends : goal.places::place-returns-in-Global-clause-spends
-places::place-returns-in-Global-clause-spends t c =
-    last_pushed _ (instr.Global c.args.to c.in-Global.g false) c.global.result nothing c.global.ensures.pushed
-    (omega (arith, heavy (expression c.args.cx.p.now c.args.k), extra_small c.args.cx.fixed (Some c.args.to)))
-    (omega (arith, heavy (expression c.args.cx.p.now c.args.k), extra_small c.args.cx.fixed (Some c.args.to)))
-    (omega arith) refl refl
-
-pub places::place-returns-in-Literal-clause-lowered : goal.places::place-returns-in-Literal-clause-lowered
-places::place-returns-in-Literal-clause-lowered t c =
-    tail_part _ c.global-in-Literal.result (instr.Global c.args.to c.in-Literal.n true) (start c.requires.scene) (
-      c.requires.to,
-      (node_at c.args.cx.d.now c.requires.scene.ready c.requires.typed c.in-Some.ensures
-          c.in-Literal.is).there,
-    ) c.global-in-Literal.ensures.pushed (omega arith)
-
-pub places::place-returns-in-Literal-clause-spends : goal.places::place-returns-in-Literal-clause-spends
-places::place-returns-in-Literal-clause-spends t c =
-    last_pushed _ (instr.Global c.args.to c.in-Literal.n true) c.global-in-Literal.result nothing
-    c.global-in-Literal.ensures.pushed (omega
-    (arith, heavy (expression c.args.cx.p.now c.args.k), extra_small c.args.cx.fixed (Some c.args.to)))
-    (omega (arith, heavy (expression c.args.cx.p.now c.args.k), extra_small c.args.cx.fixed (Some c.args.to)))
-    (omega arith) refl refl
-
-pub places::place-returns-in-Fun-clause-lowered : goal.places::place-returns-in-Fun-clause-lowered
-places::place-returns-in-Fun-clause-lowered t c =
-    tail_part _ c.function.result (instr.Function c.args.to c.in-Fun.f) (start c.requires.scene) (
-      c.requires.to,
-      slice_get_within _ _ _ (node_at c.args.cx.d.now c.requires.scene.ready c.requires.typed
-          c.in-Some.ensures c.in-Fun.is).there,
-    ) c.function.ensures.pushed (omega arith)
-
-pub places::place-returns-in-Fun-clause-spends : goal.places::place-returns-in-Fun-clause-spends
-places::place-returns-in-Fun-clause-spends t c =
-    last_pushed _ (instr.Function c.args.to c.in-Fun.f) c.function.result nothing c.function.ensures.pushed
-    (omega (arith, heavy (expression c.args.cx.p.now c.args.k), extra_small c.args.cx.fixed (Some c.args.to)))
-    (omega (arith, heavy (expression c.args.cx.p.now c.args.k), extra_small c.args.cx.fixed (Some c.args.to)))
-    (omega arith) refl refl
+pub places::place-returns-in-Fun : goal.places::place-returns-in-Fun
+places::place-returns-in-Fun t c =
+    record {
+      lowered = tail_part _ c.function.result (instr.Function c.args.to c.in-Fun.f) (start c.requires.scene) (
+        c.requires.to,
+        slice_get_within _ _ _ (node_at c.args.cx.d.now c.requires.scene.ready c.requires.typed
+            c.in-Some.ensures c.in-Fun.is).there,
+      ) c.function.ensures.pushed (omega arith);
+      spends = last_pushed _ (instr.Function c.args.to c.in-Fun.f) c.function.result nothing c.function.ensures.pushed
+          (omega (arith, heavy (expression c.args.cx.p.now c.args.k), extra_small c.args.cx.fixed (Some c.args.to)))
+          (omega (arith, heavy (expression c.args.cx.p.now c.args.k), extra_small c.args.cx.fixed (Some c.args.to)))
+          (omega arith) refl refl;
+      is = IfOk-weaker c.function.result _ _
+          (λ r h. place_named _ c.requires.ordered c.requires.scene.ready.ordered
+          (record { node = _; there = c.in-Some.ensures; is = c.in-Fun.is })
+          (λ g kinds m. place_function) (one_emits _ _ _ refl h)) c.function.ensures.pushed;
+    }
 
 pub places::place-value-requires : goal.places::place-value-requires
 places::place-value-requires t c =
@@ -655,39 +721,43 @@ places::place-value-requires t c =
       ),
     )
 
-pub places::place-returns-in-Deref-clause-lowered : goal.places::place-returns-in-Deref-clause-lowered
-places::place-returns-in-Deref-clause-lowered t c =
-    tail _ _ c.value.result (start c.requires.scene) c.value.ensures.lowered
-    (omega (
-      arith,
-      (node_at c.args.cx.d.now c.requires.scene.ready c.requires.typed c.in-Some.ensures
-          c.in-Deref.is).operands.weight,
-    ))
-
-pub places::place-returns-in-Deref-clause-spends : goal.places::place-returns-in-Deref-clause-spends
-places::place-returns-in-Deref-clause-spends t c =
-    last _ _ _ _ c.value.result nothing c.value.ensures.spends
-    (omega (
-      arith,
-      (node_at c.args.cx.d.now c.requires.scene.ready c.requires.typed c.in-Some.ensures
-          c.in-Deref.is).operands.weight,
-      heavy (expression c.args.cx.p.now c.args.k),
-      heavy (expression c.args.cx.p.now c.in-Deref.a),
-      extra_small c.args.cx.fixed (Some c.args.to),
-    ))
-    (omega (
-      arith,
-      (node_at c.args.cx.d.now c.requires.scene.ready c.requires.typed c.in-Some.ensures
-          c.in-Deref.is).operands.weight,
-      heavy (expression c.args.cx.p.now c.args.k),
-      heavy (expression c.args.cx.p.now c.in-Deref.a),
-      extra_small c.args.cx.fixed (Some c.args.to),
-    ))
-    (omega (
-      arith,
-      (node_at c.args.cx.d.now c.requires.scene.ready c.requires.typed c.in-Some.ensures
-          c.in-Deref.is).operands.copies,
-    ))
+pub places::place-returns-in-Deref : goal.places::place-returns-in-Deref
+places::place-returns-in-Deref t c =
+    record {
+      lowered = tail _ _ c.value.result (start c.requires.scene) c.value.ensures.lowered
+          (omega (
+            arith,
+            (node_at c.args.cx.d.now c.requires.scene.ready c.requires.typed c.in-Some.ensures
+                c.in-Deref.is).operands.weight,
+          ));
+      spends = last _ _ _ _ c.value.result nothing c.value.ensures.spends
+          (omega (
+            arith,
+            (node_at c.args.cx.d.now c.requires.scene.ready c.requires.typed c.in-Some.ensures
+                c.in-Deref.is).operands.weight,
+            heavy (expression c.args.cx.p.now c.args.k),
+            heavy (expression c.args.cx.p.now c.in-Deref.a),
+            extra_small c.args.cx.fixed (Some c.args.to),
+          ))
+          (omega (
+            arith,
+            (node_at c.args.cx.d.now c.requires.scene.ready c.requires.typed c.in-Some.ensures
+                c.in-Deref.is).operands.weight,
+            heavy (expression c.args.cx.p.now c.args.k),
+            heavy (expression c.args.cx.p.now c.in-Deref.a),
+            extra_small c.args.cx.fixed (Some c.args.to),
+          ))
+          (omega (
+            arith,
+            (node_at c.args.cx.d.now c.requires.scene.ready c.requires.typed c.in-Some.ensures
+                c.in-Deref.is).operands.copies,
+          ));
+      is = IfOk-weaker c.value.result _ _
+          (λ r h. place_pointed _ c.requires.ordered c.requires.scene.ready.ordered c.args.cx.d.now
+          (record { node = _; there = c.in-Some.ensures; is = c.in-Deref.is })
+          (node_at c.args.cx.d.now c.requires.scene.ready c.requires.typed c.in-Some.ensures c.in-Deref.is) h)
+          c.value.ensures.is;
+    }
 
 pub places::place-member-requires : goal.places::place-member-requires
 places::place-member-requires t c =
@@ -735,39 +805,46 @@ places::place-place-requires t c =
       ),
     )
 
-pub places::place-returns-in-Load-clause-lowered : goal.places::place-returns-in-Load-clause-lowered
-places::place-returns-in-Load-clause-lowered t c =
-    tail _ _ c.place.result (start c.requires.scene) c.place.ensures.lowered
-    (omega (
-      arith,
-      (node_at c.args.cx.d.now c.requires.scene.ready c.requires.typed c.in-Some.ensures
-          c.in-Load.is).operands.weight,
-    ))
-
-pub places::place-returns-in-Load-clause-spends : goal.places::place-returns-in-Load-clause-spends
-places::place-returns-in-Load-clause-spends t c =
-    last _ _ _ _ c.place.result nothing c.place.ensures.spends
-    (omega (
-      arith,
-      (node_at c.args.cx.d.now c.requires.scene.ready c.requires.typed c.in-Some.ensures
-          c.in-Load.is).operands.weight,
-      heavy (expression c.args.cx.p.now c.args.k),
-      heavy (expression c.args.cx.p.now c.in-Load.a),
-      extra_small c.args.cx.fixed (Some c.args.to),
-    ))
-    (omega (
-      arith,
-      (node_at c.args.cx.d.now c.requires.scene.ready c.requires.typed c.in-Some.ensures
-          c.in-Load.is).operands.weight,
-      heavy (expression c.args.cx.p.now c.args.k),
-      heavy (expression c.args.cx.p.now c.in-Load.a),
-      extra_small c.args.cx.fixed (Some c.args.to),
-    ))
-    (omega (
-      arith,
-      (node_at c.args.cx.d.now c.requires.scene.ready c.requires.typed c.in-Some.ensures
-          c.in-Load.is).operands.copies,
-    ))
+pub places::place-returns-in-Load : goal.places::place-returns-in-Load
+places::place-returns-in-Load t c =
+    record {
+      lowered = tail _ _ c.place.result (start c.requires.scene) c.place.ensures.lowered
+          (omega (
+            arith,
+            (node_at c.args.cx.d.now c.requires.scene.ready c.requires.typed c.in-Some.ensures
+                c.in-Load.is).operands.weight,
+          ));
+      spends = last _ _ _ _ c.place.result nothing c.place.ensures.spends
+          (omega (
+            arith,
+            (node_at c.args.cx.d.now c.requires.scene.ready c.requires.typed c.in-Some.ensures
+                c.in-Load.is).operands.weight,
+            heavy (expression c.args.cx.p.now c.args.k),
+            heavy (expression c.args.cx.p.now c.in-Load.a),
+            extra_small c.args.cx.fixed (Some c.args.to),
+          ))
+          (omega (
+            arith,
+            (node_at c.args.cx.d.now c.requires.scene.ready c.requires.typed c.in-Some.ensures
+                c.in-Load.is).operands.weight,
+            heavy (expression c.args.cx.p.now c.args.k),
+            heavy (expression c.args.cx.p.now c.in-Load.a),
+            extra_small c.args.cx.fixed (Some c.args.to),
+          ))
+          (omega (
+            arith,
+            (node_at c.args.cx.d.now c.requires.scene.ready c.requires.typed c.in-Some.ensures
+                c.in-Load.is).operands.copies,
+          ));
+      is = (let n = node_at c.args.cx.d.now c.requires.scene.ready c.requires.typed c.in-Some.ensures c.in-Load.is in
+          IfOk-weaker c.place.result _ _
+          (λ v h. place_read _ c.requires.ordered c.requires.scene.ready.ordered _
+          (below_load c.args.cx.p.now c.args.k _ c.in-Load.a c.requires.ordered c.in-Some.ensures c.in-Load.is)
+          n.operands.operand
+          (loads (frame_of c.args.cx.p.now c.args.cx.d.now) c.requires.scene.ready.ordered c.args.k _ c.in-Some.ensures
+          c.requires.typed c.in-Load.a c.in-Load.is)
+          (record { node = _; there = c.in-Some.ensures; is = c.in-Load.is }) h) c.place.ensures.is);
+    }
 
 pub places::place-place_behind-requires : goal.places::place-place_behind-requires
 places::place-place_behind-requires t c =
@@ -860,42 +937,57 @@ places::place-transfer-requires t c =
       same = two_values (still c.requires.to c.in_ok-t-in-Assign.ensures.lowered) c.in_ok-t-in-Assign.ensures.has;
     }
 
-pub places::place-returns-in_ok-t-in-Assign-clause-lowered : goal.places::place-returns-in_ok-t-in-Assign-clause-lowered
-places::place-returns-in_ok-t-in-Assign-clause-lowered t c =
-    tail_grew _ _ c.transfer.result c.in_ok-t-in-Assign.ensures.lowered c.transfer.ensures.grown c.transfer.ensures.adds
-    (omega arith)
+pub places::place-returns-in_ok-t-in-Assign : goal.places::place-returns-in_ok-t-in-Assign
+places::place-returns-in_ok-t-in-Assign t c =
+    record {
+      lowered = tail_grew _ _ c.transfer.result c.in_ok-t-in-Assign.ensures.lowered c.transfer.ensures.grown
+          c.transfer.ensures.adds
+          (omega arith);
+      spends = last_and _ _ _ _ c.transfer.result c.in_ok-t-in-Assign.ensures.spends c.transfer.ensures.spent
+          (omega (
+            arith,
+            heavy (expression c.args.cx.p.now c.args.k),
+            heavy (expression c.args.cx.p.now c.in-Assign.a),
+            heavy (expression c.args.cx.p.now c.in-Assign.b),
+            extra_small c.args.cx.fixed (Some c.args.to),
+          ))
+          (omega (
+            arith,
+            heavy (expression c.args.cx.p.now c.args.k),
+            heavy (expression c.args.cx.p.now c.in-Assign.a),
+            heavy (expression c.args.cx.p.now c.in-Assign.b),
+            extra_small c.args.cx.fixed (Some c.args.to),
+          ))
+          (omega arith);
+      is = IfOk-weaker c.transfer.result _ _
+          (λ r f. place_stored _ c.requires.ordered c.requires.scene.ready.ordered
+          (c.in_ok-t-in-Assign.ensures.is (record { node = _; there = c.in-Some.ensures; is = c.in-Assign.is })) f)
+          c.transfer.ensures.emits;
+    }
 
-pub places::place-returns-in_ok-t-in-Assign-clause-spends : goal.places::place-returns-in_ok-t-in-Assign-clause-spends
-places::place-returns-in_ok-t-in-Assign-clause-spends t c =
-    last_and _ _ _ _ c.transfer.result c.in_ok-t-in-Assign.ensures.spends c.transfer.ensures.spent
-    (omega (
-      arith,
-      heavy (expression c.args.cx.p.now c.args.k),
-      heavy (expression c.args.cx.p.now c.in-Assign.a),
-      heavy (expression c.args.cx.p.now c.in-Assign.b),
-      extra_small c.args.cx.fixed (Some c.args.to),
-    ))
-    (omega (
-      arith,
-      heavy (expression c.args.cx.p.now c.args.k),
-      heavy (expression c.args.cx.p.now c.in-Assign.a),
-      heavy (expression c.args.cx.p.now c.in-Assign.b),
-      extra_small c.args.cx.fixed (Some c.args.to),
-    ))
-    (omega arith)
-
-pub places::place-returns-in_default-kind-clause-lowered : goal.places::place-returns-in_default-kind-clause-lowered
-places::place-returns-in_default-kind-clause-lowered t c =
-    tail_grew _ _ c.constant-in_default-kind.result
-    (start c.requires.scene) c.constant-in_default-kind.ensures.grown c.constant-in_default-kind.ensures.adds
-    (omega arith)
-
-pub places::place-returns-in_default-kind-clause-spends : goal.places::place-returns-in_default-kind-clause-spends
-places::place-returns-in_default-kind-clause-spends t c =
-    last_and _ _ _ _ c.constant-in_default-kind.result nothing (c.constant-in_default-kind.ensures.short refl)
-    (omega (arith, heavy (expression c.args.cx.p.now c.args.k)))
-    (omega (arith, heavy (expression c.args.cx.p.now c.args.k)))
-    (omega arith)
+pub places::place-returns-in_default-kind : goal.places::place-returns-in_default-kind
+places::place-returns-in_default-kind t c =
+    record {
+      lowered = tail_grew _ _ c.constant-in_default-kind.result
+          (start c.requires.scene) c.constant-in_default-kind.ensures.grown c.constant-in_default-kind.ensures.adds
+          (omega arith);
+      spends = last_and _ _ _ _ c.constant-in_default-kind.result nothing (c.constant-in_default-kind.ensures.short
+          refl)
+          (omega (arith, heavy (expression c.args.cx.p.now c.args.k)))
+          (omega (arith, heavy (expression c.args.cx.p.now c.args.k)))
+          (omega arith);
+      is = (let s = setting c.args.cx in
+          let r = c.requires.scene.ready.ordered in
+          let i = c.in_default-kind in
+          let other = another s c.requires.ordered r c.in-Some.e.now.kind i.not-Literal i.not-Var i.not-Global
+          i.not-Fun
+          i.not-Load i.not-Deref i.not-Member i.not-Conditional i.not-Comma i.not-Assign in
+          IfOk-weaker c.constant-in_default-kind.result _ _
+          (λ r f. no_place _ c.requires.ordered c.requires.scene.ready.ordered
+          (never_place s c.requires.ordered c.requires.scene.ready.ordered _ c.in-Some.e.now.kind
+          c.requires.typed (record { node = _; there = c.in-Some.ensures; is = refl }) other) f)
+          c.constant-in_default-kind.ensures.emits);
+    }
 
 pub places::place_behind-effect-requires : goal.places::place_behind-effect-requires
 places::place_behind-effect-requires t c = (
@@ -930,31 +1022,33 @@ places::place_behind-place-requires t c = (
   ),
 )
 
-pub places::place_behind-returns-clause-lowered : goal.places::place_behind-returns-clause-lowered
-places::place_behind-returns-clause-lowered t c =
-    tail _ _ c.place.result c.in_ok-effect.ensures.lowered c.place.ensures.lowered
-    (omega (arith, c.requires.node.weight))
-
-pub places::place_behind-returns-clause-spends : goal.places::place_behind-returns-clause-spends
-places::place_behind-returns-clause-spends t c =
-    last _ _ _ _ c.place.result c.in_ok-effect.ensures.spends c.place.ensures.spends
-    (omega (
-      arith,
-      c.requires.node.weight,
-      heavy (expression c.args.cx.p.now c.args.k),
-      heavy (expression c.args.cx.p.now c.args.a),
-      heavy (expression c.args.cx.p.now c.args.b),
-      extra_small c.args.cx.fixed (Some c.args.to),
-    ))
-    (omega (
-      arith,
-      c.requires.node.weight,
-      heavy (expression c.args.cx.p.now c.args.k),
-      heavy (expression c.args.cx.p.now c.args.a),
-      heavy (expression c.args.cx.p.now c.args.b),
-      extra_small c.args.cx.fixed (Some c.args.to),
-    ))
-    (omega (arith, c.requires.node.copies))
+pub places::place_behind-returns : goal.places::place_behind-returns
+places::place_behind-returns t c =
+    record {
+      lowered = tail _ _ c.place.result c.in_ok-effect.ensures.lowered c.place.ensures.lowered
+          (omega (arith, c.requires.node.weight));
+      spends = last _ _ _ _ c.place.result c.in_ok-effect.ensures.spends c.place.ensures.spends
+          (omega (
+            arith,
+            c.requires.node.weight,
+            heavy (expression c.args.cx.p.now c.args.k),
+            heavy (expression c.args.cx.p.now c.args.a),
+            heavy (expression c.args.cx.p.now c.args.b),
+            extra_small c.args.cx.fixed (Some c.args.to),
+          ))
+          (omega (
+            arith,
+            c.requires.node.weight,
+            heavy (expression c.args.cx.p.now c.args.k),
+            heavy (expression c.args.cx.p.now c.args.a),
+            heavy (expression c.args.cx.p.now c.args.b),
+            extra_small c.args.cx.fixed (Some c.args.to),
+          ))
+          (omega (arith, c.requires.node.copies));
+      is = IfOk-weaker c.place.result _ _
+          (λ r h n. place_comma _ c.requires.ordered c.requires.scene.ready.ordered _ c.requires.node.right n
+          c.in_ok-effect.ensures.is h) c.place.ensures.is;
+    }
 
 pub places::place_choice-fork-fork-requires : goal.places::place_choice-fork-fork-requires
 places::place_choice-fork-fork-requires t c =
@@ -1033,52 +1127,60 @@ places::place_choice-place-requires-2 t c = (
   ),
 )
 
-pub places::place_choice-returns-clause-lowered : goal.places::place_choice-returns-clause-lowered
-places::place_choice-returns-clause-lowered t c =
-    tail_stands _ c.join_fork.result (opened (turned
-    (opened (opened (fork c.requires.scene c.fork-fork.ensures.forked) c.in_ok-condition.ensures.lowered)
-    c.in_ok-place.ensures.lowered) c.in_ok-turn_fork.ensures.turned c.in_ok-turn_fork.ensures.adds)
-    c.in_ok-place-2.ensures.lowered) c.join_fork.ensures.stands (omega (arith, c.requires.node.weight))
-
-pub places::place_choice-returns-clause-spends : goal.places::place_choice-returns-clause-spends
-places::place_choice-returns-clause-spends t c =
-    last_pushed _ _ c.join_fork.result (after
-    (and (after (after (plainly (forked_spent c.fork-fork.ensures.forked)) c.in_ok-condition.ensures.spends)
-    c.in_ok-place.ensures.spends) c.in_ok-turn_fork.ensures.spent) c.in_ok-place-2.ensures.spends)
-    c.join_fork.ensures.stands (omega (
-      arith,
-      c.requires.node.weight,
-      heavy (expression c.args.cx.p.now c.args.k),
-      heavy (expression c.args.cx.p.now c.args.c),
-      heavy (expression c.args.cx.p.now c.args.a),
-      heavy (expression c.args.cx.p.now c.args.b),
-      extra_small c.args.cx.fixed (Some c.args.to),
-    ))
-    (omega (
-      arith,
-      c.requires.node.weight,
-      heavy (expression c.args.cx.p.now c.args.k),
-      heavy (expression c.args.cx.p.now c.args.c),
-      heavy (expression c.args.cx.p.now c.args.a),
-      heavy (expression c.args.cx.p.now c.args.b),
-      extra_small c.args.cx.fixed (Some c.args.to),
-    ))
-    (omega (arith, c.requires.node.copies)) refl refl
+pub places::place_choice-returns : goal.places::place_choice-returns
+places::place_choice-returns t c =
+    record {
+      lowered = tail_stands _ c.join_fork.result (opened (turned
+          (opened (opened (fork c.requires.scene c.fork-fork.ensures.forked) c.in_ok-condition.ensures.lowered)
+          c.in_ok-place.ensures.lowered) c.in_ok-turn_fork.ensures.turned c.in_ok-turn_fork.ensures.adds)
+          c.in_ok-place-2.ensures.lowered) c.join_fork.ensures.stands (omega (arith, c.requires.node.weight));
+      spends = last_pushed _ _ c.join_fork.result (after
+          (and (after (after (plainly (forked_spent c.fork-fork.ensures.forked)) c.in_ok-condition.ensures.spends)
+          c.in_ok-place.ensures.spends) c.in_ok-turn_fork.ensures.spent) c.in_ok-place-2.ensures.spends)
+          c.join_fork.ensures.stands (omega (
+            arith,
+            c.requires.node.weight,
+            heavy (expression c.args.cx.p.now c.args.k),
+            heavy (expression c.args.cx.p.now c.args.c),
+            heavy (expression c.args.cx.p.now c.args.a),
+            heavy (expression c.args.cx.p.now c.args.b),
+            extra_small c.args.cx.fixed (Some c.args.to),
+          ))
+          (omega (
+            arith,
+            c.requires.node.weight,
+            heavy (expression c.args.cx.p.now c.args.k),
+            heavy (expression c.args.cx.p.now c.args.c),
+            heavy (expression c.args.cx.p.now c.args.a),
+            heavy (expression c.args.cx.p.now c.args.b),
+            extra_small c.args.cx.fixed (Some c.args.to),
+          ))
+          (omega (arith, c.requires.node.copies)) refl refl;
+      is = IfOk-weaker c.join_fork.result _ _
+          (λ r f scalar n. place_chosen _ c.requires.ordered c.requires.scene.ready.ordered _ c.requires.node.second
+          c.requires.node.third n scalar c.fork-fork.ensures.forked c.in_ok-condition.ensures.is
+          c.in_ok-place.ensures.is
+          c.in_ok-turn_fork.ensures.emits c.in_ok-place-2.ensures.is (one_emits _ _ _ refl f))
+          c.join_fork.ensures.stands;
+    }
 
 pub places::member-offset-requires-clause-same : goal.places::member-offset-requires-clause-same
 places::member-offset-requires-clause-same t c =
     two_pointers c.requires.to (c.in-Some.ensures.has _ c.requires.scene.housed)
 
-pub places::member-returns-in-Some-clause-lowered : goal.places::member-returns-in-Some-clause-lowered
-places::member-returns-in-Some-clause-lowered t c =
-    tail_grew _ _ c.offset.result (start c.requires.scene) c.offset.ensures.grown c.offset.ensures.adds (omega arith)
-
-pub places::member-returns-in-Some-clause-spends : goal.places::member-returns-in-Some-clause-spends
-places::member-returns-in-Some-clause-spends t c =
-    last_and _ _ _ _ c.offset.result nothing c.offset.ensures.spent
-    (omega (arith, c.requires.node.weight, heavy (expression c.args.cx.p.now c.args.a)))
-    (omega (arith, c.requires.node.weight, heavy (expression c.args.cx.p.now c.args.a)))
-    (omega (arith, c.requires.node.copies))
+pub places::member-returns-in-Some : goal.places::member-returns-in-Some
+places::member-returns-in-Some t c =
+    record {
+      lowered = tail_grew _ _ c.offset.result (start c.requires.scene) c.offset.ensures.grown c.offset.ensures.adds
+          (omega arith);
+      spends = last_and _ _ _ _ c.offset.result nothing c.offset.ensures.spent
+          (omega (arith, c.requires.node.weight, heavy (expression c.args.cx.p.now c.args.a)))
+          (omega (arith, c.requires.node.weight, heavy (expression c.args.cx.p.now c.args.a)))
+          (omega (arith, c.requires.node.copies));
+      is = IfOk-weaker c.offset.result _ _
+          (λ r f n. place_part _ c.requires.ordered c.requires.scene.ready.ordered n
+          c.member_offset.ensures c.in-Some.ensures.is f) c.offset.ensures.emits;
+    }
 
 pub places::member-place-requires : goal.places::member-place-requires
 places::member-place-requires t c = (
@@ -1100,31 +1202,33 @@ places::member-offset-requires-in-None-clause-same t c =
     two_pointers (still c.requires.to c.in_ok-place-in-None.ensures.lowered)
     (still c.requires.to c.in_ok-place-in-None.ensures.lowered)
 
-pub places::member-returns-in_ok-place-in-None-clause-lowered :
-    goal.places::member-returns-in_ok-place-in-None-clause-lowered
-places::member-returns-in_ok-place-in-None-clause-lowered t c =
-    tail_grew _ _ c.offset-in-None.result c.in_ok-place-in-None.ensures.lowered c.offset-in-None.ensures.grown
-    c.offset-in-None.ensures.adds (omega (arith, c.requires.node.weight))
-
-pub places::member-returns-in_ok-place-in-None-clause-spends :
-    goal.places::member-returns-in_ok-place-in-None-clause-spends
-places::member-returns-in_ok-place-in-None-clause-spends t c =
-    last_and _ _ _ _ c.offset-in-None.result c.in_ok-place-in-None.ensures.spends c.offset-in-None.ensures.spent
-    (omega (
-      arith,
-      c.requires.node.weight,
-      heavy (expression c.args.cx.p.now c.args.k),
-      heavy (expression c.args.cx.p.now c.args.a),
-      extra_small c.args.cx.fixed (Some c.args.to),
-    ))
-    (omega (
-      arith,
-      c.requires.node.weight,
-      heavy (expression c.args.cx.p.now c.args.k),
-      heavy (expression c.args.cx.p.now c.args.a),
-      extra_small c.args.cx.fixed (Some c.args.to),
-    ))
-    (omega (arith, c.requires.node.copies))
+pub places::member-returns-in_ok-place-in-None : goal.places::member-returns-in_ok-place-in-None
+places::member-returns-in_ok-place-in-None t c =
+    record {
+      lowered = tail_grew _ _ c.offset-in-None.result c.in_ok-place-in-None.ensures.lowered
+          c.offset-in-None.ensures.grown
+          c.offset-in-None.ensures.adds (omega (arith, c.requires.node.weight));
+      spends = last_and _ _ _ _ c.offset-in-None.result c.in_ok-place-in-None.ensures.spends
+          c.offset-in-None.ensures.spent
+          (omega (
+            arith,
+            c.requires.node.weight,
+            heavy (expression c.args.cx.p.now c.args.k),
+            heavy (expression c.args.cx.p.now c.args.a),
+            extra_small c.args.cx.fixed (Some c.args.to),
+          ))
+          (omega (
+            arith,
+            c.requires.node.weight,
+            heavy (expression c.args.cx.p.now c.args.k),
+            heavy (expression c.args.cx.p.now c.args.a),
+            extra_small c.args.cx.fixed (Some c.args.to),
+          ))
+          (omega (arith, c.requires.node.copies));
+      is = IfOk-weaker c.offset-in-None.result _ _
+          (λ r f n. place_part_made _ c.requires.ordered c.requires.scene.ready.ordered _ c.requires.node.operand n
+          c.member_offset.ensures c.in_ok-place-in-None.ensures.is f) c.offset-in-None.ensures.emits;
+    }
 
 pub places::address-place-requires : goal.places::address-place-requires
 places::address-place-requires t c = (
@@ -1144,56 +1248,62 @@ places::address-place-requires t c = (
   ),
 )
 
-pub places::address-returns-in-None-clause-lowered : goal.places::address-returns-in-None-clause-lowered
-places::address-returns-in-None-clause-lowered t c =
-    at_most c.in_ok-place.ensures.lowered (omega (arith, c.requires.node.operands.weight))
-
-pub places::address-returns-in-None-clause-spends : goal.places::address-returns-in-None-clause-spends
-places::address-returns-in-None-clause-spends t c =
-    within c.in_ok-place.ensures.spends (omega (
-      arith,
-      c.requires.node.operands.weight,
-      heavy (expression c.args.cx.p.now c.args.k),
-      heavy (expression c.args.cx.p.now c.args.a),
-      extra_small c.args.cx.fixed (Some c.args.to),
-    ))
-    (omega (
-      arith,
-      c.requires.node.operands.weight,
-      heavy (expression c.args.cx.p.now c.args.k),
-      heavy (expression c.args.cx.p.now c.args.a),
-      extra_small c.args.cx.fixed (Some c.args.to),
-    ))
-    (omega (arith, c.requires.node.operands.copies))
+pub places::address-returns-in-None : goal.places::address-returns-in-None
+places::address-returns-in-None t c =
+    record {
+      lowered = at_most c.in_ok-place.ensures.lowered (omega (arith, c.requires.node.operands.weight));
+      spends = within c.in_ok-place.ensures.spends (omega (
+        arith,
+        c.requires.node.operands.weight,
+        heavy (expression c.args.cx.p.now c.args.k),
+        heavy (expression c.args.cx.p.now c.args.a),
+        extra_small c.args.cx.fixed (Some c.args.to),
+      ))
+          (omega (
+            arith,
+            c.requires.node.operands.weight,
+            heavy (expression c.args.cx.p.now c.args.k),
+            heavy (expression c.args.cx.p.now c.args.a),
+            extra_small c.args.cx.fixed (Some c.args.to),
+          ))
+          (omega (arith, c.requires.node.operands.copies));
+      is = (λ at.
+          value_pointer _ c.requires.ordered c.requires.scene.ready.ordered c.args.cx.d.now c.requires.node
+          (c.in-None.ensures c.args.cx.d.now.vars c.requires.scene.ready) at c.in_ok-place.ensures.is);
+    }
 
 pub places::address-narrow-requires-clause-same : goal.places::address-narrow-requires-clause-same
 places::address-narrow-requires-clause-same t c =
     two_pointers (still (as_kind c.requires.to (scalar_kind c.requires.node.is)) c.in_ok-place.ensures.lowered)
     (still (as_kind c.requires.to (scalar_kind c.requires.node.is)) c.in_ok-place.ensures.lowered)
 
-pub places::address-returns-in-Some-clause-lowered : goal.places::address-returns-in-Some-clause-lowered
-places::address-returns-in-Some-clause-lowered t c =
-    tail_grew _ _ c.narrow.result c.in_ok-place.ensures.lowered c.narrow.ensures.grown c.narrow.ensures.adds
-    (omega (arith, c.requires.node.operands.weight))
-
-pub places::address-returns-in-Some-clause-spends : goal.places::address-returns-in-Some-clause-spends
-places::address-returns-in-Some-clause-spends t c =
-    last_and _ _ _ _ c.narrow.result c.in_ok-place.ensures.spends c.narrow.ensures.spent
-    (omega (
-      arith,
-      c.requires.node.operands.weight,
-      heavy (expression c.args.cx.p.now c.args.k),
-      heavy (expression c.args.cx.p.now c.args.a),
-      extra_small c.args.cx.fixed (Some c.args.to),
-    ))
-    (omega (
-      arith,
-      c.requires.node.operands.weight,
-      heavy (expression c.args.cx.p.now c.args.k),
-      heavy (expression c.args.cx.p.now c.args.a),
-      extra_small c.args.cx.fixed (Some c.args.to),
-    ))
-    (omega (arith, c.requires.node.operands.copies))
+pub places::address-returns-in-Some : goal.places::address-returns-in-Some
+places::address-returns-in-Some t c =
+    record {
+      lowered = tail_grew _ _ c.narrow.result c.in_ok-place.ensures.lowered c.narrow.ensures.grown
+          c.narrow.ensures.adds
+          (omega (arith, c.requires.node.operands.weight));
+      spends = last_and _ _ _ _ c.narrow.result c.in_ok-place.ensures.spends c.narrow.ensures.spent
+          (omega (
+            arith,
+            c.requires.node.operands.weight,
+            heavy (expression c.args.cx.p.now c.args.k),
+            heavy (expression c.args.cx.p.now c.args.a),
+            extra_small c.args.cx.fixed (Some c.args.to),
+          ))
+          (omega (
+            arith,
+            c.requires.node.operands.weight,
+            heavy (expression c.args.cx.p.now c.args.k),
+            heavy (expression c.args.cx.p.now c.args.a),
+            extra_small c.args.cx.fixed (Some c.args.to),
+          ))
+          (omega (arith, c.requires.node.operands.copies));
+      is = IfOk-weaker c.narrow.result _ _
+          (λ r f at. value_part _ c.requires.ordered c.requires.scene.ready.ordered c.args.cx.d.now _ c.requires.node
+          c.requires.node.operands.operand (c.in-Some.ensures c.args.cx.d.now.vars c.requires.scene.ready)
+          c.owned_length.ensures at c.in_ok-place.ensures.is f) c.narrow.ensures.emits;
+    }
 
 pub places::struct_assignment-pointer-requires : goal.places::struct_assignment-pointer-requires
 places::struct_assignment-pointer-requires t c = (
@@ -1232,37 +1342,42 @@ places::struct_assignment-struct_copy-requires t c = (
   ),
 )
 
-pub places::struct_assignment-returns-clause-has : goal.places::struct_assignment-returns-clause-has
-places::struct_assignment-returns-clause-has t c = still c.in_ok-t.ensures.has c.in_ok-struct_copy.ensures.lowered
-
-pub places::struct_assignment-returns-clause-lowered : goal.places::struct_assignment-returns-clause-lowered
-places::struct_assignment-returns-clause-lowered t c =
-    at_most (both c.in_ok-t.ensures.lowered c.in_ok-struct_copy.ensures.lowered)
-    (omega (arith, c.requires.node.operands.weight))
-
-pub places::struct_assignment-returns-clause-spends : goal.places::struct_assignment-returns-clause-spends
-places::struct_assignment-returns-clause-spends t c =
-    within (after c.in_ok-t.ensures.spends c.in_ok-struct_copy.ensures.spends)
-    (omega (
-      arith,
-      c.requires.node.operands.weight,
-      heavy (expression c.args.cx.p.now c.args.k),
-      heavy (expression c.args.cx.p.now c.args.a),
-      heavy (expression c.args.cx.p.now c.args.b),
-    ))
-    (omega (
-      arith,
-      c.requires.node.operands.weight,
-      heavy (expression c.args.cx.p.now c.args.k),
-      heavy (expression c.args.cx.p.now c.args.a),
-      heavy (expression c.args.cx.p.now c.args.b),
-    ))
-    (omega (
-      arith,
-      c.requires.node.copies,
-      c.facts-facts.ensures.copied c.requires.scene.ready,
-      ap parts c.record_size-bytes.ensures,
-    ))
+pub places::struct_assignment-returns : goal.places::struct_assignment-returns
+places::struct_assignment-returns t c =
+    record {
+      has = still c.in_ok-t.ensures.has c.in_ok-struct_copy.ensures.lowered;
+      lowered = at_most (both c.in_ok-t.ensures.lowered c.in_ok-struct_copy.ensures.lowered)
+          (omega (arith, c.requires.node.operands.weight));
+      spends = within (after c.in_ok-t.ensures.spends c.in_ok-struct_copy.ensures.spends)
+          (omega (
+            arith,
+            c.requires.node.operands.weight,
+            heavy (expression c.args.cx.p.now c.args.k),
+            heavy (expression c.args.cx.p.now c.args.a),
+            heavy (expression c.args.cx.p.now c.args.b),
+          ))
+          (omega (
+            arith,
+            c.requires.node.operands.weight,
+            heavy (expression c.args.cx.p.now c.args.k),
+            heavy (expression c.args.cx.p.now c.args.a),
+            heavy (expression c.args.cx.p.now c.args.b),
+          ))
+          (omega (
+            arith,
+            c.requires.node.copies,
+            c.facts-facts.ensures.copied c.requires.scene.ready,
+            ap parts c.record_size-bytes.ensures,
+          ));
+      is = (λ n.
+          struct_assigned _ c.requires.ordered c.requires.scene.ready.ordered c.args.cx.d.now _ c.requires.a_before
+          c.requires.b_before c.requires.node.operands.left c.requires.node.operands.right c.requires.node
+          (λ e there. c.facts-facts.ensures.fits e c.requires.scene.ready there) c.record_size-bytes.ensures
+          c.unit.ensures
+          c.written.ensures
+          (c.place_pos.ensures _ c.requires.scene.ready.ordered c.requires.node.operands.left) n c.in_ok-t.ensures.is
+          c.in_ok-struct_copy.ensures.is);
+    }
 
 pub places::struct_copy-chosen_copy-requires : goal.places::struct_copy-chosen_copy-requires
 places::struct_copy-chosen_copy-requires t c =
@@ -1350,41 +1465,46 @@ places::struct_copy-struct_copy-requires t c =
       ),
     )
 
-pub places::struct_copy-returns-in_ok-effect-in-Comma-clause-lowered :
-    goal.places::struct_copy-returns-in_ok-effect-in-Comma-clause-lowered
-places::struct_copy-returns-in_ok-effect-in-Comma-clause-lowered t c =
-    tail _ _ c.struct_copy.result c.in_ok-effect-in-Comma.ensures.lowered c.struct_copy.ensures.lowered
-    (omega (
-      arith,
-      (node_at c.args.cx.d.now c.requires.scene.ready c.requires.typed c.in-Some.ensures
-          c.in-Comma.is).operands.weight,
-    ))
-
-pub places::struct_copy-returns-in_ok-effect-in-Comma-clause-spends :
-    goal.places::struct_copy-returns-in_ok-effect-in-Comma-clause-spends
-places::struct_copy-returns-in_ok-effect-in-Comma-clause-spends t c =
-    last _ _ _ _ c.struct_copy.result c.in_ok-effect-in-Comma.ensures.spends c.struct_copy.ensures.spends
-    (omega (
-      arith,
-      (node_at c.args.cx.d.now c.requires.scene.ready c.requires.typed c.in-Some.ensures
-          c.in-Comma.is).operands.weight,
-      heavy (expression c.args.cx.p.now c.args.k),
-      heavy (expression c.args.cx.p.now c.in-Comma.a),
-      heavy (expression c.args.cx.p.now c.in-Comma.b),
-    ))
-    (omega (
-      arith,
-      (node_at c.args.cx.d.now c.requires.scene.ready c.requires.typed c.in-Some.ensures
-          c.in-Comma.is).operands.weight,
-      heavy (expression c.args.cx.p.now c.args.k),
-      heavy (expression c.args.cx.p.now c.in-Comma.a),
-      heavy (expression c.args.cx.p.now c.in-Comma.b),
-    ))
-    (omega (
-      arith,
-      (node_at c.args.cx.d.now c.requires.scene.ready c.requires.typed c.in-Some.ensures
-          c.in-Comma.is).operands.copies,
-    ))
+pub places::struct_copy-returns-in_ok-effect-in-Comma : goal.places::struct_copy-returns-in_ok-effect-in-Comma
+places::struct_copy-returns-in_ok-effect-in-Comma t c =
+    record {
+      lowered = tail _ _ c.struct_copy.result c.in_ok-effect-in-Comma.ensures.lowered c.struct_copy.ensures.lowered
+          (omega (
+            arith,
+            (node_at c.args.cx.d.now c.requires.scene.ready c.requires.typed c.in-Some.ensures
+                c.in-Comma.is).operands.weight,
+          ));
+      spends = last _ _ _ _ c.struct_copy.result c.in_ok-effect-in-Comma.ensures.spends c.struct_copy.ensures.spends
+          (omega (
+            arith,
+            (node_at c.args.cx.d.now c.requires.scene.ready c.requires.typed c.in-Some.ensures
+                c.in-Comma.is).operands.weight,
+            heavy (expression c.args.cx.p.now c.args.k),
+            heavy (expression c.args.cx.p.now c.in-Comma.a),
+            heavy (expression c.args.cx.p.now c.in-Comma.b),
+          ))
+          (omega (
+            arith,
+            (node_at c.args.cx.d.now c.requires.scene.ready c.requires.typed c.in-Some.ensures
+                c.in-Comma.is).operands.weight,
+            heavy (expression c.args.cx.p.now c.args.k),
+            heavy (expression c.args.cx.p.now c.in-Comma.a),
+            heavy (expression c.args.cx.p.now c.in-Comma.b),
+          ))
+          (omega (
+            arith,
+            (node_at c.args.cx.d.now c.requires.scene.ready c.requires.typed c.in-Some.ensures
+                c.in-Comma.is).operands.copies,
+          ));
+      is = IfOk-weaker c.struct_copy.result _ _
+          (λ r h. copy_comma _ c.requires.ordered c.requires.scene.ready.ordered
+          (below_comma c.args.cx.p.now c.args.k _ _ c.in-Comma.b c.requires.ordered c.in-Some.ensures c.in-Comma.is)
+          (commas (frame_of c.args.cx.p.now c.args.cx.d.now) c.requires.scene.ready.ordered c.args.k _
+          c.in-Some.ensures
+          c.requires.typed _ c.in-Comma.b c.in-Comma.is)
+          (record { node = _; there = c.in-Some.ensures; is = c.in-Comma.is }) c.in_ok-effect-in-Comma.ensures.is h)
+          c.struct_copy.ensures.is;
+    }
 
 pub places::struct_copy-struct_copy-requires-in-Load : goal.places::struct_copy-struct_copy-requires-in-Load
 places::struct_copy-struct_copy-requires-in-Load t c =
@@ -1412,37 +1532,42 @@ places::struct_copy-struct_copy-requires-in-Load t c =
       ),
     )
 
-pub places::struct_copy-returns-in-Load-clause-lowered : goal.places::struct_copy-returns-in-Load-clause-lowered
-places::struct_copy-returns-in-Load-clause-lowered t c =
-    tail _ _ c.struct_copy-in-Load.result (start c.requires.scene) c.struct_copy-in-Load.ensures.lowered
-    (omega (
-      arith,
-      (node_at c.args.cx.d.now c.requires.scene.ready c.requires.typed c.in-Some.ensures
-          c.in-Load.is).operands.weight,
-    ))
-
-pub places::struct_copy-returns-in-Load-clause-spends : goal.places::struct_copy-returns-in-Load-clause-spends
-places::struct_copy-returns-in-Load-clause-spends t c =
-    last _ _ _ _ c.struct_copy-in-Load.result nothing c.struct_copy-in-Load.ensures.spends
-    (omega (
-      arith,
-      (node_at c.args.cx.d.now c.requires.scene.ready c.requires.typed c.in-Some.ensures
-          c.in-Load.is).operands.weight,
-      heavy (expression c.args.cx.p.now c.args.k),
-      heavy (expression c.args.cx.p.now c.in-Load.a),
-    ))
-    (omega (
-      arith,
-      (node_at c.args.cx.d.now c.requires.scene.ready c.requires.typed c.in-Some.ensures
-          c.in-Load.is).operands.weight,
-      heavy (expression c.args.cx.p.now c.args.k),
-      heavy (expression c.args.cx.p.now c.in-Load.a),
-    ))
-    (omega (
-      arith,
-      (node_at c.args.cx.d.now c.requires.scene.ready c.requires.typed c.in-Some.ensures
-          c.in-Load.is).operands.copies,
-    ))
+pub places::struct_copy-returns-in-Load : goal.places::struct_copy-returns-in-Load
+places::struct_copy-returns-in-Load t c =
+    record {
+      lowered = tail _ _ c.struct_copy-in-Load.result (start c.requires.scene) c.struct_copy-in-Load.ensures.lowered
+          (omega (
+            arith,
+            (node_at c.args.cx.d.now c.requires.scene.ready c.requires.typed c.in-Some.ensures
+                c.in-Load.is).operands.weight,
+          ));
+      spends = last _ _ _ _ c.struct_copy-in-Load.result nothing c.struct_copy-in-Load.ensures.spends
+          (omega (
+            arith,
+            (node_at c.args.cx.d.now c.requires.scene.ready c.requires.typed c.in-Some.ensures
+                c.in-Load.is).operands.weight,
+            heavy (expression c.args.cx.p.now c.args.k),
+            heavy (expression c.args.cx.p.now c.in-Load.a),
+          ))
+          (omega (
+            arith,
+            (node_at c.args.cx.d.now c.requires.scene.ready c.requires.typed c.in-Some.ensures
+                c.in-Load.is).operands.weight,
+            heavy (expression c.args.cx.p.now c.args.k),
+            heavy (expression c.args.cx.p.now c.in-Load.a),
+          ))
+          (omega (
+            arith,
+            (node_at c.args.cx.d.now c.requires.scene.ready c.requires.typed c.in-Some.ensures
+                c.in-Load.is).operands.copies,
+          ));
+      is = IfOk-weaker c.struct_copy-in-Load.result _ _
+          (λ r h. copy_read _ c.requires.ordered c.requires.scene.ready.ordered
+          (below_load c.args.cx.p.now c.args.k _ c.in-Load.a c.requires.ordered c.in-Some.ensures c.in-Load.is)
+          (loads (frame_of c.args.cx.p.now c.args.cx.d.now) c.requires.scene.ready.ordered c.args.k _ c.in-Some.ensures
+          c.requires.typed c.in-Load.a c.in-Load.is)
+          (record { node = _; there = c.in-Some.ensures; is = c.in-Load.is }) h) c.struct_copy-in-Load.ensures.is;
+    }
 
 pub places::chosen_copy-fork-fork-requires : goal.places::chosen_copy-fork-fork-requires
 places::chosen_copy-fork-fork-requires t c =
@@ -1523,41 +1648,50 @@ places::chosen_copy-struct_copy-requires-2 t c = (
   ),
 )
 
-pub places::chosen_copy-returns-clause-lowered : goal.places::chosen_copy-returns-clause-lowered
-places::chosen_copy-returns-clause-lowered t c =
-    tail_stands _ c.join_fork.result (opened (turned
-    (opened (opened (fork c.requires.scene c.fork-fork.ensures.forked) c.in_ok-condition.ensures.lowered)
-    c.in_ok-struct_copy.ensures.lowered) c.in_ok-turn_fork.ensures.turned c.in_ok-turn_fork.ensures.adds)
-    c.in_ok-struct_copy-2.ensures.lowered) c.join_fork.ensures.stands (omega (arith, c.requires.node.operands.weight))
-
-pub places::chosen_copy-returns-clause-spends : goal.places::chosen_copy-returns-clause-spends
-places::chosen_copy-returns-clause-spends t c =
-    last_pushed _ _ c.join_fork.result (after
-    (and (after (after (plainly (forked_spent c.fork-fork.ensures.forked)) c.in_ok-condition.ensures.spends)
-    c.in_ok-struct_copy.ensures.spends) c.in_ok-turn_fork.ensures.spent) c.in_ok-struct_copy-2.ensures.spends)
-    c.join_fork.ensures.stands (omega (
-      arith,
-      c.requires.node.operands.weight,
-      heavy (expression c.args.cx.p.now c.args.k),
-      heavy (expression c.args.cx.p.now c.args.c),
-      heavy (expression c.args.cx.p.now c.args.a),
-      heavy (expression c.args.cx.p.now c.args.b),
-    ))
-    (omega (
-      arith,
-      c.requires.node.operands.weight,
-      heavy (expression c.args.cx.p.now c.args.k),
-      heavy (expression c.args.cx.p.now c.args.c),
-      heavy (expression c.args.cx.p.now c.args.a),
-      heavy (expression c.args.cx.p.now c.args.b),
-    ))
-    (omega (
-      arith,
-      c.requires.node.copies,
-      c.facts.ensures.copied c.requires.scene.ready,
-      c.limited-chosen.ensures.bytes,
-      c.limited-chosen.ensures.value,
-    )) refl refl
+pub places::chosen_copy-returns : goal.places::chosen_copy-returns
+places::chosen_copy-returns t c =
+    record {
+      lowered = tail_stands _ c.join_fork.result (opened (turned
+          (opened (opened (fork c.requires.scene c.fork-fork.ensures.forked) c.in_ok-condition.ensures.lowered)
+          c.in_ok-struct_copy.ensures.lowered) c.in_ok-turn_fork.ensures.turned c.in_ok-turn_fork.ensures.adds)
+          c.in_ok-struct_copy-2.ensures.lowered) c.join_fork.ensures.stands (omega (
+            arith,
+            c.requires.node.operands.weight,
+          ));
+      spends = last_pushed _ _ c.join_fork.result (after
+          (and (after (after (plainly (forked_spent c.fork-fork.ensures.forked)) c.in_ok-condition.ensures.spends)
+          c.in_ok-struct_copy.ensures.spends) c.in_ok-turn_fork.ensures.spent) c.in_ok-struct_copy-2.ensures.spends)
+          c.join_fork.ensures.stands (omega (
+            arith,
+            c.requires.node.operands.weight,
+            heavy (expression c.args.cx.p.now c.args.k),
+            heavy (expression c.args.cx.p.now c.args.c),
+            heavy (expression c.args.cx.p.now c.args.a),
+            heavy (expression c.args.cx.p.now c.args.b),
+          ))
+          (omega (
+            arith,
+            c.requires.node.operands.weight,
+            heavy (expression c.args.cx.p.now c.args.k),
+            heavy (expression c.args.cx.p.now c.args.c),
+            heavy (expression c.args.cx.p.now c.args.a),
+            heavy (expression c.args.cx.p.now c.args.b),
+          ))
+          (omega (
+            arith,
+            c.requires.node.copies,
+            c.facts.ensures.copied c.requires.scene.ready,
+            c.limited-chosen.ensures.bytes,
+            c.limited-chosen.ensures.value,
+          )) refl refl;
+      is = IfOk-weaker c.join_fork.result _ _
+          (λ r f n. copy_chosen _ c.requires.ordered c.requires.scene.ready.ordered c.args.cx.d.now c.requires.a_before
+          c.requires.b_before c.requires.node (λ e there. c.facts.ensures.fits e c.requires.scene.ready there)
+          c.limited-chosen.ensures.same n c.fork-fork.ensures.forked c.in_ok-condition.ensures.is
+          c.in_ok-struct_copy.ensures.is
+          c.in_ok-turn_fork.ensures.emits c.in_ok-struct_copy-2.ensures.is (one_emits _ _ _ refl f))
+          c.join_fork.ensures.stands;
+    }
 
 pub places::plain_copy-pointer-requires : goal.places::plain_copy-pointer-requires
 places::plain_copy-pointer-requires t c = (
@@ -1585,17 +1719,20 @@ places::plain_copy-copy_units-requires-clause-to t c = pointer c.in_ok-to.ensure
 pub places::plain_copy-copy_units-requires-clause-units : goal.places::plain_copy-copy_units-requires-clause-units
 places::plain_copy-copy_units-requires-clause-units t c = c.requires.destination.units
 
-pub places::plain_copy-returns-clause-lowered : goal.places::plain_copy-returns-clause-lowered
-places::plain_copy-returns-clause-lowered t c =
-    tail_grew _ _ c.copy_units.result (grew c.in_ok-from.ensures.lowered c.in_ok-to.ensures.grown
-    c.in_ok-to.ensures.adds) c.copy_units.ensures.grown c.copy_units.ensures.adds (omega arith)
-
-pub places::plain_copy-returns-clause-spends : goal.places::plain_copy-returns-clause-spends
-places::plain_copy-returns-clause-spends t c =
-    last_and _ _ _ _ c.copy_units.result (and c.in_ok-from.ensures.spends c.in_ok-to.ensures.spent)
-    c.copy_units.ensures.spent (omega (arith, heavy (expression c.args.cx.p.now c.args.k)))
-    (omega (arith, heavy (expression c.args.cx.p.now c.args.k)))
-    (omega arith)
+pub places::plain_copy-returns : goal.places::plain_copy-returns
+places::plain_copy-returns t c =
+    record {
+      lowered = tail_grew _ _ c.copy_units.result (grew c.in_ok-from.ensures.lowered c.in_ok-to.ensures.grown
+          c.in_ok-to.ensures.adds) c.copy_units.ensures.grown c.copy_units.ensures.adds (omega arith);
+      spends = last_and _ _ _ _ c.copy_units.result (and c.in_ok-from.ensures.spends c.in_ok-to.ensures.spent)
+          c.copy_units.ensures.spent (omega (arith, heavy (expression c.args.cx.p.now c.args.k)))
+          (omega (arith, heavy (expression c.args.cx.p.now c.args.k)))
+          (omega arith);
+      is = IfOk-weaker c.copy_units.result _ _
+          (λ r f plain. copy_plain _ c.requires.ordered c.requires.scene.ready.ordered _ c.requires.typed
+          (c.place_pos.ensures _ c.requires.scene.ready.ordered c.requires.typed) plain c.in_ok-from.ensures.is
+          c.in_ok-to.ensures.is f) c.copy_units.ensures.emits;
+    }
 
 pub calls::call-named_function-requires-clause-typed : goal.calls::call-named_function-requires-clause-typed
 calls::call-named_function-requires-clause-typed t c = c.requires.node.called
@@ -1615,36 +1752,39 @@ calls::call-arguments-requires t c = (
   ),
 )
 
-pub calls::call-returns-in_ok-temps-in-Some-clause-lowered : goal.calls::call-returns-in_ok-temps-in-Some-clause-lowered
-calls::call-returns-in_ok-temps-in-Some-clause-lowered t c =
-    tail_pushed _ c.call.result _ c.in_ok-temps-in-Some.ensures.lowered c.call.ensures.pushed
-    (λ g. call_lowered _ _ _ _ _ _ c.in_ok-temps-in-Some.ensures.lowered.scene c.args.to c.in-Some.n
-    c.in_ok-temps-in-Some.temps.items (map (kind_in c.args.cx.p.now) c.args.args.now) c.requires.node.result
-    c.requires.node.takes (c.in-Some.ensures.signed _ _ c.requires.node.of) c.in_ok-temps-in-Some.ensures.kinds
-    (taken c.args.cx.p.now c.requires.node.takes c.args.args.now c.requires.node.fit)
-    (result_as c.args.to _ _ c.in_ok-temps-in-Some.ensures.lowered c.requires.node.gives c.requires.to) g)
-    (omega (arith, c.requires.node.weight))
-
-pub calls::call-returns-in_ok-temps-in-Some-clause-spends : goal.calls::call-returns-in_ok-temps-in-Some-clause-spends
-calls::call-returns-in_ok-temps-in-Some-clause-spends t c =
-    last_pushed _ _ c.call.result c.in_ok-temps-in-Some.ensures.spends c.call.ensures.pushed
-    (omega (
-      arith,
-      c.requires.node.weight,
-      weights_heavy c.args.cx.p.now c.args.args.now,
-      kinds_count c.args.cx.p.now _ c.in_ok-temps-in-Some.temps.items c.args.args.now
-          c.in_ok-temps-in-Some.ensures.kinds,
-      places_small (length c.in_ok-temps-in-Some.temps.items),
-    ))
-    (omega (
-      arith,
-      c.requires.node.weight,
-      weights_heavy c.args.cx.p.now c.args.args.now,
-      kinds_count c.args.cx.p.now _ c.in_ok-temps-in-Some.temps.items c.args.args.now
-          c.in_ok-temps-in-Some.ensures.kinds,
-      places_small (length c.in_ok-temps-in-Some.temps.items),
-    ))
-    (omega (arith, c.requires.node.copies)) refl refl
+pub calls::call-returns-in_ok-temps-in-Some : goal.calls::call-returns-in_ok-temps-in-Some
+calls::call-returns-in_ok-temps-in-Some t c =
+    record {
+      lowered = tail_pushed _ c.call.result _ c.in_ok-temps-in-Some.ensures.lowered c.call.ensures.pushed
+          (λ g. call_lowered _ _ _ _ _ _ c.in_ok-temps-in-Some.ensures.lowered.scene c.args.to c.in-Some.n
+          c.in_ok-temps-in-Some.temps.items (map (kind_in c.args.cx.p.now) c.args.args.now) c.requires.node.result
+          c.requires.node.takes (c.in-Some.ensures.signed _ _ c.requires.node.of) c.in_ok-temps-in-Some.ensures.kinds
+          (taken c.args.cx.p.now c.requires.node.takes c.args.args.now c.requires.node.fit)
+          (result_as c.args.to _ _ c.in_ok-temps-in-Some.ensures.lowered c.requires.node.gives c.requires.to) g)
+          (omega (arith, c.requires.node.weight));
+      spends = last_pushed _ _ c.call.result c.in_ok-temps-in-Some.ensures.spends c.call.ensures.pushed
+          (omega (
+            arith,
+            c.requires.node.weight,
+            weights_heavy c.args.cx.p.now c.args.args.now,
+            kinds_count c.args.cx.p.now _ c.in_ok-temps-in-Some.temps.items c.args.args.now
+                c.in_ok-temps-in-Some.ensures.kinds,
+            places_small (length c.in_ok-temps-in-Some.temps.items),
+          ))
+          (omega (
+            arith,
+            c.requires.node.weight,
+            weights_heavy c.args.cx.p.now c.args.args.now,
+            kinds_count c.args.cx.p.now _ c.in_ok-temps-in-Some.temps.items c.args.args.now
+                c.in_ok-temps-in-Some.ensures.kinds,
+            places_small (length c.in_ok-temps-in-Some.temps.items),
+          ))
+          (omega (arith, c.requires.node.copies)) refl refl;
+      is = IfOk-weaker c.call.result _ _
+          (λ r f n. call_named _ c.requires.ordered c.requires.scene.ready c.args.cx.d.now _ _ _ n c.requires.node
+          c.in-Some.n c.in-Some.ensures.names (c.in-Some.ensures.signed _ _ c.requires.node.of)
+          c.in_ok-temps-in-Some.ensures.is (one_emits _ _ _ refl f)) c.call.ensures.pushed;
+    }
 
 pub calls::call-operand-requires : goal.calls::call-operand-requires
 calls::call-operand-requires t c = (
@@ -1679,43 +1819,50 @@ calls::call-arguments-requires-in-None t c = (
   ),
 )
 
-pub calls::call-returns-in_ok-temps-in-None-clause-lowered : goal.calls::call-returns-in_ok-temps-in-None-clause-lowered
-calls::call-returns-in_ok-temps-in-None-clause-lowered t c =
-    tail_pushed _ c.call_value.result _ (both c.in_ok-v-in-None.ensures.lowered c.in_ok-temps-in-None.ensures.lowered)
-    c.call_value.ensures.pushed (λ g. call_value_lowered _ _ _ _ _ _ c.in_ok-temps-in-None.ensures.lowered.scene
-    c.args.to _ _ c.in_ok-temps-in-None.temps.items _
-    (map (kind_in c.args.cx.p.now) c.args.args.now) c.requires.node.result c.requires.node.takes
-    (called_value c.args.cx.p.now c.args.f c.requires.node.of
-    (still c.in_ok-v-in-None.ensures.has c.in_ok-temps-in-None.ensures.lowered))
-    (named_type c.requires.scene.ready (c.facts.ensures.pointed
-    (Function c.requires.node.result c.requires.node.takes) c.requires.scene.ready c.requires.node.of)
-    c.unwrap_or-of.ensures) c.in_ok-temps-in-None.ensures.kinds
-    (taken c.args.cx.p.now c.requires.node.takes c.args.args.now c.requires.node.fit)
-    (result_as c.args.to _ _ (both c.in_ok-v-in-None.ensures.lowered c.in_ok-temps-in-None.ensures.lowered)
-    c.requires.node.gives c.requires.to) g) (omega (arith, c.requires.node.weight))
-
-pub calls::call-returns-in_ok-temps-in-None-clause-spends : goal.calls::call-returns-in_ok-temps-in-None-clause-spends
-calls::call-returns-in_ok-temps-in-None-clause-spends t c =
-    last_pushed _ _ c.call_value.result (after c.in_ok-v-in-None.ensures.spends c.in_ok-temps-in-None.ensures.spends)
-    c.call_value.ensures.pushed (omega (
-      arith,
-      c.requires.node.weight,
-      weights_heavy c.args.cx.p.now c.args.args.now,
-      kinds_count c.args.cx.p.now _ c.in_ok-temps-in-None.temps.items c.args.args.now
-          c.in_ok-temps-in-None.ensures.kinds,
-      places_small (length c.in_ok-temps-in-None.temps.items),
-      heavy (expression c.args.cx.p.now c.args.f),
-    ))
-    (omega (
-      arith,
-      c.requires.node.weight,
-      weights_heavy c.args.cx.p.now c.args.args.now,
-      kinds_count c.args.cx.p.now _ c.in_ok-temps-in-None.temps.items c.args.args.now
-          c.in_ok-temps-in-None.ensures.kinds,
-      places_small (length c.in_ok-temps-in-None.temps.items),
-      heavy (expression c.args.cx.p.now c.args.f),
-    ))
-    (omega (arith, c.requires.node.copies)) refl refl
+pub calls::call-returns-in_ok-temps-in-None : goal.calls::call-returns-in_ok-temps-in-None
+calls::call-returns-in_ok-temps-in-None t c =
+    record {
+      lowered = tail_pushed _ c.call_value.result _ (both c.in_ok-v-in-None.ensures.lowered
+          c.in_ok-temps-in-None.ensures.lowered)
+          c.call_value.ensures.pushed (λ g. call_value_lowered _ _ _ _ _ _ c.in_ok-temps-in-None.ensures.lowered.scene
+          c.args.to _ _ c.in_ok-temps-in-None.temps.items _
+          (map (kind_in c.args.cx.p.now) c.args.args.now) c.requires.node.result c.requires.node.takes
+          (called_value c.args.cx.p.now c.args.f c.requires.node.of
+          (still c.in_ok-v-in-None.ensures.has c.in_ok-temps-in-None.ensures.lowered))
+          (named_type c.requires.scene.ready (c.facts.ensures.pointed
+          (Function c.requires.node.result c.requires.node.takes) c.requires.scene.ready c.requires.node.of)
+          c.unwrap_or-of.ensures) c.in_ok-temps-in-None.ensures.kinds
+          (taken c.args.cx.p.now c.requires.node.takes c.args.args.now c.requires.node.fit)
+          (result_as c.args.to _ _ (both c.in_ok-v-in-None.ensures.lowered c.in_ok-temps-in-None.ensures.lowered)
+          c.requires.node.gives c.requires.to) g) (omega (arith, c.requires.node.weight));
+      spends = last_pushed _ _ c.call_value.result (after c.in_ok-v-in-None.ensures.spends
+          c.in_ok-temps-in-None.ensures.spends)
+          c.call_value.ensures.pushed (omega (
+            arith,
+            c.requires.node.weight,
+            weights_heavy c.args.cx.p.now c.args.args.now,
+            kinds_count c.args.cx.p.now _ c.in_ok-temps-in-None.temps.items c.args.args.now
+                c.in_ok-temps-in-None.ensures.kinds,
+            places_small (length c.in_ok-temps-in-None.temps.items),
+            heavy (expression c.args.cx.p.now c.args.f),
+          ))
+          (omega (
+            arith,
+            c.requires.node.weight,
+            weights_heavy c.args.cx.p.now c.args.args.now,
+            kinds_count c.args.cx.p.now _ c.in_ok-temps-in-None.temps.items c.args.args.now
+                c.in_ok-temps-in-None.ensures.kinds,
+            places_small (length c.in_ok-temps-in-None.temps.items),
+            heavy (expression c.args.cx.p.now c.args.f),
+          ))
+          (omega (arith, c.requires.node.copies)) refl refl;
+      is = IfOk-weaker c.call_value.result _ _
+          (λ r f n. call_by_value _ c.requires.ordered c.requires.scene.ready c.args.cx.d.now _ _ _ n c.requires.node
+          c.written_by.ensures.spares (λ e h. c.unwrap_or-of.ensures ∙ c.facts.ensures.target e c.requires.scene.ready
+          h)
+          c.pos.ensures c.in_ok-v-in-None.ensures.is c.in_ok-temps-in-None.ensures.is (one_emits _ _ _ refl f))
+          c.call_value.ensures.pushed;
+    }
 
 pub calls::library-arguments-requires : goal.calls::library-arguments-requires
 calls::library-arguments-requires t c = (
@@ -1732,49 +1879,68 @@ calls::library-arguments-requires t c = (
   ),
 )
 
-pub calls::library-returns-in-Library-clause-lowered : goal.calls::library-returns-in-Library-clause-lowered
-calls::library-returns-in-Library-clause-lowered t c =
-    tail_pushed _ c.service.result _ c.in_ok-temps.ensures.lowered c.service.ensures.pushed
-    (λ g. service_lowered _ _ _ _ _ _ c.in_ok-temps.ensures.lowered.scene c.in-Library.op c.args.to _
-    (library_fits c.args.cx.p.now _ c.in-Library.op c.requires.node.service.takes c.requires.node.service.gives
-    c.args.args.now _ c.args.to c.args.k (subst
-    (λ z. ServiceAsks z c.requires.node.service.takes c.requires.node.service.gives) c.in-Library.is
-    (c.service_of.ensures.asks c.requires.node.service c.requires.node.there)) c.requires.node.fit
-    c.requires.node.gives c.in_ok-temps.ensures.kinds
-    (result_as c.args.to _ _ c.in_ok-temps.ensures.lowered refl c.requires.to)) g)
-    (omega (arith, c.requires.node.weight))
+pub calls::library-returns-in-Library : goal.calls::library-returns-in-Library
+calls::library-returns-in-Library t c =
+    record {
+      lowered = tail_pushed _ c.service.result _ c.in_ok-temps.ensures.lowered c.service.ensures.pushed
+          (λ g. service_lowered _ _ _ _ _ _ c.in_ok-temps.ensures.lowered.scene c.in-Library.op c.args.to _
+          (library_fits c.args.cx.p.now _ c.in-Library.op c.requires.node.service.takes c.requires.node.service.gives
+          c.args.args.now _ c.args.to c.args.k (subst
+          (λ z. ServiceAsks z c.requires.node.service.takes c.requires.node.service.gives) c.in-Library.is
+          (c.service_of.ensures.asks c.requires.node.service c.requires.node.there)) c.requires.node.fit
+          c.requires.node.gives c.in_ok-temps.ensures.kinds
+          (result_as c.args.to _ _ c.in_ok-temps.ensures.lowered refl c.requires.to)) g)
+          (omega (arith, c.requires.node.weight));
+      spends = last_pushed _ _ c.service.result c.in_ok-temps.ensures.spends c.service.ensures.pushed
+          (omega (
+            arith,
+            c.requires.node.weight,
+            weights_heavy c.args.cx.p.now c.args.args.now,
+            service_small c.in-Library.op,
+          )) (omega (
+            arith,
+            c.requires.node.weight,
+            weights_heavy c.args.cx.p.now c.args.args.now,
+            service_small c.in-Library.op,
+          ))
+          (omega (arith, c.requires.node.copies)) refl refl;
+      is = (let p = c.args.cx.p.now in
+          let asks = subst (λ z. ServiceAsks z c.requires.node.service.takes c.requires.node.service.gives)
+          c.in-Library.is
+          (c.service_of.ensures.asks c.requires.node.service c.requires.node.there) in
+          let served = is_served p c.args.k c.requires.node.service.takes c.requires.node.service.gives c.args.args.now
+          c.requires.node.fit c.requires.node.gives (called_services.Library c.in-Library.op) asks in
+          IfOk-weaker c.service.result _ _
+          (λ r f n. call_served _ c.requires.ordered c.requires.scene.ready.ordered
+          (service_as (called_services.Library c.in-Library.op)) n
+          (sym (ap service_as c.in-Library.is) ∙ c.service_of.ensures.is) served c.in_ok-temps.ensures.is
+          (library_serves c.in-Library.op _ _ _ asks (one_emits _ _ _ refl f))) c.service.ensures.pushed);
+    }
 
-pub calls::library-returns-in-Library-clause-spends : goal.calls::library-returns-in-Library-clause-spends
-calls::library-returns-in-Library-clause-spends t c =
-    last_pushed _ _ c.service.result c.in_ok-temps.ensures.spends c.service.ensures.pushed
-    (omega (
-      arith,
-      c.requires.node.weight,
-      weights_heavy c.args.cx.p.now c.args.args.now,
-      service_small c.in-Library.op,
-    )) (omega (
-      arith,
-      c.requires.node.weight,
-      weights_heavy c.args.cx.p.now c.args.args.now,
-      service_small c.in-Library.op,
-    ))
-    (omega (arith, c.requires.node.copies)) refl refl
-
-pub calls::library-returns-in-Exit-clause-lowered : goal.calls::library-returns-in-Exit-clause-lowered
-calls::library-returns-in-Exit-clause-lowered t c =
-    tail_pushed _ c.service-in-Exit.result _ c.in_ok-temps.ensures.lowered c.service-in-Exit.ensures.pushed
-    (λ g. service_lowered _ _ _ _ _ _ c.in_ok-temps.ensures.lowered.scene lib.Exit None _
-    (exit_fits c.args.cx.p.now _ c.requires.node.service.takes c.requires.node.service.gives c.args.args.now _
-    (subst (λ z. ServiceAsks z c.requires.node.service.takes c.requires.node.service.gives) c.in-Exit.is
-    (c.service_of.ensures.asks c.requires.node.service c.requires.node.there)) c.requires.node.fit
-    c.in_ok-temps.ensures.kinds) g) (omega (arith, c.requires.node.weight))
-
-pub calls::library-returns-in-Exit-clause-spends : goal.calls::library-returns-in-Exit-clause-spends
-calls::library-returns-in-Exit-clause-spends t c =
-    last_pushed _ _ c.service-in-Exit.result c.in_ok-temps.ensures.spends c.service-in-Exit.ensures.pushed
-    (omega (arith, c.requires.node.weight, weights_heavy c.args.cx.p.now c.args.args.now))
-    (omega (arith, c.requires.node.weight, weights_heavy c.args.cx.p.now c.args.args.now))
-    (omega (arith, c.requires.node.copies)) refl refl
+pub calls::library-returns-in-Exit : goal.calls::library-returns-in-Exit
+calls::library-returns-in-Exit t c =
+    record {
+      lowered = tail_pushed _ c.service-in-Exit.result _ c.in_ok-temps.ensures.lowered c.service-in-Exit.ensures.pushed
+          (λ g. service_lowered _ _ _ _ _ _ c.in_ok-temps.ensures.lowered.scene lib.Exit None _
+          (exit_fits c.args.cx.p.now _ c.requires.node.service.takes c.requires.node.service.gives c.args.args.now _
+          (subst (λ z. ServiceAsks z c.requires.node.service.takes c.requires.node.service.gives) c.in-Exit.is
+          (c.service_of.ensures.asks c.requires.node.service c.requires.node.there)) c.requires.node.fit
+          c.in_ok-temps.ensures.kinds) g) (omega (arith, c.requires.node.weight));
+      spends = last_pushed _ _ c.service-in-Exit.result c.in_ok-temps.ensures.spends c.service-in-Exit.ensures.pushed
+          (omega (arith, c.requires.node.weight, weights_heavy c.args.cx.p.now c.args.args.now))
+          (omega (arith, c.requires.node.weight, weights_heavy c.args.cx.p.now c.args.args.now))
+          (omega (arith, c.requires.node.copies)) refl refl;
+      is = (let p = c.args.cx.p.now in
+          let asks = subst (λ z. ServiceAsks z c.requires.node.service.takes c.requires.node.service.gives)
+          c.in-Exit.is
+          (c.service_of.ensures.asks c.requires.node.service c.requires.node.there) in
+          let served = is_served p c.args.k c.requires.node.service.takes c.requires.node.service.gives c.args.args.now
+          c.requires.node.fit c.requires.node.gives called_services.Exit asks in
+          IfOk-weaker c.service-in-Exit.result _ _
+          (λ r f n. call_served _ c.requires.ordered c.requires.scene.ready.ordered (service_as called_services.Exit) n
+          (sym (ap service_as c.in-Exit.is) ∙ c.service_of.ensures.is) served c.in_ok-temps.ensures.is
+          (one_emits _ _ _ refl f)) c.service-in-Exit.ensures.pushed);
+    }
 
 pub calls::library-intrinsic_value-requires : goal.calls::library-intrinsic_value-requires
 calls::library-intrinsic_value-requires t c =
@@ -1788,17 +1954,31 @@ calls::library-intrinsic_value-requires t c =
           (result_as c.args.to _ _ c.in_ok-temps.ensures.lowered refl c.requires.to);
     }
 
-pub calls::library-returns-in-Intrinsic-clause-lowered : goal.calls::library-returns-in-Intrinsic-clause-lowered
-calls::library-returns-in-Intrinsic-clause-lowered t c =
-    tail_grew _ _ c.intrinsic_value.result c.in_ok-temps.ensures.lowered c.intrinsic_value.ensures.grown
-    c.intrinsic_value.ensures.adds (omega (arith, c.requires.node.weight))
-
-pub calls::library-returns-in-Intrinsic-clause-spends : goal.calls::library-returns-in-Intrinsic-clause-spends
-calls::library-returns-in-Intrinsic-clause-spends t c =
-    last_and _ _ _ _ c.intrinsic_value.result c.in_ok-temps.ensures.spends c.intrinsic_value.ensures.spent
-    (omega (arith, c.requires.node.weight, weights_heavy c.args.cx.p.now c.args.args.now))
-    (omega (arith, c.requires.node.weight, weights_heavy c.args.cx.p.now c.args.args.now))
-    (omega (arith, c.requires.node.copies))
+pub calls::library-returns-in-Intrinsic : goal.calls::library-returns-in-Intrinsic
+calls::library-returns-in-Intrinsic t c =
+    record {
+      lowered = tail_grew _ _ c.intrinsic_value.result c.in_ok-temps.ensures.lowered c.intrinsic_value.ensures.grown
+          c.intrinsic_value.ensures.adds (omega (arith, c.requires.node.weight));
+      spends = last_and _ _ _ _ c.intrinsic_value.result c.in_ok-temps.ensures.spends c.intrinsic_value.ensures.spent
+          (omega (arith, c.requires.node.weight, weights_heavy c.args.cx.p.now c.args.args.now))
+          (omega (arith, c.requires.node.weight, weights_heavy c.args.cx.p.now c.args.args.now))
+          (omega (arith, c.requires.node.copies));
+      is = (let p = c.args.cx.p.now in
+          let i = c.in-Intrinsic.i in
+          let asks = subst (λ z. ServiceAsks z c.requires.node.service.takes c.requires.node.service.gives)
+          c.in-Intrinsic.is
+          (c.service_of.ensures.asks c.requires.node.service c.requires.node.there) in
+          let served = is_served p c.args.k c.requires.node.service.takes c.requires.node.service.gives c.args.args.now
+          c.requires.node.fit c.requires.node.gives (called_services.Intrinsic i) asks in
+          let long = has_length p _ c.requires.node.service.takes c.requires.node.service.gives c.args.args.now
+          c.in_ok-temps.temps.items c.second_temp-b.result i asks c.requires.node.fit c.in_ok-temps.ensures.kinds (cc)
+          in
+          IfOk-weaker c.intrinsic_value.result _ _
+          (λ r f n. call_served _ c.requires.ordered c.requires.scene.ready.ordered
+          (service_as (called_services.Intrinsic i)) n
+          (sym (ap service_as c.in-Intrinsic.is) ∙ c.service_of.ensures.is) served c.in_ok-temps.ensures.is
+          (intrinsic_serves i _ _ c.first_kind-kind.ensures.is (cc) (cc) f)) (c.intrinsic_value.ensures.emits long));
+    }
 
 pub calls::arguments-loop-a-init : goal.calls::arguments-loop-a-init
 calls::arguments-loop-a-init t c = (
@@ -1839,7 +2019,8 @@ calls::arguments-loop-a-preserved t c = (
       c.in_ok-t.ensures.lowered c.in_ok-t.ensures.spends)),
   let s = setting c.args.cx in
       let all = c.args.args.now in
-      let left = subst (λ z. ArgumentsSo s all c.args.out.now c.loop-a.out z c.loop-a.temps.items c.loop-a.behind.items)
+      let left = subst (λ z. ArgumentsSo s all c.args.out.now c.loop-a.out z c.loop-a.temps.items
+      c.loop-a.behind.items)
       (dropped all c.loop-a.a-index 0 (omega arith)) c.loop-a.invariant.1 in
       subst (λ z. ArgumentsSo s all c.args.out.now c.operand.new.out (drop (c.loop-a.a-index + 1) all) z
       c.pop.new.self.items) (sym c.in_ok-push.ensures.items)
@@ -1848,17 +2029,16 @@ calls::arguments-loop-a-preserved t c = (
       (λ v e. c.unwrap_or-later.ensures ∙ ap (λ z. unwrap_or z write.Any) e) c.in_ok-t.ensures.is),
 )
 
-pub expressions::operand-returns-in-Some-clause-has : goal.expressions::operand-returns-in-Some-clause-has
-expressions::operand-returns-in-Some-clause-has t c = c.in-Some.ensures.has _ c.requires.scene.housed
-
-pub expressions::operand-returns-in-Some-clause-lowered : goal.expressions::operand-returns-in-Some-clause-lowered
-expressions::operand-returns-in-Some-clause-lowered t c = at_most (start c.requires.scene) (omega arith)
-
-pub expressions::operand-returns-in-Some-clause-spends : goal.expressions::operand-returns-in-Some-clause-spends
-expressions::operand-returns-in-Some-clause-spends t c =
-    within nothing (omega (arith, heavy (expression c.args.cx.p.now c.args.k)))
-    (omega (arith, heavy (expression c.args.cx.p.now c.args.k)))
-    (omega arith)
+pub expressions::operand-returns-in-Some : goal.expressions::operand-returns-in-Some
+expressions::operand-returns-in-Some t c =
+    record {
+      has = c.in-Some.ensures.has _ c.requires.scene.housed;
+      lowered = at_most (start c.requires.scene) (omega arith);
+      spends = within nothing (omega (arith, heavy (expression c.args.cx.p.now c.args.k)))
+          (omega (arith, heavy (expression c.args.cx.p.now c.args.k)))
+          (omega arith);
+      is = operand_held _ _ c.in-Some.ensures.is;
+    }
 
 pub expressions::operand-temp-requires : goal.expressions::operand-temp-requires
 expressions::operand-temp-requires t c =
@@ -1883,70 +2063,59 @@ expressions::operand-value-requires t c = (
   ),
 )
 
-pub expressions::operand-returns-in_ok-value-in-None-clause-has :
-    goal.expressions::operand-returns-in_ok-value-in-None-clause-has
-expressions::operand-returns-in_ok-value-in-None-clause-has t c =
-    as_kind (still c.in_ok-t-in-None.ensures.has c.in_ok-value-in-None.ensures.lowered)
-    (c.kind.ensures c.requires.scene.ready)
+pub expressions::operand-returns-in_ok-value-in-None : goal.expressions::operand-returns-in_ok-value-in-None
+expressions::operand-returns-in_ok-value-in-None t c =
+    record {
+      has = as_kind (still c.in_ok-t-in-None.ensures.has c.in_ok-value-in-None.ensures.lowered)
+          (c.kind.ensures c.requires.scene.ready);
+      lowered = at_most (both (grew (start c.requires.scene) c.in_ok-t-in-None.ensures.grown
+          c.in_ok-t-in-None.ensures.adds)
+          c.in_ok-value-in-None.ensures.lowered) (omega (arith, heavy (expression c.args.cx.p.now c.args.k)));
+      spends = within (in_fresh _ c.in_ok-t-in-None.ensures.next c.in_ok-t-in-None.ensures.spent
+          c.in_ok-value-in-None.ensures.spends) (omega (arith, heavy (expression c.args.cx.p.now c.args.k)))
+          (omega (arith, heavy (expression c.args.cx.p.now c.args.k)))
+          (omega arith);
+      is = operand_made _ _ c.in_ok-t-in-None.ensures.next c.in_ok-t-in-None.ensures.emits
+          c.in_ok-value-in-None.ensures.is;
+    }
 
-pub expressions::operand-returns-in_ok-value-in-None-clause-lowered :
-    goal.expressions::operand-returns-in_ok-value-in-None-clause-lowered
-expressions::operand-returns-in_ok-value-in-None-clause-lowered t c =
-    at_most (both (grew (start c.requires.scene) c.in_ok-t-in-None.ensures.grown c.in_ok-t-in-None.ensures.adds)
-    c.in_ok-value-in-None.ensures.lowered) (omega (arith, heavy (expression c.args.cx.p.now c.args.k)))
+pub expressions::operand_in-returns-in-Some : goal.expressions::operand_in-returns-in-Some
+expressions::operand_in-returns-in-Some t c =
+    record {
+      holds = as_kind (c.in-Some.ensures.has _ c.requires.scene.housed) (sym (c.kind-kind.ensures
+          c.requires.scene.ready));
+      kind = c.kind-kind.ensures c.requires.scene.ready;
+      lowered = at_most (start c.requires.scene) (omega arith);
+      spends = within nothing (omega (
+        arith,
+        heavy (expression c.args.cx.p.now c.args.k),
+        extra_small c.args.cx.fixed (Some c.args.to),
+      ))
+          (omega (arith, heavy (expression c.args.cx.p.now c.args.k), extra_small c.args.cx.fixed (Some c.args.to)))
+          (omega arith);
+      is = operand_in_held _ _ c.in-Some.ensures.is;
+    }
 
-pub expressions::operand-returns-in_ok-value-in-None-clause-spends :
-    goal.expressions::operand-returns-in_ok-value-in-None-clause-spends
-expressions::operand-returns-in_ok-value-in-None-clause-spends t c =
-    within (in_fresh _ c.in_ok-t-in-None.ensures.next c.in_ok-t-in-None.ensures.spent
-    c.in_ok-value-in-None.ensures.spends) (omega (arith, heavy (expression c.args.cx.p.now c.args.k)))
-    (omega (arith, heavy (expression c.args.cx.p.now c.args.k)))
-    (omega arith)
+pub expressions::operand_in-returns-in_ok-value-in-None : goal.expressions::operand_in-returns-in_ok-value-in-None
+expressions::operand_in-returns-in_ok-value-in-None t c =
+    record {
+      holds = as_kind (still c.requires.to c.in_ok-value-in-None.ensures.lowered)
+          (sym (c.kind-kind.ensures c.requires.scene.ready));
+      kind = c.kind-kind.ensures c.requires.scene.ready;
+      lowered = c.in_ok-value-in-None.ensures.lowered;
+      spends = c.in_ok-value-in-None.ensures.spends;
+      is = operand_in_there _ c.in_ok-value-in-None.ensures.is;
+    }
 
-pub expressions::operand_in-returns-in-Some-clause-holds : goal.expressions::operand_in-returns-in-Some-clause-holds
-expressions::operand_in-returns-in-Some-clause-holds t c =
-    as_kind (c.in-Some.ensures.has _ c.requires.scene.housed) (sym (c.kind-kind.ensures c.requires.scene.ready))
-
-pub expressions::operand_in-returns-in-Some-clause-kind : goal.expressions::operand_in-returns-in-Some-clause-kind
-expressions::operand_in-returns-in-Some-clause-kind t c = c.kind-kind.ensures c.requires.scene.ready
-
-pub expressions::operand_in-returns-in-Some-clause-lowered : goal.expressions::operand_in-returns-in-Some-clause-lowered
-expressions::operand_in-returns-in-Some-clause-lowered t c = at_most (start c.requires.scene) (omega arith)
-
-pub expressions::operand_in-returns-in-Some-clause-spends : goal.expressions::operand_in-returns-in-Some-clause-spends
-expressions::operand_in-returns-in-Some-clause-spends t c =
-    within nothing (omega (
-      arith,
-      heavy (expression c.args.cx.p.now c.args.k),
-      extra_small c.args.cx.fixed (Some c.args.to),
-    ))
-    (omega (arith, heavy (expression c.args.cx.p.now c.args.k), extra_small c.args.cx.fixed (Some c.args.to)))
-    (omega arith)
-
-pub expressions::operand_in-returns-in_ok-value-in-None-clause-holds :
-    goal.expressions::operand_in-returns-in_ok-value-in-None-clause-holds
-expressions::operand_in-returns-in_ok-value-in-None-clause-holds t c =
-    as_kind (still c.requires.to c.in_ok-value-in-None.ensures.lowered)
-    (sym (c.kind-kind.ensures c.requires.scene.ready))
-
-pub expressions::operand_in-returns-in_ok-value-in-None-clause-kind :
-    goal.expressions::operand_in-returns-in_ok-value-in-None-clause-kind
-expressions::operand_in-returns-in_ok-value-in-None-clause-kind t c = c.kind-kind.ensures c.requires.scene.ready
-
-pub expressions::operand_in-returns-in_ok-value-in-None-clause-lowered :
-    goal.expressions::operand_in-returns-in_ok-value-in-None-clause-lowered
-expressions::operand_in-returns-in_ok-value-in-None-clause-lowered t c = c.in_ok-value-in-None.ensures.lowered
-
-pub expressions::operand_in-returns-in_ok-value-in-None-clause-spends :
-    goal.expressions::operand_in-returns-in_ok-value-in-None-clause-spends
-expressions::operand_in-returns-in_ok-value-in-None-clause-spends t c = c.in_ok-value-in-None.ensures.spends
-
-pub expressions::held-returns-clause-holds : goal.expressions::held-returns-clause-holds
-expressions::held-returns-clause-holds t c =
-    as_kind c.in_ok-temp.ensures.has (sym (c.kind.ensures c.requires.scene.ready))
-
-pub expressions::held-returns-clause-kind : goal.expressions::held-returns-clause-kind
-expressions::held-returns-clause-kind t c = c.kind.ensures c.requires.scene.ready
+pub expressions::held-returns : goal.expressions::held-returns
+expressions::held-returns t c =
+    record {
+      holds = as_kind c.in_ok-temp.ensures.has (sym (c.kind.ensures c.requires.scene.ready));
+      kind = c.kind.ensures c.requires.scene.ready;
+      lowered = search rules;
+      spends = search rules;
+      is = search rules;
+    }
 
 pub expressions::pair-held-requires : goal.expressions::pair-held-requires
 expressions::pair-held-requires t c = (
@@ -1979,40 +2148,35 @@ expressions::pair-held-requires-2 t c = (
   ),
 )
 
-pub expressions::pair-returns-clause-left : goal.expressions::pair-returns-clause-left
-expressions::pair-returns-clause-left t c = still c.in_ok-x.ensures.holds c.in_ok-y.ensures.lowered
-
-pub expressions::pair-returns-clause-right : goal.expressions::pair-returns-clause-right
-expressions::pair-returns-clause-right t c = c.in_ok-y.ensures.holds
-
-pub expressions::pair-returns-clause-left_kind : goal.expressions::pair-returns-clause-left_kind
-expressions::pair-returns-clause-left_kind t c = c.in_ok-x.ensures.kind
-
-pub expressions::pair-returns-clause-right_kind : goal.expressions::pair-returns-clause-right_kind
-expressions::pair-returns-clause-right_kind t c = c.in_ok-y.ensures.kind
-
-pub expressions::pair-returns-clause-lowered : goal.expressions::pair-returns-clause-lowered
-expressions::pair-returns-clause-lowered t c =
-    at_most (both c.in_ok-x.ensures.lowered c.in_ok-y.ensures.lowered) (omega (arith, c.requires.node.weight))
-
-pub expressions::pair-returns-clause-spends : goal.expressions::pair-returns-clause-spends
-expressions::pair-returns-clause-spends t c =
-    within (after c.in_ok-x.ensures.spends c.in_ok-y.ensures.spends)
-    (omega (
-      arith,
-      c.requires.node.weight,
-      heavy (expression c.args.cx.p.now c.args.k),
-      heavy (expression c.args.cx.p.now c.args.a),
-      heavy (expression c.args.cx.p.now c.args.b),
-    ))
-    (omega (
-      arith,
-      c.requires.node.weight,
-      heavy (expression c.args.cx.p.now c.args.k),
-      heavy (expression c.args.cx.p.now c.args.a),
-      heavy (expression c.args.cx.p.now c.args.b),
-    ))
-    (omega (arith, c.requires.node.copies))
+pub expressions::pair-returns : goal.expressions::pair-returns
+expressions::pair-returns t c =
+    record {
+      left = still c.in_ok-x.ensures.holds c.in_ok-y.ensures.lowered;
+      right = c.in_ok-y.ensures.holds;
+      left_kind = c.in_ok-x.ensures.kind;
+      right_kind = c.in_ok-y.ensures.kind;
+      lowered = at_most (both c.in_ok-x.ensures.lowered c.in_ok-y.ensures.lowered) (omega (
+        arith,
+        c.requires.node.weight,
+      ));
+      spends = within (after c.in_ok-x.ensures.spends c.in_ok-y.ensures.spends)
+          (omega (
+            arith,
+            c.requires.node.weight,
+            heavy (expression c.args.cx.p.now c.args.k),
+            heavy (expression c.args.cx.p.now c.args.a),
+            heavy (expression c.args.cx.p.now c.args.b),
+          ))
+          (omega (
+            arith,
+            c.requires.node.weight,
+            heavy (expression c.args.cx.p.now c.args.k),
+            heavy (expression c.args.cx.p.now c.args.a),
+            heavy (expression c.args.cx.p.now c.args.b),
+          ))
+          (omega (arith, c.requires.node.copies));
+      is = pair_both _ c.written.ensures c.in_ok-x.ensures.is c.in_ok-y.ensures.is;
+    }
 
 pub expressions::value-constant-requires-clause-to : goal.expressions::value-constant-requires-clause-to
 expressions::value-constant-requires-clause-to t c =
@@ -2021,17 +2185,19 @@ expressions::value-constant-requires-clause-to t c =
 pub expressions::value-constant-requires-clause-value : goal.expressions::value-constant-requires-clause-value
 expressions::value-constant-requires-clause-value t c = zero_fits _
 
-pub expressions::value-returns-in_default-clause-lowered : goal.expressions::value-returns-in_default-clause-lowered
-expressions::value-returns-in_default-clause-lowered t c =
-    tail_grew _ _ c.constant.result (start c.requires.scene) c.constant.ensures.grown c.constant.ensures.adds
-    (omega arith)
-
-pub expressions::value-returns-in_default-clause-spends : goal.expressions::value-returns-in_default-clause-spends
-expressions::value-returns-in_default-clause-spends t c =
-    last_and _ _ _ _ c.constant.result nothing c.constant.ensures.spent
-    (omega (arith, heavy (expression c.args.cx.p.now c.args.k), extra_small c.args.cx.fixed (Some c.args.to)))
-    (omega (arith, heavy (expression c.args.cx.p.now c.args.k), extra_small c.args.cx.fixed (Some c.args.to)))
-    (omega arith)
+pub expressions::value-returns-in_default : goal.expressions::value-returns-in_default
+expressions::value-returns-in_default t c =
+    record {
+      lowered = tail_grew _ _ c.constant.result (start c.requires.scene) c.constant.ensures.grown
+          c.constant.ensures.adds
+          (omega arith);
+      spends = last_and _ _ _ _ c.constant.result nothing c.constant.ensures.spent
+          (omega (arith, heavy (expression c.args.cx.p.now c.args.k), extra_small c.args.cx.fixed (Some c.args.to)))
+          (omega (arith, heavy (expression c.args.cx.p.now c.args.k), extra_small c.args.cx.fixed (Some c.args.to)))
+          (omega arith);
+      is = IfOk-weaker c.constant.result _ _ (λ r f. value_no_node _ c.requires.ordered c.requires.scene.ready.ordered
+          c.in_default.ensures f) c.constant.ensures.emits;
+    }
 
 pub expressions::value-constant-requires-in-Constant-clause-to :
     goal.expressions::value-constant-requires-in-Constant-clause-to
@@ -2047,17 +2213,25 @@ expressions::value-constant-requires-in-Constant-clause-value t c =
     c.in-Constant.is).is)) (node_at c.args.cx.d.now c.requires.scene.ready c.requires.typed c.in-Some.ensures
     c.in-Constant.is).fits
 
-pub expressions::value-returns-in-Constant-clause-lowered : goal.expressions::value-returns-in-Constant-clause-lowered
-expressions::value-returns-in-Constant-clause-lowered t c =
-    tail_grew _ _ c.constant-in-Constant.result
-    (start c.requires.scene) c.constant-in-Constant.ensures.grown c.constant-in-Constant.ensures.adds (omega arith)
-
-pub expressions::value-returns-in-Constant-clause-spends : goal.expressions::value-returns-in-Constant-clause-spends
-expressions::value-returns-in-Constant-clause-spends t c =
-    last_and _ _ _ _ c.constant-in-Constant.result nothing c.constant-in-Constant.ensures.spent
-    (omega (arith, heavy (expression c.args.cx.p.now c.args.k), extra_small c.args.cx.fixed (Some c.args.to)))
-    (omega (arith, heavy (expression c.args.cx.p.now c.args.k), extra_small c.args.cx.fixed (Some c.args.to)))
-    (omega arith)
+pub expressions::value-returns-in-Constant : goal.expressions::value-returns-in-Constant
+expressions::value-returns-in-Constant t c =
+    record {
+      lowered = tail_grew _ _ c.constant-in-Constant.result
+          (start c.requires.scene) c.constant-in-Constant.ensures.grown c.constant-in-Constant.ensures.adds (omega
+          arith);
+      spends = last_and _ _ _ _ c.constant-in-Constant.result nothing c.constant-in-Constant.ensures.spent
+          (omega (arith, heavy (expression c.args.cx.p.now c.args.k), extra_small c.args.cx.fixed (Some c.args.to)))
+          (omega (arith, heavy (expression c.args.cx.p.now c.args.k), extra_small c.args.cx.fixed (Some c.args.to)))
+          (omega arith);
+      is = (let n = node_at c.args.cx.d.now c.requires.scene.ready c.requires.typed c.in-Some.ensures c.in-Constant.is
+          in
+          let kind = c.kind-kind.ensures c.requires.scene.ready in
+          let fits = subst (λ z. constant_fits z c.in-Constant.n ≡ true) (sym (kind ∙ scalar_kind n.is)) n.fits in
+          IfOk-weaker c.constant-in-Constant.result _ _
+          (λ r f. value_constant _ c.requires.ordered c.requires.scene.ready.ordered
+          (record { node = _; there = c.in-Some.ensures; is = c.in-Constant.is }) kind fits (omega arith) f)
+          c.constant-in-Constant.ensures.emits);
+    }
 
 pub expressions::value-load-requires : goal.expressions::value-load-requires
 expressions::value-load-requires t c =
@@ -2541,17 +2715,20 @@ pub expressions::value-constant-requires-in-Literal-clause-value :
     goal.expressions::value-constant-requires-in-Literal-clause-value
 expressions::value-constant-requires-in-Literal-clause-value t c = zero_fits _
 
-pub expressions::value-returns-in-Literal-clause-lowered : goal.expressions::value-returns-in-Literal-clause-lowered
-expressions::value-returns-in-Literal-clause-lowered t c =
-    tail_grew _ _ c.constant-in-Literal.result
-    (start c.requires.scene) c.constant-in-Literal.ensures.grown c.constant-in-Literal.ensures.adds (omega arith)
-
-pub expressions::value-returns-in-Literal-clause-spends : goal.expressions::value-returns-in-Literal-clause-spends
-expressions::value-returns-in-Literal-clause-spends t c =
-    last_and _ _ _ _ c.constant-in-Literal.result nothing c.constant-in-Literal.ensures.spent
-    (omega (arith, heavy (expression c.args.cx.p.now c.args.k), extra_small c.args.cx.fixed (Some c.args.to)))
-    (omega (arith, heavy (expression c.args.cx.p.now c.args.k), extra_small c.args.cx.fixed (Some c.args.to)))
-    (omega arith)
+pub expressions::value-returns-in-Literal : goal.expressions::value-returns-in-Literal
+expressions::value-returns-in-Literal t c =
+    record {
+      lowered = tail_grew _ _ c.constant-in-Literal.result
+          (start c.requires.scene) c.constant-in-Literal.ensures.grown c.constant-in-Literal.ensures.adds (omega
+          arith);
+      spends = last_and _ _ _ _ c.constant-in-Literal.result nothing c.constant-in-Literal.ensures.spent
+          (omega (arith, heavy (expression c.args.cx.p.now c.args.k), extra_small c.args.cx.fixed (Some c.args.to)))
+          (omega (arith, heavy (expression c.args.cx.p.now c.args.k), extra_small c.args.cx.fixed (Some c.args.to)))
+          (omega arith);
+      is = IfOk-weaker c.constant-in-Literal.result _ _
+          (λ r f. value_no_value _ c.requires.ordered c.requires.scene.ready.ordered (is_node c.in-Some.ensures refl)
+          (never_value (setting c.args.cx) _ (place_of _ c.in-Literal.is)) f) c.constant-in-Literal.ensures.emits;
+    }
 
 pub expressions::choice-fork-fork-requires : goal.expressions::choice-fork-fork-requires
 expressions::choice-fork-fork-requires t c =
@@ -2631,37 +2808,41 @@ expressions::choice-value-requires-2 t c = (
   ),
 )
 
-pub expressions::choice-returns-clause-lowered : goal.expressions::choice-returns-clause-lowered
-expressions::choice-returns-clause-lowered t c =
-    tail_stands _ c.join_fork.result (opened (turned
-    (opened (opened (fork c.requires.scene c.fork-fork.ensures.forked) c.in_ok-condition.ensures.lowered)
-    c.in_ok-value.ensures.lowered) c.in_ok-turn_fork.ensures.turned c.in_ok-turn_fork.ensures.adds)
-    c.in_ok-value-2.ensures.lowered) c.join_fork.ensures.stands (omega (arith, c.requires.node.operands.weight))
-
-pub expressions::choice-returns-clause-spends : goal.expressions::choice-returns-clause-spends
-expressions::choice-returns-clause-spends t c =
-    last_pushed _ _ c.join_fork.result (after
-    (and (after (after (plainly (forked_spent c.fork-fork.ensures.forked)) c.in_ok-condition.ensures.spends)
-    c.in_ok-value.ensures.spends) c.in_ok-turn_fork.ensures.spent) c.in_ok-value-2.ensures.spends)
-    c.join_fork.ensures.stands (omega (
-      arith,
-      c.requires.node.operands.weight,
-      heavy (expression c.args.cx.p.now c.args.k),
-      heavy (expression c.args.cx.p.now c.args.c),
-      heavy (expression c.args.cx.p.now c.args.a),
-      heavy (expression c.args.cx.p.now c.args.b),
-      extra_small c.args.cx.fixed (Some c.args.to),
-    ))
-    (omega (
-      arith,
-      c.requires.node.operands.weight,
-      heavy (expression c.args.cx.p.now c.args.k),
-      heavy (expression c.args.cx.p.now c.args.c),
-      heavy (expression c.args.cx.p.now c.args.a),
-      heavy (expression c.args.cx.p.now c.args.b),
-      extra_small c.args.cx.fixed (Some c.args.to),
-    ))
-    (omega (arith, c.requires.node.operands.copies)) refl refl
+pub expressions::choice-returns : goal.expressions::choice-returns
+expressions::choice-returns t c =
+    record {
+      lowered = tail_stands _ c.join_fork.result (opened (turned
+          (opened (opened (fork c.requires.scene c.fork-fork.ensures.forked) c.in_ok-condition.ensures.lowered)
+          c.in_ok-value.ensures.lowered) c.in_ok-turn_fork.ensures.turned c.in_ok-turn_fork.ensures.adds)
+          c.in_ok-value-2.ensures.lowered) c.join_fork.ensures.stands (omega (arith, c.requires.node.operands.weight));
+      spends = last_pushed _ _ c.join_fork.result (after
+          (and (after (after (plainly (forked_spent c.fork-fork.ensures.forked)) c.in_ok-condition.ensures.spends)
+          c.in_ok-value.ensures.spends) c.in_ok-turn_fork.ensures.spent) c.in_ok-value-2.ensures.spends)
+          c.join_fork.ensures.stands (omega (
+            arith,
+            c.requires.node.operands.weight,
+            heavy (expression c.args.cx.p.now c.args.k),
+            heavy (expression c.args.cx.p.now c.args.c),
+            heavy (expression c.args.cx.p.now c.args.a),
+            heavy (expression c.args.cx.p.now c.args.b),
+            extra_small c.args.cx.fixed (Some c.args.to),
+          ))
+          (omega (
+            arith,
+            c.requires.node.operands.weight,
+            heavy (expression c.args.cx.p.now c.args.k),
+            heavy (expression c.args.cx.p.now c.args.c),
+            heavy (expression c.args.cx.p.now c.args.a),
+            heavy (expression c.args.cx.p.now c.args.b),
+            extra_small c.args.cx.fixed (Some c.args.to),
+          ))
+          (omega (arith, c.requires.node.operands.copies)) refl refl;
+      is = IfOk-weaker c.join_fork.result _ _
+          (λ r f n. value_choice _ c.requires.ordered c.requires.scene.ready.ordered c.args.cx.d.now n c.requires.node
+          c.fork-fork.ensures.forked c.in_ok-condition.ensures.is c.in_ok-value.ensures.is
+          c.in_ok-turn_fork.ensures.emits
+          c.in_ok-value-2.ensures.is (one_emits _ _ _ refl f)) c.join_fork.ensures.stands;
+    }
 
 pub expressions::comma-effect-requires : goal.expressions::comma-effect-requires
 expressions::comma-effect-requires t c = (
@@ -2696,31 +2877,33 @@ expressions::comma-value-requires t c = (
   ),
 )
 
-pub expressions::comma-returns-clause-lowered : goal.expressions::comma-returns-clause-lowered
-expressions::comma-returns-clause-lowered t c =
-    tail _ _ c.value.result c.in_ok-effect.ensures.lowered c.value.ensures.lowered
-    (omega (arith, c.requires.node.operands.weight))
-
-pub expressions::comma-returns-clause-spends : goal.expressions::comma-returns-clause-spends
-expressions::comma-returns-clause-spends t c =
-    last _ _ _ _ c.value.result c.in_ok-effect.ensures.spends c.value.ensures.spends
-    (omega (
-      arith,
-      c.requires.node.operands.weight,
-      heavy (expression c.args.cx.p.now c.args.k),
-      heavy (expression c.args.cx.p.now c.args.a),
-      heavy (expression c.args.cx.p.now c.args.b),
-      extra_small c.args.cx.fixed (Some c.args.to),
-    ))
-    (omega (
-      arith,
-      c.requires.node.operands.weight,
-      heavy (expression c.args.cx.p.now c.args.k),
-      heavy (expression c.args.cx.p.now c.args.a),
-      heavy (expression c.args.cx.p.now c.args.b),
-      extra_small c.args.cx.fixed (Some c.args.to),
-    ))
-    (omega (arith, c.requires.node.operands.copies))
+pub expressions::comma-returns : goal.expressions::comma-returns
+expressions::comma-returns t c =
+    record {
+      lowered = tail _ _ c.value.result c.in_ok-effect.ensures.lowered c.value.ensures.lowered
+          (omega (arith, c.requires.node.operands.weight));
+      spends = last _ _ _ _ c.value.result c.in_ok-effect.ensures.spends c.value.ensures.spends
+          (omega (
+            arith,
+            c.requires.node.operands.weight,
+            heavy (expression c.args.cx.p.now c.args.k),
+            heavy (expression c.args.cx.p.now c.args.a),
+            heavy (expression c.args.cx.p.now c.args.b),
+            extra_small c.args.cx.fixed (Some c.args.to),
+          ))
+          (omega (
+            arith,
+            c.requires.node.operands.weight,
+            heavy (expression c.args.cx.p.now c.args.k),
+            heavy (expression c.args.cx.p.now c.args.a),
+            heavy (expression c.args.cx.p.now c.args.b),
+            extra_small c.args.cx.fixed (Some c.args.to),
+          ))
+          (omega (arith, c.requires.node.operands.copies));
+      is = IfOk-weaker c.value.result _ _
+          (λ r h n. value_comma _ c.requires.ordered c.requires.scene.ready.ordered c.args.cx.d.now n c.requires.node
+          c.in_ok-effect.ensures.is h) c.value.ensures.is;
+    }
 
 pub expressions::integer-pair-requires : goal.expressions::integer-pair-requires
 expressions::integer-pair-requires t c = (
@@ -2763,31 +2946,34 @@ expressions::integer-whole-requires-clause-right t c =
     (c.int_kind.ensures _ (c.kind.ensures c.requires.scene.ready ∙ scalar_kind c.requires.node.is)))
     (sym (c.in_ok-x.ensures.right_kind ∙ scalar_kind c.requires.node.right)) c.requires.node.right_fits
 
-pub expressions::integer-returns-clause-lowered : goal.expressions::integer-returns-clause-lowered
-expressions::integer-returns-clause-lowered t c =
-    tail_grew _ _ c.whole.result c.in_ok-x.ensures.lowered c.whole.ensures.grown c.whole.ensures.adds
-    (omega (arith, c.requires.node.operands.weight))
-
-pub expressions::integer-returns-clause-spends : goal.expressions::integer-returns-clause-spends
-expressions::integer-returns-clause-spends t c =
-    last_and _ _ _ _ c.whole.result c.in_ok-x.ensures.spends c.whole.ensures.spent
-    (omega (
-      arith,
-      c.requires.node.operands.weight,
-      heavy (expression c.args.cx.p.now c.args.k),
-      heavy (expression c.args.cx.p.now c.args.a),
-      heavy (expression c.args.cx.p.now c.args.b),
-      extra_small c.args.cx.fixed (Some c.args.to),
-    ))
-    (omega (
-      arith,
-      c.requires.node.operands.weight,
-      heavy (expression c.args.cx.p.now c.args.k),
-      heavy (expression c.args.cx.p.now c.args.a),
-      heavy (expression c.args.cx.p.now c.args.b),
-      extra_small c.args.cx.fixed (Some c.args.to),
-    ))
-    (omega (arith, c.requires.node.operands.copies))
+pub expressions::integer-returns : goal.expressions::integer-returns
+expressions::integer-returns t c =
+    record {
+      lowered = tail_grew _ _ c.whole.result c.in_ok-x.ensures.lowered c.whole.ensures.grown c.whole.ensures.adds
+          (omega (arith, c.requires.node.operands.weight));
+      spends = last_and _ _ _ _ c.whole.result c.in_ok-x.ensures.spends c.whole.ensures.spent
+          (omega (
+            arith,
+            c.requires.node.operands.weight,
+            heavy (expression c.args.cx.p.now c.args.k),
+            heavy (expression c.args.cx.p.now c.args.a),
+            heavy (expression c.args.cx.p.now c.args.b),
+            extra_small c.args.cx.fixed (Some c.args.to),
+          ))
+          (omega (
+            arith,
+            c.requires.node.operands.weight,
+            heavy (expression c.args.cx.p.now c.args.k),
+            heavy (expression c.args.cx.p.now c.args.a),
+            heavy (expression c.args.cx.p.now c.args.b),
+            extra_small c.args.cx.fixed (Some c.args.to),
+          ))
+          (omega (arith, c.requires.node.operands.copies));
+      is = IfOk-weaker c.whole.result _ _
+          (λ r f n. value_integer _ c.requires.ordered c.requires.scene.ready.ordered c.args.cx.d.now n c.requires.node
+          (λ z e. c.int_kind.ensures z (c.kind.ensures c.requires.scene.ready ∙ e)) c.in_ok-x.ensures.right_kind
+          c.in_ok-x.ensures.is f) c.whole.ensures.emits;
+    }
 
 pub expressions::capability-pair-requires : goal.expressions::capability-pair-requires
 expressions::capability-pair-requires t c = (
@@ -2821,7 +3007,8 @@ expressions::capability-derived-requires-clause-x t c =
     ∙ ap kinds.Cap (sym (c.is_signed-signed.ensures _
     (c.kind.ensures c.requires.scene.ready ∙ scalar_kind c.requires.node.is))))
 
-pub expressions::capability-derived-requires-clause-x_kind : goal.expressions::capability-derived-requires-clause-x_kind
+pub expressions::capability-derived-requires-clause-x_kind :
+    goal.expressions::capability-derived-requires-clause-x_kind
 expressions::capability-derived-requires-clause-x_kind t c =
     c.in_ok-x.ensures.left_kind ∙ scalar_kind c.requires.node.left
     ∙ ap kinds.Cap (sym (c.is_signed-signed.ensures _
@@ -2830,31 +3017,36 @@ expressions::capability-derived-requires-clause-x_kind t c =
 pub expressions::capability-derived-requires-clause-y : goal.expressions::capability-derived-requires-clause-y
 expressions::capability-derived-requires-clause-y t c = c.in_ok-x.ensures.right
 
-pub expressions::capability-returns-clause-lowered : goal.expressions::capability-returns-clause-lowered
-expressions::capability-returns-clause-lowered t c =
-    tail_grew _ _ c.derived.result c.in_ok-x.ensures.lowered c.derived.ensures.grown c.derived.ensures.adds
-    (omega (arith, c.requires.node.operands.weight))
-
-pub expressions::capability-returns-clause-spends : goal.expressions::capability-returns-clause-spends
-expressions::capability-returns-clause-spends t c =
-    last_and _ _ _ _ c.derived.result c.in_ok-x.ensures.spends c.derived.ensures.spent
-    (omega (
-      arith,
-      c.requires.node.operands.weight,
-      heavy (expression c.args.cx.p.now c.args.k),
-      heavy (expression c.args.cx.p.now c.args.a),
-      heavy (expression c.args.cx.p.now c.args.b),
-      extra_small c.args.cx.fixed (Some c.args.to),
-    ))
-    (omega (
-      arith,
-      c.requires.node.operands.weight,
-      heavy (expression c.args.cx.p.now c.args.k),
-      heavy (expression c.args.cx.p.now c.args.a),
-      heavy (expression c.args.cx.p.now c.args.b),
-      extra_small c.args.cx.fixed (Some c.args.to),
-    ))
-    (omega (arith, c.requires.node.operands.copies))
+pub expressions::capability-returns : goal.expressions::capability-returns
+expressions::capability-returns t c =
+    record {
+      lowered = tail_grew _ _ c.derived.result c.in_ok-x.ensures.lowered c.derived.ensures.grown c.derived.ensures.adds
+          (omega (arith, c.requires.node.operands.weight));
+      spends = last_and _ _ _ _ c.derived.result c.in_ok-x.ensures.spends c.derived.ensures.spent
+          (omega (
+            arith,
+            c.requires.node.operands.weight,
+            heavy (expression c.args.cx.p.now c.args.k),
+            heavy (expression c.args.cx.p.now c.args.a),
+            heavy (expression c.args.cx.p.now c.args.b),
+            extra_small c.args.cx.fixed (Some c.args.to),
+          ))
+          (omega (
+            arith,
+            c.requires.node.operands.weight,
+            heavy (expression c.args.cx.p.now c.args.k),
+            heavy (expression c.args.cx.p.now c.args.a),
+            heavy (expression c.args.cx.p.now c.args.b),
+            extra_small c.args.cx.fixed (Some c.args.to),
+          ))
+          (omega (arith, c.requires.node.operands.copies));
+      is = IfOk-weaker c.derived.result _ _
+          (λ r f n. value_capability _ c.requires.ordered c.requires.scene.ready.ordered c.args.cx.d.now n
+          c.requires.node
+          (λ y e. c.is_signed-signed.ensures y (c.kind.ensures c.requires.scene.ready ∙ e))
+          c.in_ok-x.ensures.right_kind
+          c.in_ok-x.ensures.is f) c.derived.ensures.emits;
+    }
 
 pub expressions::distance-pair-requires : goal.expressions::distance-pair-requires
 expressions::distance-pair-requires t c = (
@@ -2887,40 +3079,48 @@ pub expressions::distance-difference-requires-clause-b : goal.expressions::dista
 expressions::distance-difference-requires-clause-b t c =
     as_kind c.in_ok-x.ensures.right (c.in_ok-x.ensures.right_kind ∙ scalar_kind c.requires.node.right)
 
-pub expressions::distance-returns-clause-lowered : goal.expressions::distance-returns-clause-lowered
-expressions::distance-returns-clause-lowered t c =
-    tail_grew _ _ c.difference.result c.in_ok-x.ensures.lowered c.difference.ensures.grown c.difference.ensures.adds
-    (omega (arith, c.requires.node.operands.weight))
+pub expressions::distance-returns : goal.expressions::distance-returns
+expressions::distance-returns t c =
+    record {
+      lowered = tail_grew _ _ c.difference.result c.in_ok-x.ensures.lowered c.difference.ensures.grown
+          c.difference.ensures.adds
+          (omega (arith, c.requires.node.operands.weight));
+      spends = last_and _ _ _ _ c.difference.result c.in_ok-x.ensures.spends c.difference.ensures.spent
+          (omega (
+            arith,
+            c.requires.node.operands.weight,
+            heavy (expression c.args.cx.p.now c.args.k),
+            heavy (expression c.args.cx.p.now c.args.a),
+            heavy (expression c.args.cx.p.now c.args.b),
+            extra_small c.args.cx.fixed (Some c.args.to),
+          ))
+          (omega (
+            arith,
+            c.requires.node.operands.weight,
+            heavy (expression c.args.cx.p.now c.args.k),
+            heavy (expression c.args.cx.p.now c.args.a),
+            heavy (expression c.args.cx.p.now c.args.b),
+            extra_small c.args.cx.fixed (Some c.args.to),
+          ))
+          (omega (arith, c.requires.node.operands.copies));
+      is = (let ready = c.requires.scene.ready in
+          IfOk-weaker c.difference.result _ _
+          (λ r f n. value_distance _ c.requires.ordered ready.ordered c.args.cx.d.now n c.requires.node
+          (subst (IsPointed c.args.cx.p.now.types (type_at c.args.cx.p.now c.args.a)) (sym c.unwrap_or-size.ensures)
+          (given_is _ c.pointed_size.result 0 (c.pointed_size.ensures.is ready ∙ points_there c.requires.node.pointed)
+          (c.pointed_size.ensures.size ready))) c.in_ok-x.ensures.is f) c.difference.ensures.emits);
+    }
 
-pub expressions::distance-returns-clause-spends : goal.expressions::distance-returns-clause-spends
-expressions::distance-returns-clause-spends t c =
-    last_and _ _ _ _ c.difference.result c.in_ok-x.ensures.spends c.difference.ensures.spent
-    (omega (
-      arith,
-      c.requires.node.operands.weight,
-      heavy (expression c.args.cx.p.now c.args.k),
-      heavy (expression c.args.cx.p.now c.args.a),
-      heavy (expression c.args.cx.p.now c.args.b),
-      extra_small c.args.cx.fixed (Some c.args.to),
-    ))
-    (omega (
-      arith,
-      c.requires.node.operands.weight,
-      heavy (expression c.args.cx.p.now c.args.k),
-      heavy (expression c.args.cx.p.now c.args.a),
-      heavy (expression c.args.cx.p.now c.args.b),
-      extra_small c.args.cx.fixed (Some c.args.to),
-    ))
-    (omega (arith, c.requires.node.operands.copies))
-
-pub expressions::effect-returns-in_default-clause-lowered : goal.expressions::effect-returns-in_default-clause-lowered
-expressions::effect-returns-in_default-clause-lowered t c = at_most (start c.requires.scene) (omega arith)
-
-pub expressions::effect-returns-in_default-clause-spends : goal.expressions::effect-returns-in_default-clause-spends
-expressions::effect-returns-in_default-clause-spends t c =
-    within nothing (omega (arith, heavy (expression c.args.cx.p.now c.args.k)))
-    (omega (arith, heavy (expression c.args.cx.p.now c.args.k)))
-    (omega arith)
+pub expressions::effect-returns-in_default : goal.expressions::effect-returns-in_default
+expressions::effect-returns-in_default t c =
+    record {
+      lowered = at_most (start c.requires.scene) (omega arith);
+      spends = within nothing (omega (arith, heavy (expression c.args.cx.p.now c.args.k)))
+          (omega (arith, heavy (expression c.args.cx.p.now c.args.k)))
+          (omega arith);
+      is = effect_no_node _ c.requires.ordered c.requires.scene.ready.ordered _ _ c.in_default.ensures;
+      places = place_effect_no_node _ c.requires.ordered c.requires.scene.ready.ordered _ _ c.in_default.ensures;
+    }
 
 pub expressions::effect-effect-requires : goal.expressions::effect-effect-requires
 expressions::effect-effect-requires t c =
@@ -2944,37 +3144,42 @@ expressions::effect-effect-requires t c =
       ),
     )
 
-pub expressions::effect-returns-in-Convert-clause-lowered : goal.expressions::effect-returns-in-Convert-clause-lowered
-expressions::effect-returns-in-Convert-clause-lowered t c =
-    tail _ _ c.effect.result (start c.requires.scene) c.effect.ensures.lowered
-    (omega (
-      arith,
-      (node_at c.args.cx.d.now c.requires.scene.ready c.requires.typed c.in-Some.ensures
-          c.in-Convert.is).weight,
-    ))
-
-pub expressions::effect-returns-in-Convert-clause-spends : goal.expressions::effect-returns-in-Convert-clause-spends
-expressions::effect-returns-in-Convert-clause-spends t c =
-    last _ _ _ _ c.effect.result nothing c.effect.ensures.spends
-    (omega (
-      arith,
-      (node_at c.args.cx.d.now c.requires.scene.ready c.requires.typed c.in-Some.ensures
-          c.in-Convert.is).weight,
-      heavy (expression c.args.cx.p.now c.args.k),
-      heavy (expression c.args.cx.p.now c.in-Convert.a),
-    ))
-    (omega (
-      arith,
-      (node_at c.args.cx.d.now c.requires.scene.ready c.requires.typed c.in-Some.ensures
-          c.in-Convert.is).weight,
-      heavy (expression c.args.cx.p.now c.args.k),
-      heavy (expression c.args.cx.p.now c.in-Convert.a),
-    ))
-    (omega (
-      arith,
-      (node_at c.args.cx.d.now c.requires.scene.ready c.requires.typed c.in-Some.ensures
-          c.in-Convert.is).copies,
-    ))
+pub expressions::effect-returns-in-Convert : goal.expressions::effect-returns-in-Convert
+expressions::effect-returns-in-Convert t c =
+    record {
+      lowered = tail _ _ c.effect.result (start c.requires.scene) c.effect.ensures.lowered
+          (omega (
+            arith,
+            (node_at c.args.cx.d.now c.requires.scene.ready c.requires.typed c.in-Some.ensures
+                c.in-Convert.is).weight,
+          ));
+      spends = last _ _ _ _ c.effect.result nothing c.effect.ensures.spends
+          (omega (
+            arith,
+            (node_at c.args.cx.d.now c.requires.scene.ready c.requires.typed c.in-Some.ensures
+                c.in-Convert.is).weight,
+            heavy (expression c.args.cx.p.now c.args.k),
+            heavy (expression c.args.cx.p.now c.in-Convert.a),
+          ))
+          (omega (
+            arith,
+            (node_at c.args.cx.d.now c.requires.scene.ready c.requires.typed c.in-Some.ensures
+                c.in-Convert.is).weight,
+            heavy (expression c.args.cx.p.now c.args.k),
+            heavy (expression c.args.cx.p.now c.in-Convert.a),
+          ))
+          (omega (
+            arith,
+            (node_at c.args.cx.d.now c.requires.scene.ready c.requires.typed c.in-Some.ensures
+                c.in-Convert.is).copies,
+          ));
+      is = IfOk-weaker c.effect.result _ _
+          (λ r h. effect_converted _ c.requires.ordered c.requires.scene.ready.ordered
+          (record { node = _; there = c.in-Some.ensures; is = c.in-Convert.is }) h) c.effect.ensures.is;
+      places = IfOk-weaker c.effect.result _ _
+          (λ r h. place_effect_converted _ c.requires.ordered c.requires.scene.ready.ordered
+          (record { node = _; there = c.in-Some.ensures; is = c.in-Convert.is }) h) c.effect.ensures.places;
+    }
 
 pub expressions::effect-effect-requires-in-Deref : goal.expressions::effect-effect-requires-in-Deref
 expressions::effect-effect-requires-in-Deref t c =
@@ -2998,37 +3203,42 @@ expressions::effect-effect-requires-in-Deref t c =
       ),
     )
 
-pub expressions::effect-returns-in-Deref-clause-lowered : goal.expressions::effect-returns-in-Deref-clause-lowered
-expressions::effect-returns-in-Deref-clause-lowered t c =
-    tail _ _ c.effect-in-Deref.result (start c.requires.scene) c.effect-in-Deref.ensures.lowered
-    (omega (
-      arith,
-      (node_at c.args.cx.d.now c.requires.scene.ready c.requires.typed c.in-Some.ensures
-          c.in-Deref.is).operands.weight,
-    ))
-
-pub expressions::effect-returns-in-Deref-clause-spends : goal.expressions::effect-returns-in-Deref-clause-spends
-expressions::effect-returns-in-Deref-clause-spends t c =
-    last _ _ _ _ c.effect-in-Deref.result nothing c.effect-in-Deref.ensures.spends
-    (omega (
-      arith,
-      (node_at c.args.cx.d.now c.requires.scene.ready c.requires.typed c.in-Some.ensures
-          c.in-Deref.is).operands.weight,
-      heavy (expression c.args.cx.p.now c.args.k),
-      heavy (expression c.args.cx.p.now c.in-Deref.a),
-    ))
-    (omega (
-      arith,
-      (node_at c.args.cx.d.now c.requires.scene.ready c.requires.typed c.in-Some.ensures
-          c.in-Deref.is).operands.weight,
-      heavy (expression c.args.cx.p.now c.args.k),
-      heavy (expression c.args.cx.p.now c.in-Deref.a),
-    ))
-    (omega (
-      arith,
-      (node_at c.args.cx.d.now c.requires.scene.ready c.requires.typed c.in-Some.ensures
-          c.in-Deref.is).operands.copies,
-    ))
+pub expressions::effect-returns-in-Deref : goal.expressions::effect-returns-in-Deref
+expressions::effect-returns-in-Deref t c =
+    record {
+      lowered = tail _ _ c.effect-in-Deref.result (start c.requires.scene) c.effect-in-Deref.ensures.lowered
+          (omega (
+            arith,
+            (node_at c.args.cx.d.now c.requires.scene.ready c.requires.typed c.in-Some.ensures
+                c.in-Deref.is).operands.weight,
+          ));
+      spends = last _ _ _ _ c.effect-in-Deref.result nothing c.effect-in-Deref.ensures.spends
+          (omega (
+            arith,
+            (node_at c.args.cx.d.now c.requires.scene.ready c.requires.typed c.in-Some.ensures
+                c.in-Deref.is).operands.weight,
+            heavy (expression c.args.cx.p.now c.args.k),
+            heavy (expression c.args.cx.p.now c.in-Deref.a),
+          ))
+          (omega (
+            arith,
+            (node_at c.args.cx.d.now c.requires.scene.ready c.requires.typed c.in-Some.ensures
+                c.in-Deref.is).operands.weight,
+            heavy (expression c.args.cx.p.now c.args.k),
+            heavy (expression c.args.cx.p.now c.in-Deref.a),
+          ))
+          (omega (
+            arith,
+            (node_at c.args.cx.d.now c.requires.scene.ready c.requires.typed c.in-Some.ensures
+                c.in-Deref.is).operands.copies,
+          ));
+      is = IfOk-weaker c.effect-in-Deref.result _ _
+          (λ r h. effect_deref _ c.requires.ordered c.requires.scene.ready.ordered
+          (record { node = _; there = c.in-Some.ensures; is = c.in-Deref.is }) h) c.effect-in-Deref.ensures.is;
+      places = IfOk-weaker c.effect-in-Deref.result _ _
+          (λ r h. place_effect_deref _ c.requires.ordered c.requires.scene.ready.ordered
+          (record { node = _; there = c.in-Some.ensures; is = c.in-Deref.is }) h) c.effect-in-Deref.ensures.is;
+    }
 
 pub expressions::effect-effect-requires-in-Member : goal.expressions::effect-effect-requires-in-Member
 expressions::effect-effect-requires-in-Member t c =
@@ -3053,37 +3263,42 @@ expressions::effect-effect-requires-in-Member t c =
       ),
     )
 
-pub expressions::effect-returns-in-Member-clause-lowered : goal.expressions::effect-returns-in-Member-clause-lowered
-expressions::effect-returns-in-Member-clause-lowered t c =
-    tail _ _ c.effect-in-Member.result (start c.requires.scene) c.effect-in-Member.ensures.lowered
-    (omega (
-      arith,
-      (node_at c.args.cx.d.now c.requires.scene.ready c.requires.typed c.in-Some.ensures
-          c.in-Member.is).weight,
-    ))
-
-pub expressions::effect-returns-in-Member-clause-spends : goal.expressions::effect-returns-in-Member-clause-spends
-expressions::effect-returns-in-Member-clause-spends t c =
-    last _ _ _ _ c.effect-in-Member.result nothing c.effect-in-Member.ensures.spends
-    (omega (
-      arith,
-      (node_at c.args.cx.d.now c.requires.scene.ready c.requires.typed c.in-Some.ensures
-          c.in-Member.is).weight,
-      heavy (expression c.args.cx.p.now c.args.k),
-      heavy (expression c.args.cx.p.now c.in-Member.a),
-    ))
-    (omega (
-      arith,
-      (node_at c.args.cx.d.now c.requires.scene.ready c.requires.typed c.in-Some.ensures
-          c.in-Member.is).weight,
-      heavy (expression c.args.cx.p.now c.args.k),
-      heavy (expression c.args.cx.p.now c.in-Member.a),
-    ))
-    (omega (
-      arith,
-      (node_at c.args.cx.d.now c.requires.scene.ready c.requires.typed c.in-Some.ensures
-          c.in-Member.is).copies,
-    ))
+pub expressions::effect-returns-in-Member : goal.expressions::effect-returns-in-Member
+expressions::effect-returns-in-Member t c =
+    record {
+      lowered = tail _ _ c.effect-in-Member.result (start c.requires.scene) c.effect-in-Member.ensures.lowered
+          (omega (
+            arith,
+            (node_at c.args.cx.d.now c.requires.scene.ready c.requires.typed c.in-Some.ensures
+                c.in-Member.is).weight,
+          ));
+      spends = last _ _ _ _ c.effect-in-Member.result nothing c.effect-in-Member.ensures.spends
+          (omega (
+            arith,
+            (node_at c.args.cx.d.now c.requires.scene.ready c.requires.typed c.in-Some.ensures
+                c.in-Member.is).weight,
+            heavy (expression c.args.cx.p.now c.args.k),
+            heavy (expression c.args.cx.p.now c.in-Member.a),
+          ))
+          (omega (
+            arith,
+            (node_at c.args.cx.d.now c.requires.scene.ready c.requires.typed c.in-Some.ensures
+                c.in-Member.is).weight,
+            heavy (expression c.args.cx.p.now c.args.k),
+            heavy (expression c.args.cx.p.now c.in-Member.a),
+          ))
+          (omega (
+            arith,
+            (node_at c.args.cx.d.now c.requires.scene.ready c.requires.typed c.in-Some.ensures
+                c.in-Member.is).copies,
+          ));
+      is = IfOk-weaker c.effect-in-Member.result _ _
+          (λ r h. effect_member _ c.requires.ordered c.requires.scene.ready.ordered
+          (record { node = _; there = c.in-Some.ensures; is = c.in-Member.is }) h) c.effect-in-Member.ensures.places;
+      places = IfOk-weaker c.effect-in-Member.result _ _
+          (λ r h. place_effect_member _ c.requires.ordered c.requires.scene.ready.ordered
+          (record { node = _; there = c.in-Some.ensures; is = c.in-Member.is }) h) c.effect-in-Member.ensures.places;
+    }
 
 pub expressions::effect-assignment-requires : goal.expressions::effect-assignment-requires
 expressions::effect-assignment-requires t c =
@@ -3253,7 +3468,8 @@ expressions::effect-guarded_effect-requires-in-Or t c =
             (
               c.requires.scene,
               (
-                (node_at c.args.cx.d.now c.requires.scene.ready c.requires.typed c.in-Some.ensures c.in-Or.is).operands,
+                (node_at c.args.cx.d.now c.requires.scene.ready c.requires.typed c.in-Some.ensures
+                    c.in-Or.is).operands,
                 c.requires.room,
               ),
             ),
@@ -3282,15 +3498,30 @@ expressions::effect-read_effect-requires t c =
       ),
     )
 
-pub expressions::effect-returns-in-Assign-clause-lowered : goal.expressions::effect-returns-in-Assign-clause-lowered
-expressions::effect-returns-in-Assign-clause-lowered t c =
-    tail _ _ c.assignment.result (start c.requires.scene) c.assignment.ensures.lowered (omega arith)
-
-pub expressions::effect-returns-in-Assign-clause-spends : goal.expressions::effect-returns-in-Assign-clause-spends
-expressions::effect-returns-in-Assign-clause-spends t c =
-    last _ _ _ _ c.assignment.result nothing c.assignment.ensures.spends (omega (arith, extra_none c.args.cx.fixed))
-    (omega (arith, extra_none c.args.cx.fixed))
-    (omega arith)
+pub expressions::effect-returns-in-Assign : goal.expressions::effect-returns-in-Assign
+expressions::effect-returns-in-Assign t c =
+    record {
+      lowered = tail _ _ c.assignment.result (start c.requires.scene) c.assignment.ensures.lowered (omega arith);
+      spends = last _ _ _ _ c.assignment.result nothing c.assignment.ensures.spends (omega (
+        arith,
+        extra_none
+            c.args.cx.fixed,
+      ))
+          (omega (arith, extra_none c.args.cx.fixed))
+          (omega arith);
+      is = (let n = is_node c.in-Some.ensures c.in-Assign.is in
+          let whole = whole_assign c.args.cx.d.now c.requires.scene.ready c.requires.typed c.in-Some.ensures _ _
+          c.in-Assign.is in
+          both_weaker c.assignment.result _ _ _
+          (λ r h f. effect_assigned _ c.requires.ordered c.requires.scene.ready.ordered n whole (h n) (f n))
+          c.assignment.ensures.is c.assignment.ensures.copies);
+      places = (let n = is_node c.in-Some.ensures c.in-Assign.is in
+          let whole = whole_assign c.args.cx.d.now c.requires.scene.ready c.requires.typed c.in-Some.ensures _ _
+          c.in-Assign.is in
+          both_weaker c.assignment.result _ _ _
+          (λ r h f. place_effect_assigned _ c.requires.ordered c.requires.scene.ready.ordered n whole (h n) (f n))
+          c.assignment.ensures.is c.assignment.ensures.copies);
+    }
 
 pub expressions::effect-compound-requires : goal.expressions::effect-compound-requires
 expressions::effect-compound-requires t c =
@@ -3331,47 +3562,90 @@ expressions::effect-compound-requires t c =
       ),
     )
 
-pub expressions::effect-returns-in-Compound-clause-lowered : goal.expressions::effect-returns-in-Compound-clause-lowered
-expressions::effect-returns-in-Compound-clause-lowered t c =
-    tail _ _ c.compound.result (start c.requires.scene) c.compound.ensures.lowered (omega arith)
+pub expressions::effect-returns-in-Compound : goal.expressions::effect-returns-in-Compound
+expressions::effect-returns-in-Compound t c =
+    record {
+      lowered = tail _ _ c.compound.result (start c.requires.scene) c.compound.ensures.lowered (omega arith);
+      spends = last _ _ _ _ c.compound.result nothing c.compound.ensures.spends (omega (
+        arith,
+        extra_none
+            c.args.cx.fixed,
+      ))
+          (omega (arith, extra_none c.args.cx.fixed))
+          (omega arith);
+      is = (let n = node_at c.args.cx.d.now c.requires.scene.ready c.requires.typed c.in-Some.ensures c.in-Compound.is
+          in
+          let there = is_node c.in-Some.ensures c.in-Compound.is in
+          let w = has_compound c.args.cx.d.now c.requires.scene.ready c.requires.typed c.in-Some.ensures _ _ _ _
+          c.in-Compound.is in
+          IfOk-weaker c.compound.result _ _
+          (λ r h. effect_changed _ c.requires.ordered c.requires.scene.ready.ordered there refl w
+          (h _ _ there n c.change_of-change.ensures.is)) c.compound.ensures.is);
+      places = (let n = node_at c.args.cx.d.now c.requires.scene.ready c.requires.typed c.in-Some.ensures
+          c.in-Compound.is in
+          let there = is_node c.in-Some.ensures c.in-Compound.is in
+          IfOk-weaker c.compound.result _ _
+          (λ r h. place_effect_never _ c.requires.ordered c.requires.scene.ready.ordered there refl
+          (h _ _ there n c.change_of-change.ensures.is)) c.compound.ensures.is);
+    }
 
-pub expressions::effect-returns-in-Compound-clause-spends : goal.expressions::effect-returns-in-Compound-clause-spends
-expressions::effect-returns-in-Compound-clause-spends t c =
-    last _ _ _ _ c.compound.result nothing c.compound.ensures.spends (omega (arith, extra_none c.args.cx.fixed))
-    (omega (arith, extra_none c.args.cx.fixed))
-    (omega arith)
+pub expressions::effect-returns-in-Step : goal.expressions::effect-returns-in-Step
+expressions::effect-returns-in-Step t c =
+    record {
+      lowered = tail _ _ c.step.result (start c.requires.scene) c.step.ensures.lowered (omega arith);
+      spends = last _ _ _ _ c.step.result nothing c.step.ensures.spends (omega (arith, extra_none c.args.cx.fixed))
+          (omega (arith, extra_none c.args.cx.fixed))
+          (omega arith);
+      is = (let n = node_at c.args.cx.d.now c.requires.scene.ready c.requires.typed c.in-Some.ensures c.in-Step.is in
+          let there = is_node c.in-Some.ensures c.in-Step.is in
+          IfOk-weaker c.step.result _ _
+          (λ r h. effect_changed _ c.requires.ordered c.requires.scene.ready.ordered there refl
+          (record { kind = n.kind; is = n.is }) (h there)) c.step.ensures.is);
+      places = (let there = is_node c.in-Some.ensures c.in-Step.is in
+          IfOk-weaker c.step.result _ _
+          (λ r h. place_effect_never _ c.requires.ordered c.requires.scene.ready.ordered there refl (h there))
+          c.step.ensures.is);
+    }
 
-pub expressions::effect-returns-in-Step-clause-lowered : goal.expressions::effect-returns-in-Step-clause-lowered
-expressions::effect-returns-in-Step-clause-lowered t c =
-    tail _ _ c.step.result (start c.requires.scene) c.step.ensures.lowered (omega arith)
+pub expressions::effect-returns-in-Call : goal.expressions::effect-returns-in-Call
+expressions::effect-returns-in-Call t c =
+    record {
+      lowered = tail _ _ c.call.result (start c.requires.scene) c.call.ensures.lowered (omega arith);
+      spends = last _ _ _ _ c.call.result nothing c.call.ensures.spends
+          (omega (arith, heavy (expression c.args.cx.p.now c.args.k)))
+          (omega (arith, heavy (expression c.args.cx.p.now c.args.k)))
+          (omega arith);
+      is = (let there = is_node c.in-Some.ensures c.in-Call.is in
+          IfOk-weaker c.call.result _ _
+          (λ r h. effect_called _ c.requires.ordered c.requires.scene.ready.ordered there refl
+          (h (subst (λ z. IsNode c.args.cx.p.now c.args.k (exprs.Call c.in-Call.f z)) (sym c.as_slice.ensures) there)))
+          c.call.ensures.is);
+      places = (let there = is_node c.in-Some.ensures c.in-Call.is in
+          IfOk-weaker c.call.result _ _
+          (λ r h. place_effect_never _ c.requires.ordered c.requires.scene.ready.ordered there refl
+          (h (subst (λ z. IsNode c.args.cx.p.now c.args.k (exprs.Call c.in-Call.f z)) (sym c.as_slice.ensures) there)))
+          c.call.ensures.is);
+    }
 
-pub expressions::effect-returns-in-Step-clause-spends : goal.expressions::effect-returns-in-Step-clause-spends
-expressions::effect-returns-in-Step-clause-spends t c =
-    last _ _ _ _ c.step.result nothing c.step.ensures.spends (omega (arith, extra_none c.args.cx.fixed))
-    (omega (arith, extra_none c.args.cx.fixed))
-    (omega arith)
-
-pub expressions::effect-returns-in-Call-clause-lowered : goal.expressions::effect-returns-in-Call-clause-lowered
-expressions::effect-returns-in-Call-clause-lowered t c =
-    tail _ _ c.call.result (start c.requires.scene) c.call.ensures.lowered (omega arith)
-
-pub expressions::effect-returns-in-Call-clause-spends : goal.expressions::effect-returns-in-Call-clause-spends
-expressions::effect-returns-in-Call-clause-spends t c =
-    last _ _ _ _ c.call.result nothing c.call.ensures.spends
-    (omega (arith, heavy (expression c.args.cx.p.now c.args.k)))
-    (omega (arith, heavy (expression c.args.cx.p.now c.args.k)))
-    (omega arith)
-
-pub expressions::effect-returns-in-Library-clause-lowered : goal.expressions::effect-returns-in-Library-clause-lowered
-expressions::effect-returns-in-Library-clause-lowered t c =
-    tail _ _ c.library.result (start c.requires.scene) c.library.ensures.lowered (omega arith)
-
-pub expressions::effect-returns-in-Library-clause-spends : goal.expressions::effect-returns-in-Library-clause-spends
-expressions::effect-returns-in-Library-clause-spends t c =
-    last _ _ _ _ c.library.result nothing c.library.ensures.spends
-    (omega (arith, heavy (expression c.args.cx.p.now c.args.k)))
-    (omega (arith, heavy (expression c.args.cx.p.now c.args.k)))
-    (omega arith)
+pub expressions::effect-returns-in-Library : goal.expressions::effect-returns-in-Library
+expressions::effect-returns-in-Library t c =
+    record {
+      lowered = tail _ _ c.library.result (start c.requires.scene) c.library.ensures.lowered (omega arith);
+      spends = last _ _ _ _ c.library.result nothing c.library.ensures.spends
+          (omega (arith, heavy (expression c.args.cx.p.now c.args.k)))
+          (omega (arith, heavy (expression c.args.cx.p.now c.args.k)))
+          (omega arith);
+      is = (let there = is_node c.in-Some.ensures c.in-Library.is in
+          IfOk-weaker c.library.result _ _
+          (λ r h. effect_called _ c.requires.ordered c.requires.scene.ready.ordered there refl
+          (h (subst (λ z. IsNode c.args.cx.p.now c.args.k (exprs.Library c.in-Library.n z))
+          (sym c.as_slice-in-Library.ensures) there))) c.library.ensures.is);
+      places = (let there = is_node c.in-Some.ensures c.in-Library.is in
+          IfOk-weaker c.library.result _ _
+          (λ r h. place_effect_never _ c.requires.ordered c.requires.scene.ready.ordered there refl
+          (h (subst (λ z. IsNode c.args.cx.p.now c.args.k (exprs.Library c.in-Library.n z))
+          (sym c.as_slice-in-Library.ensures) there))) c.library.ensures.is);
+    }
 
 pub expressions::effect-effect-requires-in-Comma : goal.expressions::effect-effect-requires-in-Comma
 expressions::effect-effect-requires-in-Comma t c =
@@ -3422,50 +3696,61 @@ expressions::effect-effect-requires-in-Comma-2 t c =
       ),
     )
 
-pub expressions::effect-returns-in_ok-effect-in-Comma-clause-lowered :
-    goal.expressions::effect-returns-in_ok-effect-in-Comma-clause-lowered
-expressions::effect-returns-in_ok-effect-in-Comma-clause-lowered t c =
-    tail _ _ c.effect-in-Comma-2.result c.in_ok-effect-in-Comma.ensures.lowered c.effect-in-Comma-2.ensures.lowered
-    (omega (
-      arith,
-      (node_at c.args.cx.d.now c.requires.scene.ready c.requires.typed c.in-Some.ensures
-          c.in-Comma.is).operands.weight,
-    ))
+pub expressions::effect-returns-in_ok-effect-in-Comma : goal.expressions::effect-returns-in_ok-effect-in-Comma
+expressions::effect-returns-in_ok-effect-in-Comma t c =
+    record {
+      lowered = tail _ _ c.effect-in-Comma-2.result c.in_ok-effect-in-Comma.ensures.lowered
+          c.effect-in-Comma-2.ensures.lowered
+          (omega (
+            arith,
+            (node_at c.args.cx.d.now c.requires.scene.ready c.requires.typed c.in-Some.ensures
+                c.in-Comma.is).operands.weight,
+          ));
+      spends = last _ _ _ _ c.effect-in-Comma-2.result c.in_ok-effect-in-Comma.ensures.spends
+          c.effect-in-Comma-2.ensures.spends
+          (omega (
+            arith,
+            (node_at c.args.cx.d.now c.requires.scene.ready c.requires.typed c.in-Some.ensures
+                c.in-Comma.is).operands.weight,
+            heavy (expression c.args.cx.p.now c.args.k),
+            heavy (expression c.args.cx.p.now c.in-Comma.a),
+            heavy (expression c.args.cx.p.now c.in-Comma.b),
+          ))
+          (omega (
+            arith,
+            (node_at c.args.cx.d.now c.requires.scene.ready c.requires.typed c.in-Some.ensures
+                c.in-Comma.is).operands.weight,
+            heavy (expression c.args.cx.p.now c.args.k),
+            heavy (expression c.args.cx.p.now c.in-Comma.a),
+            heavy (expression c.args.cx.p.now c.in-Comma.b),
+          ))
+          (omega (
+            arith,
+            (node_at c.args.cx.d.now c.requires.scene.ready c.requires.typed c.in-Some.ensures
+                c.in-Comma.is).operands.copies,
+          ));
+      is = IfOk-weaker c.effect-in-Comma-2.result _ _
+          (λ r h. effect_comma _ c.requires.ordered c.requires.scene.ready.ordered
+          (record { node = _; there = c.in-Some.ensures; is = c.in-Comma.is }) c.in_ok-effect-in-Comma.ensures.is h)
+          c.effect-in-Comma-2.ensures.is;
+      places = IfOk-weaker c.effect-in-Comma-2.result _ _
+          (λ r h. place_effect_comma _ c.requires.ordered c.requires.scene.ready.ordered
+          (record { node = _; there = c.in-Some.ensures; is = c.in-Comma.is }) c.in_ok-effect-in-Comma.ensures.is h)
+          c.effect-in-Comma-2.ensures.places;
+    }
 
-pub expressions::effect-returns-in_ok-effect-in-Comma-clause-spends :
-    goal.expressions::effect-returns-in_ok-effect-in-Comma-clause-spends
-expressions::effect-returns-in_ok-effect-in-Comma-clause-spends t c =
-    last _ _ _ _ c.effect-in-Comma-2.result c.in_ok-effect-in-Comma.ensures.spends c.effect-in-Comma-2.ensures.spends
-    (omega (
-      arith,
-      (node_at c.args.cx.d.now c.requires.scene.ready c.requires.typed c.in-Some.ensures
-          c.in-Comma.is).operands.weight,
-      heavy (expression c.args.cx.p.now c.args.k),
-      heavy (expression c.args.cx.p.now c.in-Comma.a),
-      heavy (expression c.args.cx.p.now c.in-Comma.b),
-    ))
-    (omega (
-      arith,
-      (node_at c.args.cx.d.now c.requires.scene.ready c.requires.typed c.in-Some.ensures
-          c.in-Comma.is).operands.weight,
-      heavy (expression c.args.cx.p.now c.args.k),
-      heavy (expression c.args.cx.p.now c.in-Comma.a),
-      heavy (expression c.args.cx.p.now c.in-Comma.b),
-    ))
-    (omega (
-      arith,
-      (node_at c.args.cx.d.now c.requires.scene.ready c.requires.typed c.in-Some.ensures
-          c.in-Comma.is).operands.copies,
-    ))
-
-pub expressions::effect-returns-in-Constant-clause-lowered : goal.expressions::effect-returns-in-Constant-clause-lowered
-expressions::effect-returns-in-Constant-clause-lowered t c = at_most (start c.requires.scene) (omega arith)
-
-pub expressions::effect-returns-in-Constant-clause-spends : goal.expressions::effect-returns-in-Constant-clause-spends
-expressions::effect-returns-in-Constant-clause-spends t c =
-    within nothing (omega (arith, heavy (expression c.args.cx.p.now c.args.k)))
-    (omega (arith, heavy (expression c.args.cx.p.now c.args.k)))
-    (omega arith)
+pub expressions::effect-returns-in-Constant : goal.expressions::effect-returns-in-Constant
+expressions::effect-returns-in-Constant t c =
+    record {
+      lowered = at_most (start c.requires.scene) (omega arith);
+      spends = within nothing (omega (arith, heavy (expression c.args.cx.p.now c.args.k)))
+          (omega (arith, heavy (expression c.args.cx.p.now c.args.k)))
+          (omega arith);
+      is = effect_leaf _ c.requires.ordered c.requires.scene.ready.ordered
+          (is_node c.in-Some.ensures refl) (leaf_of _ c.in-Constant.is) _;
+      places = place_effect_leaf _ c.requires.ordered c.requires.scene.ready.ordered
+          (is_node c.in-Some.ensures refl) (leaf_of _ c.in-Constant.is) _;
+    }
 
 pub expressions::effect-temp-requires : goal.expressions::effect-temp-requires
 expressions::effect-temp-requires t c =
@@ -3490,20 +3775,31 @@ expressions::effect-value-requires t c = (
   ),
 )
 
-pub expressions::effect-returns-in_ok-t-in-Decay-clause-lowered :
-    goal.expressions::effect-returns-in_ok-t-in-Decay-clause-lowered
-expressions::effect-returns-in_ok-t-in-Decay-clause-lowered t c =
-    tail _ _ c.value.result (grew (start c.requires.scene) c.in_ok-t-in-Decay.ensures.grown
-    c.in_ok-t-in-Decay.ensures.adds) c.value.ensures.lowered
-    (omega (arith, heavy (expression c.args.cx.p.now c.args.k)))
-
-pub expressions::effect-returns-in_ok-t-in-Decay-clause-spends :
-    goal.expressions::effect-returns-in_ok-t-in-Decay-clause-spends
-expressions::effect-returns-in_ok-t-in-Decay-clause-spends t c =
-    last_fresh _ _ _ c.value.result c.in_ok-t-in-Decay.ensures.next c.in_ok-t-in-Decay.ensures.spent
-    c.value.ensures.spends (omega (arith, heavy (expression c.args.cx.p.now c.args.k)))
-    (omega (arith, heavy (expression c.args.cx.p.now c.args.k)))
-    (omega arith)
+pub expressions::effect-returns-in_ok-t-in-Decay : goal.expressions::effect-returns-in_ok-t-in-Decay
+expressions::effect-returns-in_ok-t-in-Decay t c =
+    record {
+      lowered = tail _ _ c.value.result (grew (start c.requires.scene) c.in_ok-t-in-Decay.ensures.grown
+          c.in_ok-t-in-Decay.ensures.adds) c.value.ensures.lowered
+          (omega (arith, heavy (expression c.args.cx.p.now c.args.k)));
+      spends = last_fresh _ _ _ c.value.result c.in_ok-t-in-Decay.ensures.next c.in_ok-t-in-Decay.ensures.spent
+          c.value.ensures.spends (omega (arith, heavy (expression c.args.cx.p.now c.args.k)))
+          (omega (arith, heavy (expression c.args.cx.p.now c.args.k)))
+          (omega arith);
+      is = (let works = worked_of _ c.in-Decay.is in
+          IfOk-weaker c.value.result _ _
+          (λ r h. effect_of_value _ c.requires.ordered c.requires.scene.ready.ordered
+          (is_node c.in-Some.ensures refl) (worked_no_place _ works)
+          (has_worked c.args.cx.d.now c.requires.scene.ready c.requires.typed c.in-Some.ensures _ works refl)
+          c.in_ok-t-in-Decay.ensures.next c.in_ok-t-in-Decay.ensures.emits h) c.value.ensures.is);
+      places = (let works = worked_of _ c.in-Decay.is in
+          IfOk-weaker c.value.result _ _
+          (λ r h. place_effect_never _ c.requires.ordered c.requires.scene.ready.ordered
+          (is_node c.in-Some.ensures refl) (worked_no_place _ works)
+          (effect_of_value _ c.requires.ordered c.requires.scene.ready.ordered
+          (is_node c.in-Some.ensures refl) (worked_no_place _ works)
+          (has_worked c.args.cx.d.now c.requires.scene.ready c.requires.typed c.in-Some.ensures _ works refl)
+          c.in_ok-t-in-Decay.ensures.next c.in_ok-t-in-Decay.ensures.emits h)) c.value.ensures.is);
+    }
 
 pub expressions::chosen_effect-fork-fork-requires : goal.expressions::chosen_effect-fork-fork-requires
 expressions::chosen_effect-fork-fork-requires t c =
@@ -3573,35 +3869,43 @@ expressions::chosen_effect-effect-requires-2 t c = (
   ),
 )
 
-pub expressions::chosen_effect-returns-clause-lowered : goal.expressions::chosen_effect-returns-clause-lowered
-expressions::chosen_effect-returns-clause-lowered t c =
-    tail_stands _ c.join_fork.result (opened (turned
-    (opened (opened (fork c.requires.scene c.fork-fork.ensures.forked) c.in_ok-condition.ensures.lowered)
-    c.in_ok-effect.ensures.lowered) c.in_ok-turn_fork.ensures.turned c.in_ok-turn_fork.ensures.adds)
-    c.in_ok-effect-2.ensures.lowered) c.join_fork.ensures.stands (omega (arith, c.requires.node.weight))
-
-pub expressions::chosen_effect-returns-clause-spends : goal.expressions::chosen_effect-returns-clause-spends
-expressions::chosen_effect-returns-clause-spends t c =
-    last_pushed _ _ c.join_fork.result (after
-    (and (after (after (plainly (forked_spent c.fork-fork.ensures.forked)) c.in_ok-condition.ensures.spends)
-    c.in_ok-effect.ensures.spends) c.in_ok-turn_fork.ensures.spent) c.in_ok-effect-2.ensures.spends)
-    c.join_fork.ensures.stands (omega (
-      arith,
-      c.requires.node.weight,
-      heavy (expression c.args.cx.p.now c.args.k),
-      heavy (expression c.args.cx.p.now c.args.c),
-      heavy (expression c.args.cx.p.now c.args.a),
-      heavy (expression c.args.cx.p.now c.args.b),
-    ))
-    (omega (
-      arith,
-      c.requires.node.weight,
-      heavy (expression c.args.cx.p.now c.args.k),
-      heavy (expression c.args.cx.p.now c.args.c),
-      heavy (expression c.args.cx.p.now c.args.a),
-      heavy (expression c.args.cx.p.now c.args.b),
-    ))
-    (omega (arith, c.requires.node.copies)) refl refl
+pub expressions::chosen_effect-returns : goal.expressions::chosen_effect-returns
+expressions::chosen_effect-returns t c =
+    record {
+      lowered = tail_stands _ c.join_fork.result (opened (turned
+          (opened (opened (fork c.requires.scene c.fork-fork.ensures.forked) c.in_ok-condition.ensures.lowered)
+          c.in_ok-effect.ensures.lowered) c.in_ok-turn_fork.ensures.turned c.in_ok-turn_fork.ensures.adds)
+          c.in_ok-effect-2.ensures.lowered) c.join_fork.ensures.stands (omega (arith, c.requires.node.weight));
+      spends = last_pushed _ _ c.join_fork.result (after
+          (and (after (after (plainly (forked_spent c.fork-fork.ensures.forked)) c.in_ok-condition.ensures.spends)
+          c.in_ok-effect.ensures.spends) c.in_ok-turn_fork.ensures.spent) c.in_ok-effect-2.ensures.spends)
+          c.join_fork.ensures.stands (omega (
+            arith,
+            c.requires.node.weight,
+            heavy (expression c.args.cx.p.now c.args.k),
+            heavy (expression c.args.cx.p.now c.args.c),
+            heavy (expression c.args.cx.p.now c.args.a),
+            heavy (expression c.args.cx.p.now c.args.b),
+          ))
+          (omega (
+            arith,
+            c.requires.node.weight,
+            heavy (expression c.args.cx.p.now c.args.k),
+            heavy (expression c.args.cx.p.now c.args.c),
+            heavy (expression c.args.cx.p.now c.args.a),
+            heavy (expression c.args.cx.p.now c.args.b),
+          ))
+          (omega (arith, c.requires.node.copies)) refl refl;
+      is = IfOk-weaker c.join_fork.result _ _
+          (λ r f h n. effect_choice _ c.requires.ordered c.requires.scene.ready.ordered n h c.fork-fork.ensures.forked
+          c.in_ok-condition.ensures.is c.in_ok-effect.ensures.is c.in_ok-turn_fork.ensures.emits
+          c.in_ok-effect-2.ensures.is (one_emits _ _ _ refl f)) c.join_fork.ensures.stands;
+      places = IfOk-weaker c.join_fork.result _ _
+          (λ r f h n. place_effect_choice _ c.requires.ordered c.requires.scene.ready.ordered n h
+          c.fork-fork.ensures.forked
+          c.in_ok-condition.ensures.is c.in_ok-effect.ensures.places c.in_ok-turn_fork.ensures.emits
+          c.in_ok-effect-2.ensures.places (one_emits _ _ _ refl f)) c.join_fork.ensures.stands;
+    }
 
 pub expressions::guarded_effect-label-label-requires : goal.expressions::guarded_effect-label-label-requires
 expressions::guarded_effect-label-label-requires t c =
@@ -3643,32 +3947,36 @@ expressions::guarded_effect-effect-requires t c = (
   ),
 )
 
-pub expressions::guarded_effect-returns-clause-lowered : goal.expressions::guarded_effect-returns-clause-lowered
-expressions::guarded_effect-returns-clause-lowered t c =
-    tail_stands _ c.stand.result (opened (opened
-    (label c.requires.scene c.label-label.ensures.labelled) c.in_ok-condition.ensures.lowered)
-    c.in_ok-effect.ensures.lowered) c.stand.ensures.stands (omega (arith, c.requires.node.weight))
-
-pub expressions::guarded_effect-returns-clause-spends : goal.expressions::guarded_effect-returns-clause-spends
-expressions::guarded_effect-returns-clause-spends t c =
-    last_pushed _ _ c.stand.result (after (after
-    (plainly (labelled_spent c.label-label.ensures.labelled)) c.in_ok-condition.ensures.spends)
-    c.in_ok-effect.ensures.spends) c.stand.ensures.stands
-    (omega (
-      arith,
-      c.requires.node.weight,
-      heavy (expression c.args.cx.p.now c.args.k),
-      heavy (expression c.args.cx.p.now c.args.a),
-      heavy (expression c.args.cx.p.now c.args.b),
-    ))
-    (omega (
-      arith,
-      c.requires.node.weight,
-      heavy (expression c.args.cx.p.now c.args.k),
-      heavy (expression c.args.cx.p.now c.args.a),
-      heavy (expression c.args.cx.p.now c.args.b),
-    ))
-    (omega (arith, c.requires.node.copies)) refl refl
+pub expressions::guarded_effect-returns : goal.expressions::guarded_effect-returns
+expressions::guarded_effect-returns t c =
+    record {
+      lowered = tail_stands _ c.stand.result (opened (opened
+          (label c.requires.scene c.label-label.ensures.labelled) c.in_ok-condition.ensures.lowered)
+          c.in_ok-effect.ensures.lowered) c.stand.ensures.stands (omega (arith, c.requires.node.weight));
+      spends = last_pushed _ _ c.stand.result (after (after
+          (plainly (labelled_spent c.label-label.ensures.labelled)) c.in_ok-condition.ensures.spends)
+          c.in_ok-effect.ensures.spends) c.stand.ensures.stands
+          (omega (
+            arith,
+            c.requires.node.weight,
+            heavy (expression c.args.cx.p.now c.args.k),
+            heavy (expression c.args.cx.p.now c.args.a),
+            heavy (expression c.args.cx.p.now c.args.b),
+          ))
+          (omega (
+            arith,
+            c.requires.node.weight,
+            heavy (expression c.args.cx.p.now c.args.k),
+            heavy (expression c.args.cx.p.now c.args.a),
+            heavy (expression c.args.cx.p.now c.args.b),
+          ))
+          (omega (arith, c.requires.node.copies)) refl refl;
+      is = IfOk-weaker c.stand.result _ _
+          (λ r f h n. effect_guarded _ c.requires.ordered c.requires.scene.ready.ordered _ _ _ c.args.when n h
+          c.label-label.ensures.labelled c.in_ok-condition.ensures.is c.in_ok-effect.ensures.is (one_emits _ _ _ refl
+          f))
+          c.stand.ensures.stands;
+    }
 
 pub expressions::read_effect-effect-requires : goal.expressions::read_effect-effect-requires
 expressions::read_effect-effect-requires t c = (
@@ -3685,43 +3993,54 @@ expressions::read_effect-effect-requires t c = (
   ),
 )
 
-pub expressions::read_effect-returns-in-None-clause-lowered :
-    goal.expressions::read_effect-returns-in-None-clause-lowered
-expressions::read_effect-returns-in-None-clause-lowered t c =
-    tail _ _ c.effect.result (start c.requires.scene) c.effect.ensures.lowered
-    (omega (arith, c.requires.node.operands.weight))
+pub expressions::read_effect-returns-in-None : goal.expressions::read_effect-returns-in-None
+expressions::read_effect-returns-in-None t c =
+    record {
+      lowered = tail _ _ c.effect.result (start c.requires.scene) c.effect.ensures.lowered
+          (omega (arith, c.requires.node.operands.weight));
+      spends = last _ _ _ _ c.effect.result nothing c.effect.ensures.spends
+          (omega (
+            arith,
+            c.requires.node.operands.weight,
+            heavy (expression c.args.cx.p.now c.args.k),
+            heavy (expression c.args.cx.p.now c.args.a),
+          ))
+          (omega (
+            arith,
+            c.requires.node.operands.weight,
+            heavy (expression c.args.cx.p.now c.args.k),
+            heavy (expression c.args.cx.p.now c.args.a),
+          ))
+          (omega (arith, c.requires.node.operands.copies));
+      is = IfOk-weaker c.effect.result _ _
+          (λ r h n w. effect_unread _ c.requires.ordered c.requires.scene.ready.ordered n
+          (sym (c.scalar.ensures c.requires.scene.ready) ∙ c.in-None.is) w h) c.effect.ensures.places;
+      places = IfOk-weaker c.effect.result _ _
+          (λ r h n w. place_effect_unread _ c.requires.ordered c.requires.scene.ready.ordered n
+          (sym (c.scalar.ensures c.requires.scene.ready) ∙ c.in-None.is) w h) c.effect.ensures.places;
+    }
 
-pub expressions::read_effect-returns-in-None-clause-spends : goal.expressions::read_effect-returns-in-None-clause-spends
-expressions::read_effect-returns-in-None-clause-spends t c =
-    last _ _ _ _ c.effect.result nothing c.effect.ensures.spends
-    (omega (
-      arith,
-      c.requires.node.operands.weight,
-      heavy (expression c.args.cx.p.now c.args.k),
-      heavy (expression c.args.cx.p.now c.args.a),
-    ))
-    (omega (
-      arith,
-      c.requires.node.operands.weight,
-      heavy (expression c.args.cx.p.now c.args.k),
-      heavy (expression c.args.cx.p.now c.args.a),
-    ))
-    (omega (arith, c.requires.node.operands.copies))
-
-pub expressions::read_effect-returns-in-Some-variable-clause-lowered :
-    goal.expressions::read_effect-returns-in-Some-variable-clause-lowered
-expressions::read_effect-returns-in-Some-variable-clause-lowered t c = at_most (start c.requires.scene) (omega arith)
-
-pub expressions::read_effect-returns-in-Some-variable-clause-spends :
-    goal.expressions::read_effect-returns-in-Some-variable-clause-spends
-expressions::read_effect-returns-in-Some-variable-clause-spends t c =
-    within nothing (omega (
-      arith,
-      heavy (expression c.args.cx.p.now c.args.k),
-      heavy (expression c.args.cx.p.now c.args.a),
-    ))
-    (omega (arith, heavy (expression c.args.cx.p.now c.args.k), heavy (expression c.args.cx.p.now c.args.a)))
-    (omega arith)
+pub expressions::read_effect-returns-in-Some-variable : goal.expressions::read_effect-returns-in-Some-variable
+expressions::read_effect-returns-in-Some-variable t c =
+    record {
+      lowered = at_most (start c.requires.scene) (omega arith);
+      spends = within nothing (omega (
+        arith,
+        heavy (expression c.args.cx.p.now c.args.k),
+        heavy (expression c.args.cx.p.now c.args.a),
+      ))
+          (omega (arith, heavy (expression c.args.cx.p.now c.args.k), heavy (expression c.args.cx.p.now c.args.a)))
+          (omega arith);
+      is = (let scalar : IsScalar c.args.cx.p.now c.args.k c.in-Some.kind =
+          record { is = sym (c.scalar.ensures c.requires.scene.ready) ∙ c.in-Some.is } in
+          λ n w. effect_variable _ c.requires.ordered c.requires.scene.ready.ordered n scalar _
+          c.in-Some-variable.ensures.stands);
+      places = (let scalar : IsScalar c.args.cx.p.now c.args.k c.in-Some.kind =
+          record { is = sym (c.scalar.ensures c.requires.scene.ready) ∙ c.in-Some.is } in
+          λ n w. place_effect_read _ c.requires.ordered c.requires.scene.ready.ordered n scalar
+          (effect_variable _ c.requires.ordered c.requires.scene.ready.ordered n scalar _
+          c.in-Some-variable.ensures.stands));
+    }
 
 pub expressions::read_effect-temp-requires : goal.expressions::read_effect-temp-requires
 expressions::read_effect-temp-requires t c =
@@ -3751,19 +4070,32 @@ expressions::read_effect-load-requires t c = (
   ),
 )
 
-pub expressions::read_effect-returns-in_ok-t-in-None-variable-clause-lowered :
-    goal.expressions::read_effect-returns-in_ok-t-in-None-variable-clause-lowered
-expressions::read_effect-returns-in_ok-t-in-None-variable-clause-lowered t c =
-    tail _ _ c.load.result (grew (start c.requires.scene) c.in_ok-t-in-None-variable.ensures.grown
-    c.in_ok-t-in-None-variable.ensures.adds) c.load.ensures.lowered (omega (arith, c.requires.node.operands.weight))
-
-pub expressions::read_effect-returns-in_ok-t-in-None-variable-clause-spends :
-    goal.expressions::read_effect-returns-in_ok-t-in-None-variable-clause-spends
-expressions::read_effect-returns-in_ok-t-in-None-variable-clause-spends t c =
-    last_fresh _ _ _ c.load.result c.in_ok-t-in-None-variable.ensures.next c.in_ok-t-in-None-variable.ensures.spent
-    c.load.ensures.spends (omega (arith, heavy (expression c.args.cx.p.now c.args.k)))
-    (omega (arith, heavy (expression c.args.cx.p.now c.args.k)))
-    (omega arith)
+pub expressions::read_effect-returns-in_ok-t-in-None-variable :
+    goal.expressions::read_effect-returns-in_ok-t-in-None-variable
+expressions::read_effect-returns-in_ok-t-in-None-variable t c =
+    record {
+      lowered = tail _ _ c.load.result (grew (start c.requires.scene) c.in_ok-t-in-None-variable.ensures.grown
+          c.in_ok-t-in-None-variable.ensures.adds) c.load.ensures.lowered (omega (
+            arith,
+            c.requires.node.operands.weight,
+          ));
+      spends = last_fresh _ _ _ c.load.result c.in_ok-t-in-None-variable.ensures.next
+          c.in_ok-t-in-None-variable.ensures.spent
+          c.load.ensures.spends (omega (arith, heavy (expression c.args.cx.p.now c.args.k)))
+          (omega (arith, heavy (expression c.args.cx.p.now c.args.k)))
+          (omega arith);
+      is = (let scalar : IsScalar c.args.cx.p.now c.args.k c.in-Some.kind =
+          record { is = sym (c.scalar.ensures c.requires.scene.ready) ∙ c.in-Some.is } in
+          IfOk-weaker c.load.result _ _
+          (λ r h n w. effect_read _ c.requires.ordered c.requires.scene.ready.ordered n scalar
+          c.in_ok-t-in-None-variable.ensures.next c.in_ok-t-in-None-variable.ensures.emits (h n)) c.load.ensures.is);
+      places = (let scalar : IsScalar c.args.cx.p.now c.args.k c.in-Some.kind =
+          record { is = sym (c.scalar.ensures c.requires.scene.ready) ∙ c.in-Some.is } in
+          IfOk-weaker c.load.result _ _
+          (λ r h n w. place_effect_read _ c.requires.ordered c.requires.scene.ready.ordered n scalar
+          (effect_read _ c.requires.ordered c.requires.scene.ready.ordered n scalar
+          c.in_ok-t-in-None-variable.ensures.next c.in_ok-t-in-None-variable.ensures.emits (h n))) c.load.ensures.is);
+    }
 
 pub expressions::load-transfer-requires : goal.expressions::load-transfer-requires
 expressions::load-transfer-requires t c =
@@ -3773,27 +4105,32 @@ expressions::load-transfer-requires t c =
           (ap or_int c.requires.node.same));
     }
 
-pub expressions::load-returns-in-Some-clause-lowered : goal.expressions::load-returns-in-Some-clause-lowered
-expressions::load-returns-in-Some-clause-lowered t c =
-    tail_grew _ _ c.transfer.result (start c.requires.scene) c.transfer.ensures.grown c.transfer.ensures.adds
-    (omega arith)
-
-pub expressions::load-returns-in-Some-clause-spends : goal.expressions::load-returns-in-Some-clause-spends
-expressions::load-returns-in-Some-clause-spends t c =
-    last_and _ _ _ _ c.transfer.result nothing c.transfer.ensures.spent
-    (omega (
-      arith,
-      heavy (expression c.args.cx.p.now c.args.k),
-      heavy (expression c.args.cx.p.now c.args.a),
-      extra_small c.args.cx.fixed (Some c.args.to),
-    ))
-    (omega (
-      arith,
-      heavy (expression c.args.cx.p.now c.args.k),
-      heavy (expression c.args.cx.p.now c.args.a),
-      extra_small c.args.cx.fixed (Some c.args.to),
-    ))
-    (omega arith)
+pub expressions::load-returns-in-Some : goal.expressions::load-returns-in-Some
+expressions::load-returns-in-Some t c =
+    record {
+      lowered = tail_grew _ _ c.transfer.result (start c.requires.scene) c.transfer.ensures.grown
+          c.transfer.ensures.adds
+          (omega arith);
+      spends = last_and _ _ _ _ c.transfer.result nothing c.transfer.ensures.spent
+          (omega (
+            arith,
+            heavy (expression c.args.cx.p.now c.args.k),
+            heavy (expression c.args.cx.p.now c.args.a),
+            extra_small c.args.cx.fixed (Some c.args.to),
+          ))
+          (omega (
+            arith,
+            heavy (expression c.args.cx.p.now c.args.k),
+            heavy (expression c.args.cx.p.now c.args.a),
+            extra_small c.args.cx.fixed (Some c.args.to),
+          ))
+          (omega arith);
+      is = IfOk-weaker c.transfer.result _ _
+          (λ r f n. value_read _ c.requires.ordered c.requires.scene.ready.ordered c.args.cx.d.now refl n
+          c.requires.node
+          (λ x m. node_at c.args.cx.d.now c.requires.scene.ready c.requires.node.operands.operand m.there m.is)
+          c.in-Some.ensures.stands f) c.transfer.ensures.emits;
+    }
 
 pub expressions::load-pointer-requires : goal.expressions::load-pointer-requires
 expressions::load-pointer-requires t c = (
@@ -3817,31 +4154,34 @@ expressions::load-load-requires-clause-to t c =
 pub expressions::load-load-requires-clause-from : goal.expressions::load-load-requires-clause-from
 expressions::load-load-requires-clause-from t c = pointer c.in_ok-from-in-None.ensures.has
 
-pub expressions::load-returns-in_ok-from-in-None-clause-lowered :
-    goal.expressions::load-returns-in_ok-from-in-None-clause-lowered
-expressions::load-returns-in_ok-from-in-None-clause-lowered t c =
-    tail_grew _ _ c.load.result c.in_ok-from-in-None.ensures.lowered c.load.ensures.grown c.load.ensures.adds
-    (omega (arith, c.requires.node.operands.weight))
-
-pub expressions::load-returns-in_ok-from-in-None-clause-spends :
-    goal.expressions::load-returns-in_ok-from-in-None-clause-spends
-expressions::load-returns-in_ok-from-in-None-clause-spends t c =
-    last_and _ _ _ _ c.load.result c.in_ok-from-in-None.ensures.spends c.load.ensures.spent
-    (omega (
-      arith,
-      c.requires.node.operands.weight,
-      heavy (expression c.args.cx.p.now c.args.k),
-      heavy (expression c.args.cx.p.now c.args.a),
-      extra_small c.args.cx.fixed (Some c.args.to),
-    ))
-    (omega (
-      arith,
-      c.requires.node.operands.weight,
-      heavy (expression c.args.cx.p.now c.args.k),
-      heavy (expression c.args.cx.p.now c.args.a),
-      extra_small c.args.cx.fixed (Some c.args.to),
-    ))
-    (omega (arith, c.requires.node.operands.copies))
+pub expressions::load-returns-in_ok-from-in-None : goal.expressions::load-returns-in_ok-from-in-None
+expressions::load-returns-in_ok-from-in-None t c =
+    record {
+      lowered = tail_grew _ _ c.load.result c.in_ok-from-in-None.ensures.lowered c.load.ensures.grown
+          c.load.ensures.adds
+          (omega (arith, c.requires.node.operands.weight));
+      spends = last_and _ _ _ _ c.load.result c.in_ok-from-in-None.ensures.spends c.load.ensures.spent
+          (omega (
+            arith,
+            c.requires.node.operands.weight,
+            heavy (expression c.args.cx.p.now c.args.k),
+            heavy (expression c.args.cx.p.now c.args.a),
+            extra_small c.args.cx.fixed (Some c.args.to),
+          ))
+          (omega (
+            arith,
+            c.requires.node.operands.weight,
+            heavy (expression c.args.cx.p.now c.args.k),
+            heavy (expression c.args.cx.p.now c.args.a),
+            extra_small c.args.cx.fixed (Some c.args.to),
+          ))
+          (omega (arith, c.requires.node.operands.copies));
+      is = IfOk-weaker c.load.result _ _
+          (λ r f n. value_loaded _ c.requires.ordered c.requires.scene.ready.ordered c.args.cx.d.now n c.requires.node
+          (c.kind.ensures c.requires.scene.ready) c.pos.ensures c.in-None.ensures.other
+          c.in_ok-from-in-None.ensures.is f)
+          c.load.ensures.emits;
+    }
 
 pub expressions::conversion-effect-requires : goal.expressions::conversion-effect-requires
 expressions::conversion-effect-requires t c = (
@@ -3862,34 +4202,37 @@ pub expressions::conversion-constant-requires-clause-to : goal.expressions::conv
 expressions::conversion-constant-requires-clause-to t c =
     as_kind (still c.requires.to c.in_ok-effect.ensures.lowered) (sym (c.kind-new.ensures c.requires.scene.ready))
 
-pub expressions::conversion-constant-requires-clause-value : goal.expressions::conversion-constant-requires-clause-value
+pub expressions::conversion-constant-requires-clause-value :
+    goal.expressions::conversion-constant-requires-clause-value
 expressions::conversion-constant-requires-clause-value t c = zero_fits _
 
-pub expressions::conversion-returns-then-is_none-clause-lowered :
-    goal.expressions::conversion-returns-then-is_none-clause-lowered
-expressions::conversion-returns-then-is_none-clause-lowered t c =
-    tail_grew _ _ c.constant.result c.in_ok-effect.ensures.lowered c.constant.ensures.grown c.constant.ensures.adds
-    (omega (arith, c.requires.node.weight))
-
-pub expressions::conversion-returns-then-is_none-clause-spends :
-    goal.expressions::conversion-returns-then-is_none-clause-spends
-expressions::conversion-returns-then-is_none-clause-spends t c =
-    last_and _ _ _ _ c.constant.result c.in_ok-effect.ensures.spends c.constant.ensures.spent
-    (omega (
-      arith,
-      c.requires.node.weight,
-      heavy (expression c.args.cx.p.now c.args.k),
-      heavy (expression c.args.cx.p.now c.args.a),
-      extra_small c.args.cx.fixed (Some c.args.to),
-    ))
-    (omega (
-      arith,
-      c.requires.node.weight,
-      heavy (expression c.args.cx.p.now c.args.k),
-      heavy (expression c.args.cx.p.now c.args.a),
-      extra_small c.args.cx.fixed (Some c.args.to),
-    ))
-    (omega (arith, c.requires.node.copies))
+pub expressions::conversion-returns-then-is_none : goal.expressions::conversion-returns-then-is_none
+expressions::conversion-returns-then-is_none t c =
+    record {
+      lowered = tail_grew _ _ c.constant.result c.in_ok-effect.ensures.lowered c.constant.ensures.grown
+          c.constant.ensures.adds
+          (omega (arith, c.requires.node.weight));
+      spends = last_and _ _ _ _ c.constant.result c.in_ok-effect.ensures.spends c.constant.ensures.spent
+          (omega (
+            arith,
+            c.requires.node.weight,
+            heavy (expression c.args.cx.p.now c.args.k),
+            heavy (expression c.args.cx.p.now c.args.a),
+            extra_small c.args.cx.fixed (Some c.args.to),
+          ))
+          (omega (
+            arith,
+            c.requires.node.weight,
+            heavy (expression c.args.cx.p.now c.args.k),
+            heavy (expression c.args.cx.p.now c.args.a),
+            extra_small c.args.cx.fixed (Some c.args.to),
+          ))
+          (omega (arith, c.requires.node.copies));
+      is = (let none = sym (c.scalar.ensures c.requires.scene.ready) ∙ none_is _ c.if-is_none.ensures in
+          IfOk-weaker c.constant.result _ _
+          (λ r f w n. value_dropped _ c.requires.ordered c.requires.scene.ready.ordered _ _ n w none
+          c.in_ok-effect.ensures.is f) c.constant.ensures.emits);
+    }
 
 pub expressions::conversion-value-requires : goal.expressions::conversion-value-requires
 expressions::conversion-value-requires t c = (
@@ -3911,30 +4254,36 @@ expressions::conversion-value-requires t c = (
   ),
 )
 
-pub expressions::conversion-returns-then-same_kind-clause-lowered :
-    goal.expressions::conversion-returns-then-same_kind-clause-lowered
-expressions::conversion-returns-then-same_kind-clause-lowered t c =
-    tail _ _ c.value.result (start c.requires.scene) c.value.ensures.lowered (omega (arith, c.requires.node.weight))
-
-pub expressions::conversion-returns-then-same_kind-clause-spends :
-    goal.expressions::conversion-returns-then-same_kind-clause-spends
-expressions::conversion-returns-then-same_kind-clause-spends t c =
-    last _ _ _ _ c.value.result nothing c.value.ensures.spends
-    (omega (
-      arith,
-      c.requires.node.weight,
-      heavy (expression c.args.cx.p.now c.args.k),
-      heavy (expression c.args.cx.p.now c.args.a),
-      extra_small c.args.cx.fixed (Some c.args.to),
-    ))
-    (omega (
-      arith,
-      c.requires.node.weight,
-      heavy (expression c.args.cx.p.now c.args.k),
-      heavy (expression c.args.cx.p.now c.args.a),
-      extra_small c.args.cx.fixed (Some c.args.to),
-    ))
-    (omega (arith, c.requires.node.copies))
+pub expressions::conversion-returns-then-same_kind : goal.expressions::conversion-returns-then-same_kind
+expressions::conversion-returns-then-same_kind t c =
+    record {
+      lowered = tail _ _ c.value.result (start c.requires.scene) c.value.ensures.lowered (omega (
+        arith,
+        c.requires.node.weight,
+      ));
+      spends = last _ _ _ _ c.value.result nothing c.value.ensures.spends
+          (omega (
+            arith,
+            c.requires.node.weight,
+            heavy (expression c.args.cx.p.now c.args.k),
+            heavy (expression c.args.cx.p.now c.args.a),
+            extra_small c.args.cx.fixed (Some c.args.to),
+          ))
+          (omega (
+            arith,
+            c.requires.node.weight,
+            heavy (expression c.args.cx.p.now c.args.k),
+            heavy (expression c.args.cx.p.now c.args.a),
+            extra_small c.args.cx.fixed (Some c.args.to),
+          ))
+          (omega (arith, c.requires.node.copies));
+      is = (let same = kinds_agree _ _ (sym c.same_kind.ensures ∙ c.if-same_kind.true) in
+          let alike = sym (c.kind-old.ensures c.requires.scene.ready) ∙ same ∙ c.kind-new.ensures
+          c.requires.scene.ready in
+          IfOk-weaker c.value.result _ _
+          (λ r h w n. value_kept _ c.requires.ordered c.requires.scene.ready.ordered _ _ n w alike h)
+          c.value.ensures.is);
+    }
 
 pub expressions::conversion-operand-requires : goal.expressions::conversion-operand-requires
 expressions::conversion-operand-requires t c = (
@@ -3959,29 +4308,33 @@ pub expressions::conversion-convert-requires-clause-from : goal.expressions::con
 expressions::conversion-convert-requires-clause-from t c =
     as_kind c.in_ok-x.ensures.has (sym (c.kind-old.ensures c.requires.scene.ready))
 
-pub expressions::conversion-returns-clause-lowered : goal.expressions::conversion-returns-clause-lowered
-expressions::conversion-returns-clause-lowered t c =
-    tail_grew _ _ c.convert.result c.in_ok-x.ensures.lowered c.convert.ensures.grown c.convert.ensures.adds
-    (omega (arith, c.requires.node.weight))
-
-pub expressions::conversion-returns-clause-spends : goal.expressions::conversion-returns-clause-spends
-expressions::conversion-returns-clause-spends t c =
-    last_and _ _ _ _ c.convert.result c.in_ok-x.ensures.spends c.convert.ensures.spent
-    (omega (
-      arith,
-      c.requires.node.weight,
-      heavy (expression c.args.cx.p.now c.args.k),
-      heavy (expression c.args.cx.p.now c.args.a),
-      extra_small c.args.cx.fixed (Some c.args.to),
-    ))
-    (omega (
-      arith,
-      c.requires.node.weight,
-      heavy (expression c.args.cx.p.now c.args.k),
-      heavy (expression c.args.cx.p.now c.args.a),
-      extra_small c.args.cx.fixed (Some c.args.to),
-    ))
-    (omega (arith, c.requires.node.copies))
+pub expressions::conversion-returns : goal.expressions::conversion-returns
+expressions::conversion-returns t c =
+    record {
+      lowered = tail_grew _ _ c.convert.result c.in_ok-x.ensures.lowered c.convert.ensures.grown c.convert.ensures.adds
+          (omega (arith, c.requires.node.weight));
+      spends = last_and _ _ _ _ c.convert.result c.in_ok-x.ensures.spends c.convert.ensures.spent
+          (omega (
+            arith,
+            c.requires.node.weight,
+            heavy (expression c.args.cx.p.now c.args.k),
+            heavy (expression c.args.cx.p.now c.args.a),
+            extra_small c.args.cx.fixed (Some c.args.to),
+          ))
+          (omega (
+            arith,
+            c.requires.node.weight,
+            heavy (expression c.args.cx.p.now c.args.k),
+            heavy (expression c.args.cx.p.now c.args.a),
+            extra_small c.args.cx.fixed (Some c.args.to),
+          ))
+          (omega (arith, c.requires.node.copies));
+      is = IfOk-weaker c.convert.result _ _
+          (λ r f w n. value_converted _ c.requires.ordered c.requires.scene.ready.ordered _ _ n w
+          (c.kind-old.ensures c.requires.scene.ready) (c.kind-new.ensures c.requires.scene.ready) c.in_ok-x.ensures.is
+          f)
+          c.convert.ensures.emits;
+    }
 
 pub expressions::unary-held-requires : goal.expressions::unary-held-requires
 expressions::unary-held-requires t c = (
@@ -4018,41 +4371,46 @@ expressions::unary-negated-requires-clause-to t c =
     (scalar_kind (not_node (frame_of c.args.cx.p.now c.args.cx.d.now) c.args.k c.args.a c.args.op c.in-LogicalNot.is
     c.requires.node).is)
 
-pub expressions::unary-returns-in_ok-x-in-LogicalNot-clause-lowered :
-    goal.expressions::unary-returns-in_ok-x-in-LogicalNot-clause-lowered
-expressions::unary-returns-in_ok-x-in-LogicalNot-clause-lowered t c =
-    tail_grew _ _ c.negated.result c.in_ok-x-in-LogicalNot.ensures.lowered c.negated.ensures.grown
-    c.negated.ensures.adds (omega (
-      arith,
-      (not_node (frame_of c.args.cx.p.now c.args.cx.d.now) c.args.k c.args.a c.args.op c.in-LogicalNot.is
-          c.requires.node).operands.weight,
-    ))
-
-pub expressions::unary-returns-in_ok-x-in-LogicalNot-clause-spends :
-    goal.expressions::unary-returns-in_ok-x-in-LogicalNot-clause-spends
-expressions::unary-returns-in_ok-x-in-LogicalNot-clause-spends t c =
-    last_and _ _ _ _ c.negated.result c.in_ok-x-in-LogicalNot.ensures.spends c.negated.ensures.spent
-    (omega (
-      arith,
-      (not_node (frame_of c.args.cx.p.now c.args.cx.d.now) c.args.k c.args.a c.args.op c.in-LogicalNot.is
-          c.requires.node).operands.weight,
-      heavy (expression c.args.cx.p.now c.args.k),
-      heavy (expression c.args.cx.p.now c.args.a),
-      extra_small c.args.cx.fixed (Some c.args.to),
-    ))
-    (omega (
-      arith,
-      (not_node (frame_of c.args.cx.p.now c.args.cx.d.now) c.args.k c.args.a c.args.op c.in-LogicalNot.is
-          c.requires.node).operands.weight,
-      heavy (expression c.args.cx.p.now c.args.k),
-      heavy (expression c.args.cx.p.now c.args.a),
-      extra_small c.args.cx.fixed (Some c.args.to),
-    ))
-    (omega (
-      arith,
-      (not_node (frame_of c.args.cx.p.now c.args.cx.d.now) c.args.k c.args.a c.args.op c.in-LogicalNot.is
-          c.requires.node).operands.copies,
-    ))
+pub expressions::unary-returns-in_ok-x-in-LogicalNot : goal.expressions::unary-returns-in_ok-x-in-LogicalNot
+expressions::unary-returns-in_ok-x-in-LogicalNot t c =
+    record {
+      lowered = tail_grew _ _ c.negated.result c.in_ok-x-in-LogicalNot.ensures.lowered c.negated.ensures.grown
+          c.negated.ensures.adds (omega (
+            arith,
+            (not_node (frame_of c.args.cx.p.now c.args.cx.d.now) c.args.k c.args.a c.args.op c.in-LogicalNot.is
+                c.requires.node).operands.weight,
+          ));
+      spends = last_and _ _ _ _ c.negated.result c.in_ok-x-in-LogicalNot.ensures.spends c.negated.ensures.spent
+          (omega (
+            arith,
+            (not_node (frame_of c.args.cx.p.now c.args.cx.d.now) c.args.k c.args.a c.args.op c.in-LogicalNot.is
+                c.requires.node).operands.weight,
+            heavy (expression c.args.cx.p.now c.args.k),
+            heavy (expression c.args.cx.p.now c.args.a),
+            extra_small c.args.cx.fixed (Some c.args.to),
+          ))
+          (omega (
+            arith,
+            (not_node (frame_of c.args.cx.p.now c.args.cx.d.now) c.args.k c.args.a c.args.op c.in-LogicalNot.is
+                c.requires.node).operands.weight,
+            heavy (expression c.args.cx.p.now c.args.k),
+            heavy (expression c.args.cx.p.now c.args.a),
+            extra_small c.args.cx.fixed (Some c.args.to),
+          ))
+          (omega (
+            arith,
+            (not_node (frame_of c.args.cx.p.now c.args.cx.d.now) c.args.k c.args.a c.args.op c.in-LogicalNot.is
+                c.requires.node).operands.copies,
+          ));
+      is = (let node = subst (λ z. UnaryNode (frame_of c.args.cx.p.now c.args.cx.d.now) c.args.k z c.args.a)
+          c.in-LogicalNot.is
+          c.requires.node in
+          IfOk-weaker c.negated.result _ _
+          (λ r f n. value_not _ c.requires.ordered c.requires.scene.ready.ordered c.args.cx.d.now
+          (record { node = n.node; there = n.there; is = n.is ∙ ap (λ z. exprs.Unary z c.args.a) c.in-LogicalNot.is })
+          node
+          c.in_ok-x-in-LogicalNot.ensures.kind c.in_ok-x-in-LogicalNot.ensures.is f) c.negated.ensures.emits);
+    }
 
 pub expressions::unary-signed_value-requires : goal.expressions::unary-signed_value-requires
 expressions::unary-signed_value-requires t c = (
@@ -4092,7 +4450,8 @@ expressions::unary-signed_value-requires-in-Minus t c = (
   ),
 )
 
-pub expressions::unary-signed_value-requires-in-Complement : goal.expressions::unary-signed_value-requires-in-Complement
+pub expressions::unary-signed_value-requires-in-Complement :
+    goal.expressions::unary-signed_value-requires-in-Complement
 expressions::unary-signed_value-requires-in-Complement t c = (
   search rules,
   (
@@ -4138,29 +4497,32 @@ expressions::signed_value-signed-requires-clause-to t c =
     as_kind (still c.requires.to c.in_ok-x.ensures.lowered)
     (sym (c.in_ok-x.ensures.kind ∙ (ap or_int c.requires.node.same)))
 
-pub expressions::signed_value-returns-clause-lowered : goal.expressions::signed_value-returns-clause-lowered
-expressions::signed_value-returns-clause-lowered t c =
-    tail_grew _ _ c.signed.result c.in_ok-x.ensures.lowered c.signed.ensures.grown c.signed.ensures.adds
-    (omega (arith, c.requires.node.operands.weight))
-
-pub expressions::signed_value-returns-clause-spends : goal.expressions::signed_value-returns-clause-spends
-expressions::signed_value-returns-clause-spends t c =
-    last_and _ _ _ _ c.signed.result c.in_ok-x.ensures.spends c.signed.ensures.spent
-    (omega (
-      arith,
-      c.requires.node.operands.weight,
-      heavy (expression c.args.cx.p.now c.args.k),
-      heavy (expression c.args.cx.p.now c.args.a),
-      extra_small c.args.cx.fixed (Some c.args.to),
-    ))
-    (omega (
-      arith,
-      c.requires.node.operands.weight,
-      heavy (expression c.args.cx.p.now c.args.k),
-      heavy (expression c.args.cx.p.now c.args.a),
-      extra_small c.args.cx.fixed (Some c.args.to),
-    ))
-    (omega (arith, c.requires.node.operands.copies))
+pub expressions::signed_value-returns : goal.expressions::signed_value-returns
+expressions::signed_value-returns t c =
+    record {
+      lowered = tail_grew _ _ c.signed.result c.in_ok-x.ensures.lowered c.signed.ensures.grown c.signed.ensures.adds
+          (omega (arith, c.requires.node.operands.weight));
+      spends = last_and _ _ _ _ c.signed.result c.in_ok-x.ensures.spends c.signed.ensures.spent
+          (omega (
+            arith,
+            c.requires.node.operands.weight,
+            heavy (expression c.args.cx.p.now c.args.k),
+            heavy (expression c.args.cx.p.now c.args.a),
+            extra_small c.args.cx.fixed (Some c.args.to),
+          ))
+          (omega (
+            arith,
+            c.requires.node.operands.weight,
+            heavy (expression c.args.cx.p.now c.args.k),
+            heavy (expression c.args.cx.p.now c.args.a),
+            extra_small c.args.cx.fixed (Some c.args.to),
+          ))
+          (omega (arith, c.requires.node.operands.copies));
+      is = IfOk-weaker c.signed.result _ _
+          (λ r f op g n. value_signed _ c.requires.ordered c.requires.scene.ready.ordered c.args.cx.d.now op _ g n
+          c.requires.node
+          c.in_ok-x.ensures.kind c.in_ok-x.ensures.is f) c.signed.ensures.emits;
+    }
 
 pub expressions::comparison-pair-requires : goal.expressions::comparison-pair-requires
 expressions::comparison-pair-requires t c = (
@@ -4189,31 +4551,34 @@ expressions::comparison-compare-requires-clause-right t c =
     as_kind c.in_ok-x.ensures.right (c.in_ok-x.ensures.right_kind ∙ sym (ap or_int c.requires.node.same)
     ∙ sym c.in_ok-x.ensures.left_kind)
 
-pub expressions::comparison-returns-clause-lowered : goal.expressions::comparison-returns-clause-lowered
-expressions::comparison-returns-clause-lowered t c =
-    tail_grew _ _ c.compare.result c.in_ok-x.ensures.lowered c.compare.ensures.grown c.compare.ensures.adds
-    (omega (arith, c.requires.node.operands.weight))
-
-pub expressions::comparison-returns-clause-spends : goal.expressions::comparison-returns-clause-spends
-expressions::comparison-returns-clause-spends t c =
-    last_and _ _ _ _ c.compare.result c.in_ok-x.ensures.spends c.compare.ensures.spent
-    (omega (
-      arith,
-      c.requires.node.operands.weight,
-      heavy (expression c.args.cx.p.now c.args.k),
-      heavy (expression c.args.cx.p.now c.args.a),
-      heavy (expression c.args.cx.p.now c.args.b),
-      extra_small c.args.cx.fixed (Some c.args.to),
-    ))
-    (omega (
-      arith,
-      c.requires.node.operands.weight,
-      heavy (expression c.args.cx.p.now c.args.k),
-      heavy (expression c.args.cx.p.now c.args.a),
-      heavy (expression c.args.cx.p.now c.args.b),
-      extra_small c.args.cx.fixed (Some c.args.to),
-    ))
-    (omega (arith, c.requires.node.operands.copies))
+pub expressions::comparison-returns : goal.expressions::comparison-returns
+expressions::comparison-returns t c =
+    record {
+      lowered = tail_grew _ _ c.compare.result c.in_ok-x.ensures.lowered c.compare.ensures.grown c.compare.ensures.adds
+          (omega (arith, c.requires.node.operands.weight));
+      spends = last_and _ _ _ _ c.compare.result c.in_ok-x.ensures.spends c.compare.ensures.spent
+          (omega (
+            arith,
+            c.requires.node.operands.weight,
+            heavy (expression c.args.cx.p.now c.args.k),
+            heavy (expression c.args.cx.p.now c.args.a),
+            heavy (expression c.args.cx.p.now c.args.b),
+            extra_small c.args.cx.fixed (Some c.args.to),
+          ))
+          (omega (
+            arith,
+            c.requires.node.operands.weight,
+            heavy (expression c.args.cx.p.now c.args.k),
+            heavy (expression c.args.cx.p.now c.args.a),
+            heavy (expression c.args.cx.p.now c.args.b),
+            extra_small c.args.cx.fixed (Some c.args.to),
+          ))
+          (omega (arith, c.requires.node.operands.copies));
+      is = IfOk-weaker c.compare.result _ _
+          (λ r f n. value_comparison _ c.requires.ordered c.requires.scene.ready.ordered c.args.cx.d.now n
+          c.requires.node
+          c.in_ok-x.ensures.left_kind c.in_ok-x.ensures.is f) c.compare.ensures.emits;
+    }
 
 pub expressions::truth-fork-fork-requires : goal.expressions::truth-fork-fork-requires
 expressions::truth-fork-fork-requires t c =
@@ -4273,42 +4638,48 @@ expressions::truth-constant-requires-2-clause-to t c =
 pub expressions::truth-constant-requires-2-clause-value : goal.expressions::truth-constant-requires-2-clause-value
 expressions::truth-constant-requires-2-clause-value t c = zero_fits (kinds.Int int.I32)
 
-pub expressions::truth-returns-clause-lowered : goal.expressions::truth-returns-clause-lowered
-expressions::truth-returns-clause-lowered t c =
-    tail_stands _ c.join_fork.result (opened (turned
-    (opened (opened (fork c.requires.scene c.fork-fork.ensures.forked) c.in_ok-joined_condition.ensures.lowered)
-    (grew (start c.in_ok-joined_condition.ensures.lowered.scene) c.in_ok-constant.ensures.grown
-    c.in_ok-constant.ensures.adds)) c.in_ok-turn_fork.ensures.turned c.in_ok-turn_fork.ensures.adds)
-    (grew (start (turned (opened (opened (fork c.requires.scene c.fork-fork.ensures.forked)
-    c.in_ok-joined_condition.ensures.lowered)
-    (grew (start c.in_ok-joined_condition.ensures.lowered.scene) c.in_ok-constant.ensures.grown
-    c.in_ok-constant.ensures.adds)) c.in_ok-turn_fork.ensures.turned c.in_ok-turn_fork.ensures.adds).scene)
-    c.in_ok-constant-2.ensures.grown c.in_ok-constant-2.ensures.adds)) c.join_fork.ensures.stands
-    (omega (arith, c.requires.node.operands.weight))
-
-pub expressions::truth-returns-clause-spends : goal.expressions::truth-returns-clause-spends
-expressions::truth-returns-clause-spends t c =
-    last_pushed _ _ c.join_fork.result (after
-    (and (after (after (plainly (forked_spent c.fork-fork.ensures.forked)) c.in_ok-joined_condition.ensures.spends)
-    (and nothing c.in_ok-constant.ensures.spent)) c.in_ok-turn_fork.ensures.spent)
-    (and nothing c.in_ok-constant-2.ensures.spent)) c.join_fork.ensures.stands
-    (omega (
-      arith,
-      c.requires.node.operands.weight,
-      heavy (expression c.args.cx.p.now c.args.k),
-      heavy (expression c.args.cx.p.now c.args.j.a),
-      heavy (expression c.args.cx.p.now c.args.j.b),
-      extra_small c.args.cx.fixed (Some c.args.to),
-    ))
-    (omega (
-      arith,
-      c.requires.node.operands.weight,
-      heavy (expression c.args.cx.p.now c.args.k),
-      heavy (expression c.args.cx.p.now c.args.j.a),
-      heavy (expression c.args.cx.p.now c.args.j.b),
-      extra_small c.args.cx.fixed (Some c.args.to),
-    ))
-    (omega (arith, c.requires.node.operands.copies)) refl refl
+pub expressions::truth-returns : goal.expressions::truth-returns
+expressions::truth-returns t c =
+    record {
+      lowered = tail_stands _ c.join_fork.result (opened (turned
+          (opened (opened (fork c.requires.scene c.fork-fork.ensures.forked) c.in_ok-joined_condition.ensures.lowered)
+          (grew (start c.in_ok-joined_condition.ensures.lowered.scene) c.in_ok-constant.ensures.grown
+          c.in_ok-constant.ensures.adds)) c.in_ok-turn_fork.ensures.turned c.in_ok-turn_fork.ensures.adds)
+          (grew (start (turned (opened (opened (fork c.requires.scene c.fork-fork.ensures.forked)
+          c.in_ok-joined_condition.ensures.lowered)
+          (grew (start c.in_ok-joined_condition.ensures.lowered.scene) c.in_ok-constant.ensures.grown
+          c.in_ok-constant.ensures.adds)) c.in_ok-turn_fork.ensures.turned c.in_ok-turn_fork.ensures.adds).scene)
+          c.in_ok-constant-2.ensures.grown c.in_ok-constant-2.ensures.adds)) c.join_fork.ensures.stands
+          (omega (arith, c.requires.node.operands.weight));
+      spends = last_pushed _ _ c.join_fork.result (after
+          (and (after (after (plainly (forked_spent c.fork-fork.ensures.forked))
+          c.in_ok-joined_condition.ensures.spends)
+          (and nothing c.in_ok-constant.ensures.spent)) c.in_ok-turn_fork.ensures.spent)
+          (and nothing c.in_ok-constant-2.ensures.spent)) c.join_fork.ensures.stands
+          (omega (
+            arith,
+            c.requires.node.operands.weight,
+            heavy (expression c.args.cx.p.now c.args.k),
+            heavy (expression c.args.cx.p.now c.args.j.a),
+            heavy (expression c.args.cx.p.now c.args.j.b),
+            extra_small c.args.cx.fixed (Some c.args.to),
+          ))
+          (omega (
+            arith,
+            c.requires.node.operands.weight,
+            heavy (expression c.args.cx.p.now c.args.k),
+            heavy (expression c.args.cx.p.now c.args.j.a),
+            heavy (expression c.args.cx.p.now c.args.j.b),
+            extra_small c.args.cx.fixed (Some c.args.to),
+          ))
+          (omega (arith, c.requires.node.operands.copies)) refl refl;
+      is = IfOk-weaker c.join_fork.result _ _
+          (λ r f a b n. value_truth _ c.requires.ordered c.requires.scene.ready.ordered _ _ _ a b c.args.j.both
+          c.requires.node.is n c.fork-fork.ensures.forked
+          (c.in_ok-joined_condition.ensures.is c.requires.node.is a b n) c.in_ok-constant.ensures.emits
+          c.in_ok-turn_fork.ensures.emits c.in_ok-constant-2.ensures.emits (one_emits _ _ _ refl f))
+          c.join_fork.ensures.stands;
+    }
 
 pub expressions::sum-pointer_first-requires : goal.expressions::sum-pointer_first-requires
 expressions::sum-pointer_first-requires t c = (
@@ -4385,33 +4756,33 @@ expressions::pointer_first-displaced-requires t c = (
   ),
 )
 
-pub expressions::pointer_first-returns-in-Some-clause-lowered :
-    goal.expressions::pointer_first-returns-in-Some-clause-lowered
-expressions::pointer_first-returns-in-Some-clause-lowered t c =
-    tail _ _ c.displaced.result (start c.requires.scene) c.displaced.ensures.lowered
-    (omega (arith, c.requires.node.weight))
-
-pub expressions::pointer_first-returns-in-Some-clause-spends :
-    goal.expressions::pointer_first-returns-in-Some-clause-spends
-expressions::pointer_first-returns-in-Some-clause-spends t c =
-    last _ _ _ _ c.displaced.result nothing c.displaced.ensures.spends
-    (omega (
-      arith,
-      c.requires.node.weight,
-      heavy (expression c.args.cx.p.now c.args.k),
-      heavy (expression c.args.cx.p.now c.args.a),
-      heavy (expression c.args.cx.p.now c.args.b),
-      extra_small c.args.cx.fixed (Some c.args.to),
-    ))
-    (omega (
-      arith,
-      c.requires.node.weight,
-      heavy (expression c.args.cx.p.now c.args.k),
-      heavy (expression c.args.cx.p.now c.args.a),
-      heavy (expression c.args.cx.p.now c.args.b),
-      extra_small c.args.cx.fixed (Some c.args.to),
-    ))
-    (omega (arith, c.requires.node.copies))
+pub expressions::pointer_first-returns-in-Some : goal.expressions::pointer_first-returns-in-Some
+expressions::pointer_first-returns-in-Some t c =
+    record {
+      lowered = tail _ _ c.displaced.result (start c.requires.scene) c.displaced.ensures.lowered
+          (omega (arith, c.requires.node.weight));
+      spends = last _ _ _ _ c.displaced.result nothing c.displaced.ensures.spends
+          (omega (
+            arith,
+            c.requires.node.weight,
+            heavy (expression c.args.cx.p.now c.args.k),
+            heavy (expression c.args.cx.p.now c.args.a),
+            heavy (expression c.args.cx.p.now c.args.b),
+            extra_small c.args.cx.fixed (Some c.args.to),
+          ))
+          (omega (
+            arith,
+            c.requires.node.weight,
+            heavy (expression c.args.cx.p.now c.args.k),
+            heavy (expression c.args.cx.p.now c.args.a),
+            heavy (expression c.args.cx.p.now c.args.b),
+            extra_small c.args.cx.fixed (Some c.args.to),
+          ))
+          (omega (arith, c.requires.node.copies));
+      is = IfOk-weaker c.displaced.result _ _
+          (λ r h n. value_displaced _ c.requires.ordered c.requires.scene.ready.ordered n c.requires.pointer
+          c.in-Some.ensures.is refl h) c.displaced.ensures.is;
+    }
 
 pub expressions::pointer_first-pair-requires : goal.expressions::pointer_first-pair-requires
 expressions::pointer_first-pair-requires t c = (
@@ -4441,33 +4812,34 @@ expressions::pointer_first-moved-requires-clause-base t c =
 pub expressions::pointer_first-moved-requires-clause-i : goal.expressions::pointer_first-moved-requires-clause-i
 expressions::pointer_first-moved-requires-clause-i t c = c.in_ok-base-in-None.ensures.right
 
-pub expressions::pointer_first-returns-in_ok-base-in-None-clause-lowered :
-    goal.expressions::pointer_first-returns-in_ok-base-in-None-clause-lowered
-expressions::pointer_first-returns-in_ok-base-in-None-clause-lowered t c =
-    tail_grew _ _ c.moved.result c.in_ok-base-in-None.ensures.lowered c.moved.ensures.grown c.moved.ensures.adds
-    (omega (arith, c.requires.node.weight))
-
-pub expressions::pointer_first-returns-in_ok-base-in-None-clause-spends :
-    goal.expressions::pointer_first-returns-in_ok-base-in-None-clause-spends
-expressions::pointer_first-returns-in_ok-base-in-None-clause-spends t c =
-    last_and _ _ _ _ c.moved.result c.in_ok-base-in-None.ensures.spends c.moved.ensures.spent
-    (omega (
-      arith,
-      c.requires.node.weight,
-      heavy (expression c.args.cx.p.now c.args.k),
-      heavy (expression c.args.cx.p.now c.args.a),
-      heavy (expression c.args.cx.p.now c.args.b),
-      extra_small c.args.cx.fixed (Some c.args.to),
-    ))
-    (omega (
-      arith,
-      c.requires.node.weight,
-      heavy (expression c.args.cx.p.now c.args.k),
-      heavy (expression c.args.cx.p.now c.args.a),
-      heavy (expression c.args.cx.p.now c.args.b),
-      extra_small c.args.cx.fixed (Some c.args.to),
-    ))
-    (omega (arith, c.requires.node.copies))
+pub expressions::pointer_first-returns-in_ok-base-in-None : goal.expressions::pointer_first-returns-in_ok-base-in-None
+expressions::pointer_first-returns-in_ok-base-in-None t c =
+    record {
+      lowered = tail_grew _ _ c.moved.result c.in_ok-base-in-None.ensures.lowered c.moved.ensures.grown
+          c.moved.ensures.adds
+          (omega (arith, c.requires.node.weight));
+      spends = last_and _ _ _ _ c.moved.result c.in_ok-base-in-None.ensures.spends c.moved.ensures.spent
+          (omega (
+            arith,
+            c.requires.node.weight,
+            heavy (expression c.args.cx.p.now c.args.k),
+            heavy (expression c.args.cx.p.now c.args.a),
+            heavy (expression c.args.cx.p.now c.args.b),
+            extra_small c.args.cx.fixed (Some c.args.to),
+          ))
+          (omega (
+            arith,
+            c.requires.node.weight,
+            heavy (expression c.args.cx.p.now c.args.k),
+            heavy (expression c.args.cx.p.now c.args.a),
+            heavy (expression c.args.cx.p.now c.args.b),
+            extra_small c.args.cx.fixed (Some c.args.to),
+          ))
+          (omega (arith, c.requires.node.copies));
+      is = IfOk-weaker c.moved.result _ _
+          (λ r f n. value_moved _ c.requires.ordered c.requires.scene.ready.ordered n c.requires.pointer
+          c.in_ok-base-in-None.ensures.right_kind c.in_ok-base-in-None.ensures.is f) c.moved.ensures.emits;
+    }
 
 pub expressions::pointer_second-constant_index-requires-clause-typed :
     goal.expressions::pointer_second-constant_index-requires-clause-typed
@@ -4494,33 +4866,33 @@ expressions::pointer_second-displaced-requires t c = (
   ),
 )
 
-pub expressions::pointer_second-returns-in-Some-clause-lowered :
-    goal.expressions::pointer_second-returns-in-Some-clause-lowered
-expressions::pointer_second-returns-in-Some-clause-lowered t c =
-    tail _ _ c.displaced.result (start c.requires.scene) c.displaced.ensures.lowered
-    (omega (arith, c.requires.node.weight))
-
-pub expressions::pointer_second-returns-in-Some-clause-spends :
-    goal.expressions::pointer_second-returns-in-Some-clause-spends
-expressions::pointer_second-returns-in-Some-clause-spends t c =
-    last _ _ _ _ c.displaced.result nothing c.displaced.ensures.spends
-    (omega (
-      arith,
-      c.requires.node.weight,
-      heavy (expression c.args.cx.p.now c.args.k),
-      heavy (expression c.args.cx.p.now c.args.a),
-      heavy (expression c.args.cx.p.now c.args.b),
-      extra_small c.args.cx.fixed (Some c.args.to),
-    ))
-    (omega (
-      arith,
-      c.requires.node.weight,
-      heavy (expression c.args.cx.p.now c.args.k),
-      heavy (expression c.args.cx.p.now c.args.a),
-      heavy (expression c.args.cx.p.now c.args.b),
-      extra_small c.args.cx.fixed (Some c.args.to),
-    ))
-    (omega (arith, c.requires.node.copies))
+pub expressions::pointer_second-returns-in-Some : goal.expressions::pointer_second-returns-in-Some
+expressions::pointer_second-returns-in-Some t c =
+    record {
+      lowered = tail _ _ c.displaced.result (start c.requires.scene) c.displaced.ensures.lowered
+          (omega (arith, c.requires.node.weight));
+      spends = last _ _ _ _ c.displaced.result nothing c.displaced.ensures.spends
+          (omega (
+            arith,
+            c.requires.node.weight,
+            heavy (expression c.args.cx.p.now c.args.k),
+            heavy (expression c.args.cx.p.now c.args.a),
+            heavy (expression c.args.cx.p.now c.args.b),
+            extra_small c.args.cx.fixed (Some c.args.to),
+          ))
+          (omega (
+            arith,
+            c.requires.node.weight,
+            heavy (expression c.args.cx.p.now c.args.k),
+            heavy (expression c.args.cx.p.now c.args.a),
+            heavy (expression c.args.cx.p.now c.args.b),
+            extra_small c.args.cx.fixed (Some c.args.to),
+          ))
+          (omega (arith, c.requires.node.copies));
+      is = IfOk-weaker c.displaced.result _ _
+          (λ r h n. value_displaced_right _ c.requires.ordered c.requires.scene.ready.ordered n c.requires.pointer
+          c.in-Some.ensures.is refl h) c.displaced.ensures.is;
+    }
 
 pub expressions::pointer_second-pair-requires : goal.expressions::pointer_second-pair-requires
 expressions::pointer_second-pair-requires t c = (
@@ -4537,11 +4909,13 @@ expressions::pointer_second-pair-requires t c = (
   ),
 )
 
-pub expressions::pointer_second-moved-requires-clause-room : goal.expressions::pointer_second-moved-requires-clause-room
+pub expressions::pointer_second-moved-requires-clause-room :
+    goal.expressions::pointer_second-moved-requires-clause-room
 expressions::pointer_second-moved-requires-clause-room t c =
     room c.requires.room c.in_ok-i-in-None.ensures.lowered (omega (arith, c.requires.node.weight))
 
-pub expressions::pointer_second-moved-requires-clause-base : goal.expressions::pointer_second-moved-requires-clause-base
+pub expressions::pointer_second-moved-requires-clause-base :
+    goal.expressions::pointer_second-moved-requires-clause-base
 expressions::pointer_second-moved-requires-clause-base t c =
     two_pointers (still c.requires.to c.in_ok-i-in-None.ensures.lowered)
     (as_kind c.in_ok-i-in-None.ensures.right (c.in_ok-i-in-None.ensures.right_kind ∙ scalar_kind c.requires.pointer))
@@ -4549,33 +4923,34 @@ expressions::pointer_second-moved-requires-clause-base t c =
 pub expressions::pointer_second-moved-requires-clause-i : goal.expressions::pointer_second-moved-requires-clause-i
 expressions::pointer_second-moved-requires-clause-i t c = c.in_ok-i-in-None.ensures.left
 
-pub expressions::pointer_second-returns-in_ok-i-in-None-clause-lowered :
-    goal.expressions::pointer_second-returns-in_ok-i-in-None-clause-lowered
-expressions::pointer_second-returns-in_ok-i-in-None-clause-lowered t c =
-    tail_grew _ _ c.moved.result c.in_ok-i-in-None.ensures.lowered c.moved.ensures.grown c.moved.ensures.adds
-    (omega (arith, c.requires.node.weight))
-
-pub expressions::pointer_second-returns-in_ok-i-in-None-clause-spends :
-    goal.expressions::pointer_second-returns-in_ok-i-in-None-clause-spends
-expressions::pointer_second-returns-in_ok-i-in-None-clause-spends t c =
-    last_and _ _ _ _ c.moved.result c.in_ok-i-in-None.ensures.spends c.moved.ensures.spent
-    (omega (
-      arith,
-      c.requires.node.weight,
-      heavy (expression c.args.cx.p.now c.args.k),
-      heavy (expression c.args.cx.p.now c.args.a),
-      heavy (expression c.args.cx.p.now c.args.b),
-      extra_small c.args.cx.fixed (Some c.args.to),
-    ))
-    (omega (
-      arith,
-      c.requires.node.weight,
-      heavy (expression c.args.cx.p.now c.args.k),
-      heavy (expression c.args.cx.p.now c.args.a),
-      heavy (expression c.args.cx.p.now c.args.b),
-      extra_small c.args.cx.fixed (Some c.args.to),
-    ))
-    (omega (arith, c.requires.node.copies))
+pub expressions::pointer_second-returns-in_ok-i-in-None : goal.expressions::pointer_second-returns-in_ok-i-in-None
+expressions::pointer_second-returns-in_ok-i-in-None t c =
+    record {
+      lowered = tail_grew _ _ c.moved.result c.in_ok-i-in-None.ensures.lowered c.moved.ensures.grown
+          c.moved.ensures.adds
+          (omega (arith, c.requires.node.weight));
+      spends = last_and _ _ _ _ c.moved.result c.in_ok-i-in-None.ensures.spends c.moved.ensures.spent
+          (omega (
+            arith,
+            c.requires.node.weight,
+            heavy (expression c.args.cx.p.now c.args.k),
+            heavy (expression c.args.cx.p.now c.args.a),
+            heavy (expression c.args.cx.p.now c.args.b),
+            extra_small c.args.cx.fixed (Some c.args.to),
+          ))
+          (omega (
+            arith,
+            c.requires.node.weight,
+            heavy (expression c.args.cx.p.now c.args.k),
+            heavy (expression c.args.cx.p.now c.args.a),
+            heavy (expression c.args.cx.p.now c.args.b),
+            extra_small c.args.cx.fixed (Some c.args.to),
+          ))
+          (omega (arith, c.requires.node.copies));
+      is = IfOk-weaker c.moved.result _ _
+          (λ r f n. value_moved_right _ c.requires.ordered c.requires.scene.ready.ordered n c.requires.pointer
+          c.in_ok-i-in-None.ensures.left_kind c.in_ok-i-in-None.ensures.is f) c.moved.ensures.emits;
+    }
 
 pub expressions::displaced-operand_in-requires : goal.expressions::displaced-operand_in-requires
 expressions::displaced-operand_in-requires t c = (
@@ -4597,17 +4972,19 @@ expressions::displaced-offset-requires-clause-same t c =
     two_pointers (still c.requires.to c.in_ok-base.ensures.lowered)
     (as_kind c.in_ok-base.ensures.holds (c.in_ok-base.ensures.kind ∙ scalar_kind c.requires.pointer))
 
-pub expressions::displaced-returns-clause-lowered : goal.expressions::displaced-returns-clause-lowered
-expressions::displaced-returns-clause-lowered t c =
-    tail_grew _ _ c.offset.result c.in_ok-base.ensures.lowered c.offset.ensures.grown c.offset.ensures.adds
-    (omega arith)
-
-pub expressions::displaced-returns-clause-spends : goal.expressions::displaced-returns-clause-spends
-expressions::displaced-returns-clause-spends t c =
-    last_and _ _ _ _ c.offset.result c.in_ok-base.ensures.spends c.offset.ensures.spent
-    (omega (arith, heavy (expression c.args.cx.p.now c.args.k), extra_small c.args.cx.fixed (Some c.args.to)))
-    (omega (arith, heavy (expression c.args.cx.p.now c.args.k), extra_small c.args.cx.fixed (Some c.args.to)))
-    (omega arith)
+pub expressions::displaced-returns : goal.expressions::displaced-returns
+expressions::displaced-returns t c =
+    record {
+      lowered = tail_grew _ _ c.offset.result c.in_ok-base.ensures.lowered c.offset.ensures.grown c.offset.ensures.adds
+          (omega arith);
+      spends = last_and _ _ _ _ c.offset.result c.in_ok-base.ensures.spends c.offset.ensures.spent
+          (omega (arith, heavy (expression c.args.cx.p.now c.args.k), extra_small c.args.cx.fixed (Some c.args.to)))
+          (omega (arith, heavy (expression c.args.cx.p.now c.args.k), extra_small c.args.cx.fixed (Some c.args.to)))
+          (omega arith);
+      is = IfOk-weaker c.offset.result _ _
+          (λ r f. record { middle = _; base = _; operand = c.in_ok-base.ensures.is; moved = f })
+          c.offset.ensures.emits;
+    }
 
 pub expressions::assignment-struct_assignment-requires : goal.expressions::assignment-struct_assignment-requires
 expressions::assignment-struct_assignment-requires t c = (
@@ -4624,30 +5001,34 @@ expressions::assignment-struct_assignment-requires t c = (
   ),
 )
 
-pub expressions::assignment-returns-then-facts-clause-lowered :
-    goal.expressions::assignment-returns-then-facts-clause-lowered
-expressions::assignment-returns-then-facts-clause-lowered t c =
-    at_most c.in_ok-struct_assignment.ensures.lowered (omega arith)
-
-pub expressions::assignment-returns-then-facts-clause-spends :
-    goal.expressions::assignment-returns-then-facts-clause-spends
-expressions::assignment-returns-then-facts-clause-spends t c =
-    within c.in_ok-struct_assignment.ensures.spends
-    (omega (
-      arith,
-      heavy (expression c.args.cx.p.now c.args.k),
-      heavy (expression c.args.cx.p.now c.args.a),
-      heavy (expression c.args.cx.p.now c.args.b),
-      extra_small c.args.cx.fixed c.args.to,
-    ))
-    (omega (
-      arith,
-      heavy (expression c.args.cx.p.now c.args.k),
-      heavy (expression c.args.cx.p.now c.args.a),
-      heavy (expression c.args.cx.p.now c.args.b),
-      extra_small c.args.cx.fixed c.args.to,
-    ))
-    (omega arith)
+pub expressions::assignment-returns-then-facts : goal.expressions::assignment-returns-then-facts
+expressions::assignment-returns-then-facts t c =
+    record {
+      lowered = at_most c.in_ok-struct_assignment.ensures.lowered (omega arith);
+      spends = within c.in_ok-struct_assignment.ensures.spends
+          (omega (
+            arith,
+            heavy (expression c.args.cx.p.now c.args.k),
+            heavy (expression c.args.cx.p.now c.args.a),
+            heavy (expression c.args.cx.p.now c.args.b),
+            extra_small c.args.cx.fixed c.args.to,
+          ))
+          (omega (
+            arith,
+            heavy (expression c.args.cx.p.now c.args.k),
+            heavy (expression c.args.cx.p.now c.args.a),
+            heavy (expression c.args.cx.p.now c.args.b),
+            extra_small c.args.cx.fixed c.args.to,
+          ))
+          (omega arith);
+      is = (λ n.
+          let ready = c.requires.scene.ready in
+          assigns_record _ c.requires.ordered ready.ordered n
+          (sym (c.facts.ensures.record n.node ready n.there) ∙ c.if-facts.true) (c.in_ok-struct_assignment.ensures.is
+          n));
+      copies = (λ n h.
+          record { temp = _; is = c.in_ok-struct_assignment.ensures.is n });
+    }
 
 pub expressions::assignment-value-requires : goal.expressions::assignment-value-requires
 expressions::assignment-value-requires t c = (
@@ -4678,31 +5059,38 @@ expressions::assignment-give-requires t c =
           c.in_ok-value-in-Some.ensures.lowered) (ap or_int c.requires.node.left));
     }
 
-pub expressions::assignment-returns-in_ok-value-in-Some-clause-lowered :
-    goal.expressions::assignment-returns-in_ok-value-in-Some-clause-lowered
-expressions::assignment-returns-in_ok-value-in-Some-clause-lowered t c =
-    tail_grew _ _ c.give.result c.in_ok-value-in-Some.ensures.lowered c.give.ensures.grown c.give.ensures.adds
-    (omega (arith, c.requires.node.operands.weight))
-
-pub expressions::assignment-returns-in_ok-value-in-Some-clause-spends :
-    goal.expressions::assignment-returns-in_ok-value-in-Some-clause-spends
-expressions::assignment-returns-in_ok-value-in-Some-clause-spends t c =
-    last_and _ _ _ _ c.give.result c.in_ok-value-in-Some.ensures.spends c.give.ensures.spent
-    (omega (
-      arith,
-      c.requires.node.operands.weight,
-      heavy (expression c.args.cx.p.now c.args.a),
-      heavy (expression c.args.cx.p.now c.args.b),
-      extra_small c.args.cx.fixed (Some c.in-Some.v),
-    ))
-    (omega (
-      arith,
-      c.requires.node.operands.weight,
-      heavy (expression c.args.cx.p.now c.args.a),
-      heavy (expression c.args.cx.p.now c.args.b),
-      extra_small c.args.cx.fixed (Some c.in-Some.v),
-    ))
-    (omega (arith, c.requires.node.operands.copies))
+pub expressions::assignment-returns-in_ok-value-in-Some : goal.expressions::assignment-returns-in_ok-value-in-Some
+expressions::assignment-returns-in_ok-value-in-Some t c =
+    record {
+      lowered = tail_grew _ _ c.give.result c.in_ok-value-in-Some.ensures.lowered c.give.ensures.grown
+          c.give.ensures.adds
+          (omega (arith, c.requires.node.operands.weight));
+      spends = last_and _ _ _ _ c.give.result c.in_ok-value-in-Some.ensures.spends c.give.ensures.spent
+          (omega (
+            arith,
+            c.requires.node.operands.weight,
+            heavy (expression c.args.cx.p.now c.args.a),
+            heavy (expression c.args.cx.p.now c.args.b),
+            extra_small c.args.cx.fixed (Some c.in-Some.v),
+          ))
+          (omega (
+            arith,
+            c.requires.node.operands.weight,
+            heavy (expression c.args.cx.p.now c.args.a),
+            heavy (expression c.args.cx.p.now c.args.b),
+            extra_small c.args.cx.fixed (Some c.in-Some.v),
+          ))
+          (omega (arith, c.requires.node.operands.copies));
+      is = (let ready = c.requires.scene.ready in
+          IfOk-weaker c.give.result _ _
+          (λ r f n. assigns_variable _ c.requires.ordered ready.ordered c.args.cx.d.now c.args.to refl n
+          c.requires.node
+          (λ x m. node_at c.args.cx.d.now ready c.requires.node.operands.left m.there m.is) c.in-Some.ensures.stands
+          c.in_ok-value-in-Some.ensures.is f) c.give.ensures.emits);
+      copies = IfOk-weaker c.give.result _ _
+          (λ r f n h. no_copies n c.if-facts.false (c.facts.ensures.record n.node c.requires.scene.ready n.there) h)
+          c.give.ensures.emits;
+    }
 
 pub expressions::object_assignment-pointer-requires : goal.expressions::object_assignment-pointer-requires
 expressions::object_assignment-pointer-requires t c = (
@@ -4761,36 +5149,45 @@ expressions::object_assignment-give-requires t c =
           (c.kind-kind.ensures c.requires.scene.ready ∙ (ap or_int c.requires.node.left)));
     }
 
-pub expressions::object_assignment-returns-clause-lowered : goal.expressions::object_assignment-returns-clause-lowered
-expressions::object_assignment-returns-clause-lowered t c =
-    tail_grew _ _ c.give.result (grew (both c.in_ok-at.ensures.lowered c.in_ok-v.ensures.lowered)
-    c.in_ok-store.ensures.grown c.in_ok-store.ensures.adds) c.give.ensures.grown c.give.ensures.adds
-    (omega (arith, c.requires.node.operands.weight))
+pub expressions::object_assignment-returns : goal.expressions::object_assignment-returns
+expressions::object_assignment-returns t c =
+    record {
+      lowered = tail_grew _ _ c.give.result (grew (both c.in_ok-at.ensures.lowered c.in_ok-v.ensures.lowered)
+          c.in_ok-store.ensures.grown c.in_ok-store.ensures.adds) c.give.ensures.grown c.give.ensures.adds
+          (omega (arith, c.requires.node.operands.weight));
+      spends = last_and _ _ _ _ c.give.result (and (after c.in_ok-at.ensures.spends c.in_ok-v.ensures.spends)
+          c.in_ok-store.ensures.spent) c.give.ensures.spent
+          (omega (
+            arith,
+            c.requires.node.operands.weight,
+            heavy (expression c.args.cx.p.now c.args.k),
+            heavy (expression c.args.cx.p.now c.args.a),
+            heavy (expression c.args.cx.p.now c.args.b),
+            extra_small c.args.cx.fixed c.args.to,
+          )) (omega (
+            arith,
+            c.requires.node.operands.weight,
+            heavy (expression c.args.cx.p.now c.args.k),
+            heavy (expression c.args.cx.p.now c.args.a),
+            heavy (expression c.args.cx.p.now c.args.b),
+            extra_small c.args.cx.fixed c.args.to,
+          ))
+          (omega (arith, c.requires.node.operands.copies));
+      is = (let ready = c.requires.scene.ready in
+          IfOk-weaker c.give.result _ _
+          (λ r f there n. assigns_object _ c.requires.ordered ready.ordered c.args.cx.d.now c.args.to n c.requires.node
+          c.written.ensures (c.kind-kind.ensures ready) c.pos.ensures there c.in_ok-at.ensures.is c.in_ok-v.ensures.is
+          c.in_ok-store.ensures.emits f) c.give.ensures.emits);
+    }
 
-pub expressions::object_assignment-returns-clause-spends : goal.expressions::object_assignment-returns-clause-spends
-expressions::object_assignment-returns-clause-spends t c =
-    last_and _ _ _ _ c.give.result (and (after c.in_ok-at.ensures.spends c.in_ok-v.ensures.spends)
-    c.in_ok-store.ensures.spent) c.give.ensures.spent
-    (omega (
-      arith,
-      c.requires.node.operands.weight,
-      heavy (expression c.args.cx.p.now c.args.k),
-      heavy (expression c.args.cx.p.now c.args.a),
-      heavy (expression c.args.cx.p.now c.args.b),
-      extra_small c.args.cx.fixed c.args.to,
-    )) (omega (
-      arith,
-      c.requires.node.operands.weight,
-      heavy (expression c.args.cx.p.now c.args.k),
-      heavy (expression c.args.cx.p.now c.args.a),
-      heavy (expression c.args.cx.p.now c.args.b),
-      extra_small c.args.cx.fixed c.args.to,
-    ))
-    (omega (arith, c.requires.node.operands.copies))
-
-pub expressions::assigned-returns-in-None-clause-has : goal.expressions::assigned-returns-in-None-clause-has
-expressions::assigned-returns-in-None-clause-has t c =
-    IfOk-weaker c.operand.result _ _ (λ t h. as_kind h c.requires.kind) c.operand.ensures.has
+pub expressions::assigned-returns-in-None : goal.expressions::assigned-returns-in-None
+expressions::assigned-returns-in-None t c =
+    record {
+      has = IfOk-weaker c.operand.result _ _ (λ t h. as_kind h c.requires.kind) c.operand.ensures.has;
+      lowered = search rules;
+      spends = search rules;
+      is = IfOk-weaker c.operand.result _ _ (λ r h. assigned_plain _ c.in-None.is h) c.operand.ensures.is;
+    }
 
 pub expressions::assigned-own-requires-clause-room : goal.expressions::assigned-own-requires-clause-room
 expressions::assigned-own-requires-clause-room t c =
@@ -4815,24 +5212,18 @@ expressions::assigned-value-requires t c = (
   ),
 )
 
-pub expressions::assigned-returns-in_ok-value-in-Some-clause-has :
-    goal.expressions::assigned-returns-in_ok-value-in-Some-clause-has
-expressions::assigned-returns-in_ok-value-in-Some-clause-has t c =
-    still c.in_ok-v-in-Some.ensures.has c.in_ok-value-in-Some.ensures.lowered
-
-pub expressions::assigned-returns-in_ok-value-in-Some-clause-lowered :
-    goal.expressions::assigned-returns-in_ok-value-in-Some-clause-lowered
-expressions::assigned-returns-in_ok-value-in-Some-clause-lowered t c =
-    at_most (both c.in_ok-v-in-Some.ensures.lowered c.in_ok-value-in-Some.ensures.lowered)
-    (omega (arith, heavy (expression c.args.cx.p.now c.args.k)))
-
-pub expressions::assigned-returns-in_ok-value-in-Some-clause-spends :
-    goal.expressions::assigned-returns-in_ok-value-in-Some-clause-spends
-expressions::assigned-returns-in_ok-value-in-Some-clause-spends t c =
-    within (in_own _ c.in_ok-v-in-Some.ensures.owns c.in_ok-value-in-Some.ensures.spends)
-    (omega (arith, heavy (expression c.args.cx.p.now c.args.k), extra_small c.args.cx.fixed c.args.to))
-    (omega (arith, heavy (expression c.args.cx.p.now c.args.k), extra_small c.args.cx.fixed c.args.to))
-    (omega arith)
+pub expressions::assigned-returns-in_ok-value-in-Some : goal.expressions::assigned-returns-in_ok-value-in-Some
+expressions::assigned-returns-in_ok-value-in-Some t c =
+    record {
+      has = still c.in_ok-v-in-Some.ensures.has c.in_ok-value-in-Some.ensures.lowered;
+      lowered = at_most (both c.in_ok-v-in-Some.ensures.lowered c.in_ok-value-in-Some.ensures.lowered)
+          (omega (arith, heavy (expression c.args.cx.p.now c.args.k)));
+      spends = within (in_own _ c.in_ok-v-in-Some.ensures.owns c.in_ok-value-in-Some.ensures.spends)
+          (omega (arith, heavy (expression c.args.cx.p.now c.args.k), extra_small c.args.cx.fixed c.args.to))
+          (omega (arith, heavy (expression c.args.cx.p.now c.args.k), extra_small c.args.cx.fixed c.args.to))
+          (omega arith);
+      is = assigned_own _ c.in-Some.is c.in_ok-v-in-Some.ensures.is c.in_ok-value-in-Some.ensures.is;
+    }
 
 pub expressions::compound-held-requires : goal.expressions::compound-held-requires
 expressions::compound-held-requires t c = (
@@ -4879,33 +5270,39 @@ expressions::compound-give-requires t c =
           c.in_ok-changed-in-Some.ensures.adds)) (ap or_int c.requires.left));
     }
 
-pub expressions::compound-returns-in_ok-changed-in-Some-clause-lowered :
-    goal.expressions::compound-returns-in_ok-changed-in-Some-clause-lowered
-expressions::compound-returns-in_ok-changed-in-Some-clause-lowered t c =
-    tail_grew _ _ c.give.result (grew c.in_ok-y-in-Some.ensures.lowered c.in_ok-changed-in-Some.ensures.grown
-    c.in_ok-changed-in-Some.ensures.adds) c.give.ensures.grown c.give.ensures.adds
-    (omega (arith, c.requires.node.weight))
-
-pub expressions::compound-returns-in_ok-changed-in-Some-clause-spends :
-    goal.expressions::compound-returns-in_ok-changed-in-Some-clause-spends
-expressions::compound-returns-in_ok-changed-in-Some-clause-spends t c =
-    last_and _ _ _ _ c.give.result (and c.in_ok-y-in-Some.ensures.spends c.in_ok-changed-in-Some.ensures.spent)
-    c.give.ensures.spent (omega (
-      arith,
-      c.requires.node.weight,
-      heavy (expression c.args.cx.p.now c.args.k),
-      heavy (expression c.args.cx.p.now c.args.a),
-      heavy (expression c.args.cx.p.now c.args.b),
-      extra_small c.args.cx.fixed c.args.to,
-    )) (omega (
-      arith,
-      c.requires.node.weight,
-      heavy (expression c.args.cx.p.now c.args.k),
-      heavy (expression c.args.cx.p.now c.args.a),
-      heavy (expression c.args.cx.p.now c.args.b),
-      extra_small c.args.cx.fixed c.args.to,
-    ))
-    (omega (arith, c.requires.node.copies))
+pub expressions::compound-returns-in_ok-changed-in-Some : goal.expressions::compound-returns-in_ok-changed-in-Some
+expressions::compound-returns-in_ok-changed-in-Some t c =
+    record {
+      lowered = tail_grew _ _ c.give.result (grew c.in_ok-y-in-Some.ensures.lowered
+          c.in_ok-changed-in-Some.ensures.grown
+          c.in_ok-changed-in-Some.ensures.adds) c.give.ensures.grown c.give.ensures.adds
+          (omega (arith, c.requires.node.weight));
+      spends = last_and _ _ _ _ c.give.result (and c.in_ok-y-in-Some.ensures.spends
+          c.in_ok-changed-in-Some.ensures.spent)
+          c.give.ensures.spent (omega (
+            arith,
+            c.requires.node.weight,
+            heavy (expression c.args.cx.p.now c.args.k),
+            heavy (expression c.args.cx.p.now c.args.a),
+            heavy (expression c.args.cx.p.now c.args.b),
+            extra_small c.args.cx.fixed c.args.to,
+          )) (omega (
+            arith,
+            c.requires.node.weight,
+            heavy (expression c.args.cx.p.now c.args.k),
+            heavy (expression c.args.cx.p.now c.args.a),
+            heavy (expression c.args.cx.p.now c.args.b),
+            extra_small c.args.cx.fixed c.args.to,
+          ))
+          (omega (arith, c.requires.node.copies));
+      is = (let ready = c.requires.scene.ready in
+          IfOk-weaker c.give.result _ _
+          (λ r f op of n node by. compounds_variable _ c.requires.ordered ready.ordered c.args.cx.d.now n node by
+          c.args.to refl (λ x m. node_at c.args.cx.d.now ready c.requires.node.left m.there m.is)
+          c.in-Some.ensures.stands
+          (c.kind-kind.ensures ready) c.in_ok-y-in-Some.ensures.kind c.in_ok-y-in-Some.ensures.is
+          c.in_ok-changed-in-Some.ensures.emits f) c.give.ensures.emits);
+    }
 
 pub expressions::compound-pointer-requires : goal.expressions::compound-pointer-requires
 expressions::compound-pointer-requires t c = (
@@ -5000,7 +5397,8 @@ pub expressions::compound-give-requires-in-None : goal.expressions::compound-giv
 expressions::compound-give-requires-in-None t c =
     record {
       same = maybe_same _ c.args.to _ _
-          (maybe_kind _ c.args.to _ _ (sym ((c.kind-kind.ensures c.requires.scene.ready) ∙ (ap or_int c.requires.left)))
+          (maybe_kind _ c.args.to _ _ (sym ((c.kind-kind.ensures c.requires.scene.ready) ∙ (ap or_int
+          c.requires.left)))
           (maybe_kept _ c.args.to (grew (grew (grew
           (both (both c.in_ok-at-in-None.ensures.lowered c.in_ok-y-in-None.ensures.lowered)
           c.in_ok-temp-in-None.ensures.lowered) c.in_ok-load-in-None.ensures.grown c.in_ok-load-in-None.ensures.adds)
@@ -5011,36 +5409,44 @@ expressions::compound-give-requires-in-None t c =
           c.in_ok-store-in-None.ensures.grown));
     }
 
-pub expressions::compound-returns-in_ok-store-in-None-clause-lowered :
-    goal.expressions::compound-returns-in_ok-store-in-None-clause-lowered
-expressions::compound-returns-in_ok-store-in-None-clause-lowered t c =
-    tail_grew _ _ c.give-in-None.result (grew
-    (grew (grew (both (both c.in_ok-at-in-None.ensures.lowered c.in_ok-y-in-None.ensures.lowered)
-    c.in_ok-temp-in-None.ensures.lowered) c.in_ok-load-in-None.ensures.grown c.in_ok-load-in-None.ensures.adds)
-    c.in_ok-changed-in-None.ensures.grown c.in_ok-changed-in-None.ensures.adds) c.in_ok-store-in-None.ensures.grown
-    c.in_ok-store-in-None.ensures.adds) c.give-in-None.ensures.grown c.give-in-None.ensures.adds
-    (omega (arith, c.requires.node.weight))
-
-pub expressions::compound-returns-in_ok-store-in-None-clause-spends :
-    goal.expressions::compound-returns-in_ok-store-in-None-clause-spends
-expressions::compound-returns-in_ok-store-in-None-clause-spends t c =
-    last_given _ c.give-in-None.result c.in_ok-temp-in-None.ensures.owns
-    (and (and (and (owned (after c.in_ok-at-in-None.ensures.spends c.in_ok-y-in-None.ensures.spends)
-    c.in_ok-temp-in-None.ensures.owns) c.in_ok-load-in-None.ensures.spent) c.in_ok-changed-in-None.ensures.spent)
-    c.in_ok-store-in-None.ensures.spent) c.give-in-None.ensures.spent c.give-in-None.ensures.there
-    (omega (
-      arith,
-      c.requires.node.weight,
-      heavy (expression c.args.cx.p.now c.args.a),
-      heavy (expression c.args.cx.p.now c.args.b),
-    ))
-    (omega (
-      arith,
-      c.requires.node.weight,
-      heavy (expression c.args.cx.p.now c.args.a),
-      heavy (expression c.args.cx.p.now c.args.b),
-    ))
-    (omega (arith, c.requires.node.copies))
+pub expressions::compound-returns-in_ok-store-in-None : goal.expressions::compound-returns-in_ok-store-in-None
+expressions::compound-returns-in_ok-store-in-None t c =
+    record {
+      lowered = tail_grew _ _ c.give-in-None.result (grew
+          (grew (grew (both (both c.in_ok-at-in-None.ensures.lowered c.in_ok-y-in-None.ensures.lowered)
+          c.in_ok-temp-in-None.ensures.lowered) c.in_ok-load-in-None.ensures.grown c.in_ok-load-in-None.ensures.adds)
+          c.in_ok-changed-in-None.ensures.grown c.in_ok-changed-in-None.ensures.adds)
+          c.in_ok-store-in-None.ensures.grown
+          c.in_ok-store-in-None.ensures.adds) c.give-in-None.ensures.grown c.give-in-None.ensures.adds
+          (omega (arith, c.requires.node.weight));
+      spends = last_given _ c.give-in-None.result c.in_ok-temp-in-None.ensures.owns
+          (and (and (and (owned (after c.in_ok-at-in-None.ensures.spends c.in_ok-y-in-None.ensures.spends)
+          c.in_ok-temp-in-None.ensures.owns) c.in_ok-load-in-None.ensures.spent) c.in_ok-changed-in-None.ensures.spent)
+          c.in_ok-store-in-None.ensures.spent) c.give-in-None.ensures.spent c.give-in-None.ensures.there
+          (omega (
+            arith,
+            c.requires.node.weight,
+            heavy (expression c.args.cx.p.now c.args.a),
+            heavy (expression c.args.cx.p.now c.args.b),
+          ))
+          (omega (
+            arith,
+            c.requires.node.weight,
+            heavy (expression c.args.cx.p.now c.args.a),
+            heavy (expression c.args.cx.p.now c.args.b),
+          ))
+          (omega (arith, c.requires.node.copies));
+      is = (let ready = c.requires.scene.ready in
+          IfOk-weaker c.give-in-None.result _ _
+          (λ r f op of n node by. compounds_object _ c.requires.ordered ready.ordered c.args.cx.d.now n node by
+          c.args.to
+          c.written.ensures (c.kind-kind.ensures ready) c.in_ok-y-in-None.ensures.kind c.pos.ensures
+          c.pos-in-None.ensures c.in-None.ensures.other c.in_ok-at-in-None.ensures.is c.in_ok-y-in-None.ensures.is
+          c.in_ok-temp-in-None.ensures.is
+          c.in_ok-load-in-None.ensures.emits c.in_ok-changed-in-None.ensures.emits c.in_ok-store-in-None.ensures.emits
+          f)
+          c.give-in-None.ensures.emits);
+    }
 
 pub expressions::step-variable_step-requires-clause-v : goal.expressions::step-variable_step-requires-clause-v
 expressions::step-variable_step-requires-clause-v t c =
@@ -5056,29 +5462,34 @@ pub expressions::step-variable_step-requires-clause-room : goal.expressions::ste
 expressions::step-variable_step-requires-clause-room t c =
     less_room c.requires.room (omega (arith, c.requires.node.operands.weight))
 
-pub expressions::step-returns-in-Some-clause-lowered : goal.expressions::step-returns-in-Some-clause-lowered
-expressions::step-returns-in-Some-clause-lowered t c =
-    tail _ _ c.variable_step.result (start c.requires.scene) c.variable_step.ensures.lowered
-    (omega (arith, c.requires.node.operands.weight))
-
-pub expressions::step-returns-in-Some-clause-spends : goal.expressions::step-returns-in-Some-clause-spends
-expressions::step-returns-in-Some-clause-spends t c =
-    last _ _ _ _ c.variable_step.result nothing c.variable_step.ensures.spends
-    (omega (
-      arith,
-      c.requires.node.operands.weight,
-      heavy (expression c.args.cx.p.now c.args.k),
-      heavy (expression c.args.cx.p.now c.args.a),
-      extra_small c.args.cx.fixed c.args.to,
-    ))
-    (omega (
-      arith,
-      c.requires.node.operands.weight,
-      heavy (expression c.args.cx.p.now c.args.k),
-      heavy (expression c.args.cx.p.now c.args.a),
-      extra_small c.args.cx.fixed c.args.to,
-    ))
-    (omega (arith, c.requires.node.operands.copies))
+pub expressions::step-returns-in-Some : goal.expressions::step-returns-in-Some
+expressions::step-returns-in-Some t c =
+    record {
+      lowered = tail _ _ c.variable_step.result (start c.requires.scene) c.variable_step.ensures.lowered
+          (omega (arith, c.requires.node.operands.weight));
+      spends = last _ _ _ _ c.variable_step.result nothing c.variable_step.ensures.spends
+          (omega (
+            arith,
+            c.requires.node.operands.weight,
+            heavy (expression c.args.cx.p.now c.args.k),
+            heavy (expression c.args.cx.p.now c.args.a),
+            extra_small c.args.cx.fixed c.args.to,
+          ))
+          (omega (
+            arith,
+            c.requires.node.operands.weight,
+            heavy (expression c.args.cx.p.now c.args.k),
+            heavy (expression c.args.cx.p.now c.args.a),
+            extra_small c.args.cx.fixed c.args.to,
+          ))
+          (omega (arith, c.requires.node.operands.copies));
+      is = (let ready = c.requires.scene.ready in
+          IfOk-weaker c.variable_step.result _ _
+          (λ r h n. h c.args.k c.args.a c.requires.node.operands.operand
+          (steps_are _ c.requires.ordered ready.ordered c.args.cx.d.now c.pointed_size.result n c.requires.node
+          (c.pointed_size.ensures.is ready) (c.pointed_size.ensures.size ready) c.unwrap_or-size.ensures)
+          c.in-Some.ensures.stands (c.kind-kind.ensures ready)) c.variable_step.ensures.is);
+    }
 
 pub expressions::step-pointer-requires : goal.expressions::step-pointer-requires
 expressions::step-pointer-requires t c = (
@@ -5143,1102 +5554,373 @@ expressions::step-give-requires t c =
           c.in_ok-store-in-None.ensures.grown));
     }
 
-pub expressions::step-returns-in_ok-store-in-None-clause-lowered :
-    goal.expressions::step-returns-in_ok-store-in-None-clause-lowered
-expressions::step-returns-in_ok-store-in-None-clause-lowered t c =
-    tail_grew _ _ c.give.result (grew (grew (grew
-    (both c.in_ok-at-in-None.ensures.lowered c.in_ok-old-in-None.ensures.lowered)
-    c.in_ok-load-in-None.ensures.grown c.in_ok-load-in-None.ensures.adds) c.in_ok-new-in-None.ensures.grown
-    c.in_ok-new-in-None.ensures.adds) c.in_ok-store-in-None.ensures.grown c.in_ok-store-in-None.ensures.adds)
-    c.give.ensures.grown c.give.ensures.adds (omega (arith, c.requires.node.operands.weight))
-
-pub expressions::step-returns-in_ok-store-in-None-clause-spends :
-    goal.expressions::step-returns-in_ok-store-in-None-clause-spends
-expressions::step-returns-in_ok-store-in-None-clause-spends t c =
-    last_given _ c.give.result c.in_ok-old-in-None.ensures.owns
-    (and (and (and (owned c.in_ok-at-in-None.ensures.spends c.in_ok-old-in-None.ensures.owns)
-    c.in_ok-load-in-None.ensures.spent) c.in_ok-new-in-None.ensures.spent) c.in_ok-store-in-None.ensures.spent)
-    c.give.ensures.spent c.give.ensures.there
-    (omega (arith, c.requires.node.operands.weight, heavy (expression c.args.cx.p.now c.args.a)))
-    (omega (arith, c.requires.node.operands.weight, heavy (expression c.args.cx.p.now c.args.a)))
-    (omega (arith, c.requires.node.operands.copies))
-
-pub expressions::value-returns-in-Call-clause-spends : goal.expressions::value-returns-in-Call-clause-spends
-expressions::value-returns-in-Call-clause-spends t c =
-    last _ _ _ _ c.call.result nothing c.call.ensures.spends (omega arith) (omega arith)
-    (omega arith)
-
-pub expressions::value-returns-in-Library-clause-spends : goal.expressions::value-returns-in-Library-clause-spends
-expressions::value-returns-in-Library-clause-spends t c =
-    last _ _ _ _ c.library.result nothing c.library.ensures.spends (omega arith) (omega arith)
-    (omega arith)
-
-pub expressions::operand-returns-in-Some-clause-is : goal.expressions::operand-returns-in-Some-clause-is
-expressions::operand-returns-in-Some-clause-is t c = operand_held _ _ c.in-Some.ensures.is
-
-pub expressions::operand-returns-in_ok-value-in-None-clause-is :
-    goal.expressions::operand-returns-in_ok-value-in-None-clause-is
-expressions::operand-returns-in_ok-value-in-None-clause-is t c =
-    operand_made _ _ c.in_ok-t-in-None.ensures.next c.in_ok-t-in-None.ensures.emits c.in_ok-value-in-None.ensures.is
-
-pub expressions::operand_in-returns-in-Some-clause-is : goal.expressions::operand_in-returns-in-Some-clause-is
-expressions::operand_in-returns-in-Some-clause-is t c = operand_in_held _ _ c.in-Some.ensures.is
-
-pub expressions::operand_in-returns-in_ok-value-in-None-clause-is :
-    goal.expressions::operand_in-returns-in_ok-value-in-None-clause-is
-expressions::operand_in-returns-in_ok-value-in-None-clause-is t c =
-    operand_in_there _ c.in_ok-value-in-None.ensures.is
-
-pub expressions::pair-returns-clause-is : goal.expressions::pair-returns-clause-is
-expressions::pair-returns-clause-is t c =
-    pair_both _ c.written.ensures c.in_ok-x.ensures.is c.in_ok-y.ensures.is
-
-pub expressions::value-returns-in_default-clause-is : goal.expressions::value-returns-in_default-clause-is
-expressions::value-returns-in_default-clause-is t c =
-    IfOk-weaker c.constant.result _ _ (λ r f. value_no_node _ c.requires.ordered c.requires.scene.ready.ordered
-    c.in_default.ensures f) c.constant.ensures.emits
-
-pub expressions::value-returns-in-Constant-clause-is : goal.expressions::value-returns-in-Constant-clause-is
-expressions::value-returns-in-Constant-clause-is t c =
-    let n = node_at c.args.cx.d.now c.requires.scene.ready c.requires.typed c.in-Some.ensures c.in-Constant.is in
-    let kind = c.kind-kind.ensures c.requires.scene.ready in
-    let fits = subst (λ z. constant_fits z c.in-Constant.n ≡ true) (sym (kind ∙ scalar_kind n.is)) n.fits in
-    IfOk-weaker c.constant-in-Constant.result _ _
-    (λ r f. value_constant _ c.requires.ordered c.requires.scene.ready.ordered
-    (record { node = _; there = c.in-Some.ensures; is = c.in-Constant.is }) kind fits (omega arith) f)
-    c.constant-in-Constant.ensures.emits
-
-pub expressions::value-returns-in-Int-clause-is : goal.expressions::value-returns-in-Int-clause-is
-expressions::value-returns-in-Int-clause-is t c = IfOk-weaker c.integer.result _ _
-    (λ r h. h (record { node = _; there = c.in-Some.ensures; is = c.in-Int.is })) c.integer.ensures.is
-
-pub expressions::integer-returns-clause-is : goal.expressions::integer-returns-clause-is
-expressions::integer-returns-clause-is t c =
-    IfOk-weaker c.whole.result _ _
-    (λ r f n. value_integer _ c.requires.ordered c.requires.scene.ready.ordered c.args.cx.d.now n c.requires.node
-    (λ z e. c.int_kind.ensures z (c.kind.ensures c.requires.scene.ready ∙ e)) c.in_ok-x.ensures.right_kind
-    c.in_ok-x.ensures.is f) c.whole.ensures.emits
-
-pub expressions::capability-returns-clause-is : goal.expressions::capability-returns-clause-is
-expressions::capability-returns-clause-is t c =
-    IfOk-weaker c.derived.result _ _
-    (λ r f n. value_capability _ c.requires.ordered c.requires.scene.ready.ordered c.args.cx.d.now n c.requires.node
-    (λ y e. c.is_signed-signed.ensures y (c.kind.ensures c.requires.scene.ready ∙ e)) c.in_ok-x.ensures.right_kind
-    c.in_ok-x.ensures.is f) c.derived.ensures.emits
-
-pub expressions::comma-returns-clause-is : goal.expressions::comma-returns-clause-is
-expressions::comma-returns-clause-is t c =
-    IfOk-weaker c.value.result _ _
-    (λ r h n. value_comma _ c.requires.ordered c.requires.scene.ready.ordered c.args.cx.d.now n c.requires.node
-    c.in_ok-effect.ensures.is h) c.value.ensures.is
-
-pub expressions::comparison-returns-clause-is : goal.expressions::comparison-returns-clause-is
-expressions::comparison-returns-clause-is t c =
-    IfOk-weaker c.compare.result _ _
-    (λ r f n. value_comparison _ c.requires.ordered c.requires.scene.ready.ordered c.args.cx.d.now n c.requires.node
-    c.in_ok-x.ensures.left_kind c.in_ok-x.ensures.is f) c.compare.ensures.emits
-
-pub expressions::choice-returns-clause-is : goal.expressions::choice-returns-clause-is
-expressions::choice-returns-clause-is t c =
-    IfOk-weaker c.join_fork.result _ _
-    (λ r f n. value_choice _ c.requires.ordered c.requires.scene.ready.ordered c.args.cx.d.now n c.requires.node
-    c.fork-fork.ensures.forked c.in_ok-condition.ensures.is c.in_ok-value.ensures.is c.in_ok-turn_fork.ensures.emits
-    c.in_ok-value-2.ensures.is (one_emits _ _ _ refl f)) c.join_fork.ensures.stands
-
-pub expressions::signed_value-returns-clause-is : goal.expressions::signed_value-returns-clause-is
-expressions::signed_value-returns-clause-is t c =
-    IfOk-weaker c.signed.result _ _
-    (λ r f op g n. value_signed _ c.requires.ordered c.requires.scene.ready.ordered c.args.cx.d.now op _ g n
-    c.requires.node
-    c.in_ok-x.ensures.kind c.in_ok-x.ensures.is f) c.signed.ensures.emits
-
-pub expressions::load-returns-in-Some-clause-is : goal.expressions::load-returns-in-Some-clause-is
-expressions::load-returns-in-Some-clause-is t c =
-    IfOk-weaker c.transfer.result _ _
-    (λ r f n. value_read _ c.requires.ordered c.requires.scene.ready.ordered c.args.cx.d.now refl n c.requires.node
-    (λ x m. node_at c.args.cx.d.now c.requires.scene.ready c.requires.node.operands.operand m.there m.is)
-    c.in-Some.ensures.stands f) c.transfer.ensures.emits
-
-pub expressions::load-returns-in_ok-from-in-None-clause-is : goal.expressions::load-returns-in_ok-from-in-None-clause-is
-expressions::load-returns-in_ok-from-in-None-clause-is t c =
-    IfOk-weaker c.load.result _ _
-    (λ r f n. value_loaded _ c.requires.ordered c.requires.scene.ready.ordered c.args.cx.d.now n c.requires.node
-    (c.kind.ensures c.requires.scene.ready) c.pos.ensures c.in-None.ensures.other c.in_ok-from-in-None.ensures.is f)
-    c.load.ensures.emits
-
-pub expressions::unary-returns-in_ok-x-in-LogicalNot-clause-is :
-    goal.expressions::unary-returns-in_ok-x-in-LogicalNot-clause-is
-expressions::unary-returns-in_ok-x-in-LogicalNot-clause-is t c =
-    let node = subst (λ z. UnaryNode (frame_of c.args.cx.p.now c.args.cx.d.now) c.args.k z c.args.a) c.in-LogicalNot.is
-    c.requires.node in
-    IfOk-weaker c.negated.result _ _
-    (λ r f n. value_not _ c.requires.ordered c.requires.scene.ready.ordered c.args.cx.d.now
-    (record { node = n.node; there = n.there; is = n.is ∙ ap (λ z. exprs.Unary z c.args.a) c.in-LogicalNot.is }) node
-    c.in_ok-x-in-LogicalNot.ensures.kind c.in_ok-x-in-LogicalNot.ensures.is f) c.negated.ensures.emits
-
-pub expressions::unary-returns-in-Plus-clause-is : goal.expressions::unary-returns-in-Plus-clause-is
-expressions::unary-returns-in-Plus-clause-is t c =
-    IfOk-weaker c.signed_value.result _ _
-    (λ r h. h c.args.op (subst (λ z. Signs z sem.Positive) (sym c.in-Plus.is) tt)) c.signed_value.ensures.is
-
-pub expressions::unary-returns-in-Minus-clause-is : goal.expressions::unary-returns-in-Minus-clause-is
-expressions::unary-returns-in-Minus-clause-is t c =
-    IfOk-weaker c.signed_value-in-Minus.result _ _
-    (λ r h. h c.args.op (subst (λ z. Signs z sem.Negative) (sym c.in-Minus.is) tt)) c.signed_value-in-Minus.ensures.is
-
-pub expressions::unary-returns-in-Complement-clause-is : goal.expressions::unary-returns-in-Complement-clause-is
-expressions::unary-returns-in-Complement-clause-is t c =
-    IfOk-weaker c.signed_value-in-Complement.result _ _
-    (λ r h. h c.args.op (subst (λ z. Signs z sem.Complement) (sym c.in-Complement.is) tt))
-    c.signed_value-in-Complement.ensures.is
-
-pub places::fresh_place-returns-clause-is : goal.places::fresh_place-returns-clause-is
-places::fresh_place-returns-clause-is t c = λ later.
-    pointer_made _ c.requires.ordered c.requires.scene.ready.ordered later c.in_ok-t.ensures.next
-    c.in_ok-t.ensures.emits c.in_ok-place.ensures.is
-
-pub places::pointer-returns-in-Deref-clause-is : goal.places::pointer-returns-in-Deref-clause-is
-places::pointer-returns-in-Deref-clause-is t c =
-    IfOk-weaker c.operand.result _ _
-    (λ v h. pointer_held _ c.requires.ordered c.requires.scene.ready.ordered c.args.cx.d.now c.args.later
-    (record { node = _; there = c.in-Some.ensures; is = c.in-Deref.is })
-    (node_at c.args.cx.d.now c.requires.scene.ready c.requires.typed c.in-Some.ensures c.in-Deref.is) h)
-    c.operand.ensures.is
-
-pub places::pointer-returns-in-Load-clause-is : goal.places::pointer-returns-in-Load-clause-is
-places::pointer-returns-in-Load-clause-is t c =
-    let n = node_at c.args.cx.d.now c.requires.scene.ready c.requires.typed c.in-Some.ensures c.in-Load.is in
-    IfOk-weaker c.pointer.result _ _
-    (λ v h. pointer_read _ c.requires.ordered c.requires.scene.ready.ordered _ c.args.later
-    (below_load c.args.cx.p.now c.args.k _ c.in-Load.a c.requires.ordered c.in-Some.ensures c.in-Load.is)
-    n.operands.operand
-    (loads (frame_of c.args.cx.p.now c.args.cx.d.now) c.requires.scene.ready.ordered c.args.k _ c.in-Some.ensures
-    c.requires.typed c.in-Load.a c.in-Load.is)
-    (record { node = _; there = c.in-Some.ensures; is = c.in-Load.is }) h) c.pointer.ensures.is
-
-pub places::pointer-returns-in-Some-pointer_to_variable-clause-is :
-    goal.places::pointer-returns-in-Some-pointer_to_variable-clause-is
-places::pointer-returns-in-Some-pointer_to_variable-clause-is t c =
-    pointer_object _ c.requires.ordered c.requires.scene.ready.ordered c.args.later _
-    (record { node = _; there = c.in-Some.ensures; is = c.in-Var.is }) c.in-Some-pointer_to_variable.ensures.stands.1
-
-pub places::member-returns-in-Some-clause-is : goal.places::member-returns-in-Some-clause-is
-places::member-returns-in-Some-clause-is t c =
-    IfOk-weaker c.offset.result _ _
-    (λ r f n. place_part _ c.requires.ordered c.requires.scene.ready.ordered n
-    c.member_offset.ensures c.in-Some.ensures.is f) c.offset.ensures.emits
-
-pub places::member-returns-in_ok-place-in-None-clause-is : goal.places::member-returns-in_ok-place-in-None-clause-is
-places::member-returns-in_ok-place-in-None-clause-is t c =
-    IfOk-weaker c.offset-in-None.result _ _
-    (λ r f n. place_part_made _ c.requires.ordered c.requires.scene.ready.ordered _ c.requires.node.operand n
-    c.member_offset.ensures c.in_ok-place-in-None.ensures.is f) c.offset-in-None.ensures.emits
-
-pub places::place-returns-in-Var-clause-is : goal.places::place-returns-in-Var-clause-is
-places::place-returns-in-Var-clause-is t c =
-    IfOk-weaker c.variable_pointer.result _ _
-    (λ r h. h _ (record { node = _; there = c.in-Some.ensures; is = c.in-Var.is })
-    (node_at c.args.cx.d.now c.requires.scene.ready c.requires.typed c.in-Some.ensures c.in-Var.is))
-    c.variable_pointer.ensures.is
-
-pub places::place-returns-in-Global-clause-is : goal.places::place-returns-in-Global-clause-is
-places::place-returns-in-Global-clause-is t c =
-    IfOk-weaker c.global.result _ _
-    (λ r h. place_named _ c.requires.ordered c.requires.scene.ready.ordered
-    (record { node = _; there = c.in-Some.ensures; is = c.in-Global.is })
-    (λ g kinds m. place_global) (one_emits _ _ _ refl h)) c.global.ensures.pushed
-
-pub places::place-returns-in-Literal-clause-is : goal.places::place-returns-in-Literal-clause-is
-places::place-returns-in-Literal-clause-is t c =
-    IfOk-weaker c.global-in-Literal.result _ _
-    (λ r h. place_named _ c.requires.ordered c.requires.scene.ready.ordered
-    (record { node = _; there = c.in-Some.ensures; is = c.in-Literal.is })
-    (λ g kinds m. place_literal) (one_emits _ _ _ refl h)) c.global-in-Literal.ensures.pushed
-
-pub places::place-returns-in-Fun-clause-is : goal.places::place-returns-in-Fun-clause-is
-places::place-returns-in-Fun-clause-is t c =
-    IfOk-weaker c.function.result _ _
-    (λ r h. place_named _ c.requires.ordered c.requires.scene.ready.ordered
-    (record { node = _; there = c.in-Some.ensures; is = c.in-Fun.is })
-    (λ g kinds m. place_function) (one_emits _ _ _ refl h)) c.function.ensures.pushed
-
-pub places::place-returns-in-Deref-clause-is : goal.places::place-returns-in-Deref-clause-is
-places::place-returns-in-Deref-clause-is t c =
-    IfOk-weaker c.value.result _ _
-    (λ r h. place_pointed _ c.requires.ordered c.requires.scene.ready.ordered c.args.cx.d.now
-    (record { node = _; there = c.in-Some.ensures; is = c.in-Deref.is })
-    (node_at c.args.cx.d.now c.requires.scene.ready c.requires.typed c.in-Some.ensures c.in-Deref.is) h)
-    c.value.ensures.is
-
-pub places::place-returns-in-Load-clause-is : goal.places::place-returns-in-Load-clause-is
-places::place-returns-in-Load-clause-is t c =
-    let n = node_at c.args.cx.d.now c.requires.scene.ready c.requires.typed c.in-Some.ensures c.in-Load.is in
-    IfOk-weaker c.place.result _ _
-    (λ v h. place_read _ c.requires.ordered c.requires.scene.ready.ordered _
-    (below_load c.args.cx.p.now c.args.k _ c.in-Load.a c.requires.ordered c.in-Some.ensures c.in-Load.is)
-    n.operands.operand
-    (loads (frame_of c.args.cx.p.now c.args.cx.d.now) c.requires.scene.ready.ordered c.args.k _ c.in-Some.ensures
-    c.requires.typed c.in-Load.a c.in-Load.is)
-    (record { node = _; there = c.in-Some.ensures; is = c.in-Load.is }) h) c.place.ensures.is
-
-pub places::place-returns-in-Conditional-clause-is : goal.places::place-returns-in-Conditional-clause-is
-places::place-returns-in-Conditional-clause-is t c =
-    let n = node_at c.args.cx.d.now c.requires.scene.ready c.requires.typed c.in-Some.ensures c.in-Conditional.is in
-    IfOk-weaker c.place_choice.result _ _
-    (λ r h. h (record { kind = n.kind; is = n.test })
-    (record { node = _; there = c.in-Some.ensures; is = c.in-Conditional.is })) c.place_choice.ensures.is
-
-pub places::place-returns-in_ok-t-in-Assign-clause-is : goal.places::place-returns-in_ok-t-in-Assign-clause-is
-places::place-returns-in_ok-t-in-Assign-clause-is t c =
-    IfOk-weaker c.transfer.result _ _
-    (λ r f. place_stored _ c.requires.ordered c.requires.scene.ready.ordered
-    (c.in_ok-t-in-Assign.ensures.is (record { node = _; there = c.in-Some.ensures; is = c.in-Assign.is })) f)
-    c.transfer.ensures.emits
-
-pub places::place-returns-in_default-clause-is : goal.places::place-returns-in_default-clause-is
-places::place-returns-in_default-clause-is t c =
-    IfOk-weaker c.constant.result _ _
-    (λ r f. no_place _ c.requires.ordered c.requires.scene.ready.ordered
-    (none_place (setting c.args.cx) c.requires.ordered c.requires.scene.ready.ordered c.args.k c.in_default.ensures) f)
-    c.constant.ensures.emits
-
-pub places::place-returns-in_default-kind-clause-is : goal.places::place-returns-in_default-kind-clause-is
-places::place-returns-in_default-kind-clause-is t c =
-    let s = setting c.args.cx in
-    let r = c.requires.scene.ready.ordered in
-    let i = c.in_default-kind in
-    let other = another s c.requires.ordered r c.in-Some.e.now.kind i.not-Literal i.not-Var i.not-Global i.not-Fun
-    i.not-Load i.not-Deref i.not-Member i.not-Conditional i.not-Comma i.not-Assign in
-    IfOk-weaker c.constant-in_default-kind.result _ _
-    (λ r f. no_place _ c.requires.ordered c.requires.scene.ready.ordered
-    (never_place s c.requires.ordered c.requires.scene.ready.ordered _ c.in-Some.e.now.kind
-    c.requires.typed (record { node = _; there = c.in-Some.ensures; is = refl }) other) f)
-    c.constant-in_default-kind.ensures.emits
-
-pub places::place_behind-returns-clause-is : goal.places::place_behind-returns-clause-is
-places::place_behind-returns-clause-is t c =
-    IfOk-weaker c.place.result _ _
-    (λ r h n. place_comma _ c.requires.ordered c.requires.scene.ready.ordered _ c.requires.node.right n
-    c.in_ok-effect.ensures.is h) c.place.ensures.is
-
-pub places::place_choice-returns-clause-is : goal.places::place_choice-returns-clause-is
-places::place_choice-returns-clause-is t c =
-    IfOk-weaker c.join_fork.result _ _
-    (λ r f scalar n. place_chosen _ c.requires.ordered c.requires.scene.ready.ordered _ c.requires.node.second
-    c.requires.node.third n scalar c.fork-fork.ensures.forked c.in_ok-condition.ensures.is c.in_ok-place.ensures.is
-    c.in_ok-turn_fork.ensures.emits c.in_ok-place-2.ensures.is (one_emits _ _ _ refl f)) c.join_fork.ensures.stands
-
-pub places::address-returns-in-None-clause-is : goal.places::address-returns-in-None-clause-is
-places::address-returns-in-None-clause-is t c = λ at.
-    value_pointer _ c.requires.ordered c.requires.scene.ready.ordered c.args.cx.d.now c.requires.node
-    (c.in-None.ensures c.args.cx.d.now.vars c.requires.scene.ready) at c.in_ok-place.ensures.is
-
-pub places::address-returns-in-Some-clause-is : goal.places::address-returns-in-Some-clause-is
-places::address-returns-in-Some-clause-is t c =
-    IfOk-weaker c.narrow.result _ _
-    (λ r f at. value_part _ c.requires.ordered c.requires.scene.ready.ordered c.args.cx.d.now _ c.requires.node
-    c.requires.node.operands.operand (c.in-Some.ensures c.args.cx.d.now.vars c.requires.scene.ready)
-    c.owned_length.ensures at c.in_ok-place.ensures.is f) c.narrow.ensures.emits
-
-pub places::struct_assignment-returns-clause-is : goal.places::struct_assignment-returns-clause-is
-places::struct_assignment-returns-clause-is t c = λ n.
-    struct_assigned _ c.requires.ordered c.requires.scene.ready.ordered c.args.cx.d.now _ c.requires.a_before
-    c.requires.b_before c.requires.node.operands.left c.requires.node.operands.right c.requires.node
-    (λ e there. c.facts-facts.ensures.fits e c.requires.scene.ready there) c.record_size-bytes.ensures c.unit.ensures
-    c.written.ensures
-    (c.place_pos.ensures _ c.requires.scene.ready.ordered c.requires.node.operands.left) n c.in_ok-t.ensures.is
-    c.in_ok-struct_copy.ensures.is
-
-pub places::chosen_copy-returns-clause-is : goal.places::chosen_copy-returns-clause-is
-places::chosen_copy-returns-clause-is t c =
-    IfOk-weaker c.join_fork.result _ _
-    (λ r f n. copy_chosen _ c.requires.ordered c.requires.scene.ready.ordered c.args.cx.d.now c.requires.a_before
-    c.requires.b_before c.requires.node (λ e there. c.facts.ensures.fits e c.requires.scene.ready there)
-    c.limited-chosen.ensures.same n c.fork-fork.ensures.forked c.in_ok-condition.ensures.is
-    c.in_ok-struct_copy.ensures.is
-    c.in_ok-turn_fork.ensures.emits c.in_ok-struct_copy-2.ensures.is (one_emits _ _ _ refl f))
-    c.join_fork.ensures.stands
-
-pub places::plain_copy-returns-clause-is : goal.places::plain_copy-returns-clause-is
-places::plain_copy-returns-clause-is t c =
-    IfOk-weaker c.copy_units.result _ _
-    (λ r f plain. copy_plain _ c.requires.ordered c.requires.scene.ready.ordered _ c.requires.typed
-    (c.place_pos.ensures _ c.requires.scene.ready.ordered c.requires.typed) plain c.in_ok-from.ensures.is
-    c.in_ok-to.ensures.is f) c.copy_units.ensures.emits
-
-pub places::struct_copy-returns-in_default-clause-is : goal.places::struct_copy-returns-in_default-clause-is
-places::struct_copy-returns-in_default-clause-is t c =
-    IfOk-weaker c.plain_copy.result _ _
-    (λ r h. h (plain_none (setting c.args.cx) c.requires.ordered c.requires.scene.ready.ordered c.args.k
-    c.in_default.ensures)) c.plain_copy.ensures.is
-
-pub places::struct_copy-returns-in-Conditional-clause-is : goal.places::struct_copy-returns-in-Conditional-clause-is
-places::struct_copy-returns-in-Conditional-clause-is t c =
-    IfOk-weaker c.chosen_copy.result _ _
-    (λ r h. h (record { node = _; there = c.in-Some.ensures; is = c.in-Conditional.is })) c.chosen_copy.ensures.is
-
-pub places::struct_copy-returns-in_ok-effect-in-Comma-clause-is :
-    goal.places::struct_copy-returns-in_ok-effect-in-Comma-clause-is
-places::struct_copy-returns-in_ok-effect-in-Comma-clause-is t c =
-    IfOk-weaker c.struct_copy.result _ _
-    (λ r h. copy_comma _ c.requires.ordered c.requires.scene.ready.ordered
-    (below_comma c.args.cx.p.now c.args.k _ _ c.in-Comma.b c.requires.ordered c.in-Some.ensures c.in-Comma.is)
-    (commas (frame_of c.args.cx.p.now c.args.cx.d.now) c.requires.scene.ready.ordered c.args.k _ c.in-Some.ensures
-    c.requires.typed _ c.in-Comma.b c.in-Comma.is)
-    (record { node = _; there = c.in-Some.ensures; is = c.in-Comma.is }) c.in_ok-effect-in-Comma.ensures.is h)
-    c.struct_copy.ensures.is
-
-pub places::struct_copy-returns-in-Load-clause-is : goal.places::struct_copy-returns-in-Load-clause-is
-places::struct_copy-returns-in-Load-clause-is t c =
-    IfOk-weaker c.struct_copy-in-Load.result _ _
-    (λ r h. copy_read _ c.requires.ordered c.requires.scene.ready.ordered
-    (below_load c.args.cx.p.now c.args.k _ c.in-Load.a c.requires.ordered c.in-Some.ensures c.in-Load.is)
-    (loads (frame_of c.args.cx.p.now c.args.cx.d.now) c.requires.scene.ready.ordered c.args.k _ c.in-Some.ensures
-    c.requires.typed c.in-Load.a c.in-Load.is)
-    (record { node = _; there = c.in-Some.ensures; is = c.in-Load.is }) h) c.struct_copy-in-Load.ensures.is
-
-pub places::struct_copy-returns-in_default-kind-clause-is : goal.places::struct_copy-returns-in_default-kind-clause-is
-places::struct_copy-returns-in_default-kind-clause-is t c =
-    IfOk-weaker c.plain_copy-in_default-kind.result _ _
-    (λ r h. h (plain_own (setting c.args.cx) c.requires.ordered c.requires.scene.ready.ordered _
-    c.in-Some.e.now.kind c.requires.typed (record { node = _; there = c.in-Some.ensures; is = refl })
-    c.in_default-kind.not-Conditional c.in_default-kind.not-Comma c.in_default-kind.not-Load))
-    c.plain_copy-in_default-kind.ensures.is
-
-pub expressions::distance-returns-clause-is : goal.expressions::distance-returns-clause-is
-expressions::distance-returns-clause-is t c =
-    let ready = c.requires.scene.ready in
-    IfOk-weaker c.difference.result _ _
-    (λ r f n. value_distance _ c.requires.ordered ready.ordered c.args.cx.d.now n c.requires.node
-    (subst (IsPointed c.args.cx.p.now.types (type_at c.args.cx.p.now c.args.a)) (sym c.unwrap_or-size.ensures)
-    (given_is _ c.pointed_size.result 0 (c.pointed_size.ensures.is ready ∙ points_there c.requires.node.pointed)
-    (c.pointed_size.ensures.size ready))) c.in_ok-x.ensures.is f) c.difference.ensures.emits
-
-pub expressions::displaced-returns-clause-is : goal.expressions::displaced-returns-clause-is
-expressions::displaced-returns-clause-is t c =
-    IfOk-weaker c.offset.result _ _
-    (λ r f. record { middle = _; base = _; operand = c.in_ok-base.ensures.is; moved = f }) c.offset.ensures.emits
-
-pub expressions::sum-returns-in-Some-clause-is : goal.expressions::sum-returns-in-Some-clause-is
-expressions::sum-returns-in-Some-clause-is t c =
-    let ready = c.requires.scene.ready in
-    let points = sym (c.in-Some.ensures.is ready) in
-    IfOk-weaker c.pointer_first.result _ _
-    (λ r h n. h (sum_first _ c.requires.ordered ready.ordered c.args.cx.d.now n c.requires.node
-    (first_pointer _ _ _ _ c.requires.node points) points (c.in-Some.ensures.size ready) c.stride.ensures))
-    c.pointer_first.ensures.is
-
-pub expressions::sum-returns-in-None-clause-is : goal.expressions::sum-returns-in-None-clause-is
-expressions::sum-returns-in-None-clause-is t c =
-    let ready = c.requires.scene.ready in
-    let points = sym (c.in-None.ensures.is ready) in
-    IfOk-weaker c.pointer_second.result _ _
-    (λ r h n. h (sum_second _ c.requires.ordered ready.ordered c.args.cx.d.now n c.requires.node points
-    (subst (IsPointed c.args.cx.p.now.types (type_at c.args.cx.p.now c.args.b)) (sym c.unwrap_or-size.ensures)
-    (given_is _ c.pointed_size-in-None.result 0 (c.pointed_size-in-None.ensures.is ready
-    ∙ points_there (c.requires.node.indexes points).0) (c.pointed_size-in-None.ensures.size ready)))
-    c.stride-in-None.ensures))
-    c.pointer_second.ensures.is
-
-pub expressions::assigned-returns-in-None-clause-is : goal.expressions::assigned-returns-in-None-clause-is
-expressions::assigned-returns-in-None-clause-is t c =
-    IfOk-weaker c.operand.result _ _ (λ r h. assigned_plain _ c.in-None.is h) c.operand.ensures.is
-
-pub expressions::assigned-returns-in_ok-value-in-Some-clause-is :
-    goal.expressions::assigned-returns-in_ok-value-in-Some-clause-is
-expressions::assigned-returns-in_ok-value-in-Some-clause-is t c =
-    assigned_own _ c.in-Some.is c.in_ok-v-in-Some.ensures.is c.in_ok-value-in-Some.ensures.is
-
-pub expressions::object_assignment-returns-clause-is : goal.expressions::object_assignment-returns-clause-is
-expressions::object_assignment-returns-clause-is t c =
-    let ready = c.requires.scene.ready in
-    IfOk-weaker c.give.result _ _
-    (λ r f there n. assigns_object _ c.requires.ordered ready.ordered c.args.cx.d.now c.args.to n c.requires.node
-    c.written.ensures (c.kind-kind.ensures ready) c.pos.ensures there c.in_ok-at.ensures.is c.in_ok-v.ensures.is
-    c.in_ok-store.ensures.emits f) c.give.ensures.emits
-
-pub expressions::compound-returns-in_ok-changed-in-Some-clause-is :
-    goal.expressions::compound-returns-in_ok-changed-in-Some-clause-is
-expressions::compound-returns-in_ok-changed-in-Some-clause-is t c =
-    let ready = c.requires.scene.ready in
-    IfOk-weaker c.give.result _ _
-    (λ r f op of n node by. compounds_variable _ c.requires.ordered ready.ordered c.args.cx.d.now n node by
-    c.args.to refl (λ x m. node_at c.args.cx.d.now ready c.requires.node.left m.there m.is) c.in-Some.ensures.stands
-    (c.kind-kind.ensures ready) c.in_ok-y-in-Some.ensures.kind c.in_ok-y-in-Some.ensures.is
-    c.in_ok-changed-in-Some.ensures.emits f) c.give.ensures.emits
-
-pub expressions::compound-returns-in_ok-store-in-None-clause-is :
-    goal.expressions::compound-returns-in_ok-store-in-None-clause-is
-expressions::compound-returns-in_ok-store-in-None-clause-is t c =
-    let ready = c.requires.scene.ready in
-    IfOk-weaker c.give-in-None.result _ _
-    (λ r f op of n node by. compounds_object _ c.requires.ordered ready.ordered c.args.cx.d.now n node by c.args.to
-    c.written.ensures (c.kind-kind.ensures ready) c.in_ok-y-in-None.ensures.kind c.pos.ensures
-    c.pos-in-None.ensures c.in-None.ensures.other c.in_ok-at-in-None.ensures.is c.in_ok-y-in-None.ensures.is
-    c.in_ok-temp-in-None.ensures.is
-    c.in_ok-load-in-None.ensures.emits c.in_ok-changed-in-None.ensures.emits c.in_ok-store-in-None.ensures.emits f)
-    c.give-in-None.ensures.emits
-
-pub expressions::step-returns-in-Some-clause-is : goal.expressions::step-returns-in-Some-clause-is
-expressions::step-returns-in-Some-clause-is t c =
-    let ready = c.requires.scene.ready in
-    IfOk-weaker c.variable_step.result _ _
-    (λ r h n. h c.args.k c.args.a c.requires.node.operands.operand
-    (steps_are _ c.requires.ordered ready.ordered c.args.cx.d.now c.pointed_size.result n c.requires.node
-    (c.pointed_size.ensures.is ready) (c.pointed_size.ensures.size ready) c.unwrap_or-size.ensures)
-    c.in-Some.ensures.stands (c.kind-kind.ensures ready)) c.variable_step.ensures.is
-
-pub expressions::step-returns-in_ok-store-in-None-clause-is :
-    goal.expressions::step-returns-in_ok-store-in-None-clause-is
-expressions::step-returns-in_ok-store-in-None-clause-is t c =
-    let ready = c.requires.scene.ready in
-    IfOk-weaker c.give.result _ _
-    (λ r f n. steps_place _ c.requires.ordered ready.ordered
-    (steps_are _ c.requires.ordered ready.ordered c.args.cx.d.now c.pointed_size.result n c.requires.node
-    (c.pointed_size.ensures.is ready) (c.pointed_size.ensures.size ready) c.unwrap_or-size.ensures) n c.args.to
-    _ _ _ _ _ _ _ (c.kind-kind.ensures ready) c.pos.ensures c.pos-in-None.ensures c.in-None.ensures.other
-    c.in_ok-at-in-None.ensures.is c.in_ok-old-in-None.ensures.is c.in_ok-load-in-None.ensures.emits
-    c.drops_old.result c.drops_old.ensures
-    c.in_ok-new-in-None.ensures.same c.in_ok-new-in-None.ensures.apart c.in_ok-store-in-None.ensures.emits f)
-    c.give.ensures.emits
-
-pub expressions::assignment-returns-in_ok-value-in-Some-clause-is :
-    goal.expressions::assignment-returns-in_ok-value-in-Some-clause-is
-expressions::assignment-returns-in_ok-value-in-Some-clause-is t c =
-    let ready = c.requires.scene.ready in
-    IfOk-weaker c.give.result _ _
-    (λ r f n. assigns_variable _ c.requires.ordered ready.ordered c.args.cx.d.now c.args.to refl n c.requires.node
-    (λ x m. node_at c.args.cx.d.now ready c.requires.node.operands.left m.there m.is) c.in-Some.ensures.stands
-    c.in_ok-value-in-Some.ensures.is f) c.give.ensures.emits
-
-pub expressions::assignment-returns-then-facts-clause-is : goal.expressions::assignment-returns-then-facts-clause-is
-expressions::assignment-returns-then-facts-clause-is t c = λ n.
-    let ready = c.requires.scene.ready in
-    assigns_record _ c.requires.ordered ready.ordered n
-    (sym (c.facts.ensures.record n.node ready n.there) ∙ c.if-facts.true) (c.in_ok-struct_assignment.ensures.is n)
-
-pub expressions::assignment-returns-then-facts-clause-copies :
-    goal.expressions::assignment-returns-then-facts-clause-copies
-expressions::assignment-returns-then-facts-clause-copies t c = λ n h.
-    record { temp = _; is = c.in_ok-struct_assignment.ensures.is n }
-
-pub expressions::assignment-returns-in_ok-value-in-Some-clause-copies :
-    goal.expressions::assignment-returns-in_ok-value-in-Some-clause-copies
-expressions::assignment-returns-in_ok-value-in-Some-clause-copies t c =
-    IfOk-weaker c.give.result _ _
-    (λ r f n h. no_copies n c.if-facts.false (c.facts.ensures.record n.node c.requires.scene.ready n.there) h)
-    c.give.ensures.emits
-
-pub expressions::assignment-returns-in-None-clause-copies : goal.expressions::assignment-returns-in-None-clause-copies
-expressions::assignment-returns-in-None-clause-copies t c =
-    IfOk-weaker c.object_assignment.result _ _
-    (λ r f n h. no_copies n c.if-facts.false (c.facts.ensures.record n.node c.requires.scene.ready n.there) h)
-    c.object_assignment.ensures.is
-
-pub expressions::assignment-returns-in-None-clause-is : goal.expressions::assignment-returns-in-None-clause-is
-expressions::assignment-returns-in-None-clause-is t c =
-    IfOk-weaker c.object_assignment.result _ _ (λ r h. h c.in-None.ensures.other) c.object_assignment.ensures.is
-
-pub expressions::pointer_first-returns-in-Some-clause-is : goal.expressions::pointer_first-returns-in-Some-clause-is
-expressions::pointer_first-returns-in-Some-clause-is t c =
-    IfOk-weaker c.displaced.result _ _
-    (λ r h n. value_displaced _ c.requires.ordered c.requires.scene.ready.ordered n c.requires.pointer
-    c.in-Some.ensures.is refl h) c.displaced.ensures.is
-
-pub expressions::pointer_first-returns-in_ok-base-in-None-clause-is :
-    goal.expressions::pointer_first-returns-in_ok-base-in-None-clause-is
-expressions::pointer_first-returns-in_ok-base-in-None-clause-is t c =
-    IfOk-weaker c.moved.result _ _
-    (λ r f n. value_moved _ c.requires.ordered c.requires.scene.ready.ordered n c.requires.pointer
-    c.in_ok-base-in-None.ensures.right_kind c.in_ok-base-in-None.ensures.is f) c.moved.ensures.emits
-
-pub expressions::pointer_second-returns-in-Some-clause-is : goal.expressions::pointer_second-returns-in-Some-clause-is
-expressions::pointer_second-returns-in-Some-clause-is t c =
-    IfOk-weaker c.displaced.result _ _
-    (λ r h n. value_displaced_right _ c.requires.ordered c.requires.scene.ready.ordered n c.requires.pointer
-    c.in-Some.ensures.is refl h) c.displaced.ensures.is
-
-pub expressions::pointer_second-returns-in_ok-i-in-None-clause-is :
-    goal.expressions::pointer_second-returns-in_ok-i-in-None-clause-is
-expressions::pointer_second-returns-in_ok-i-in-None-clause-is t c =
-    IfOk-weaker c.moved.result _ _
-    (λ r f n. value_moved_right _ c.requires.ordered c.requires.scene.ready.ordered n c.requires.pointer
-    c.in_ok-i-in-None.ensures.left_kind c.in_ok-i-in-None.ensures.is f) c.moved.ensures.emits
-
-pub expressions::guarded_effect-returns-clause-is : goal.expressions::guarded_effect-returns-clause-is
-expressions::guarded_effect-returns-clause-is t c =
-    IfOk-weaker c.stand.result _ _
-    (λ r f h n. effect_guarded _ c.requires.ordered c.requires.scene.ready.ordered _ _ _ c.args.when n h
-    c.label-label.ensures.labelled c.in_ok-condition.ensures.is c.in_ok-effect.ensures.is (one_emits _ _ _ refl f))
-    c.stand.ensures.stands
-
-pub conditions::condition-returns-in_default-clause-is : goal.conditions::condition-returns-in_default-clause-is
-conditions::condition-returns-in_default-clause-is t c =
-    IfOk-weaker c.jump_if.result _ _ (λ r f. condition_no_node _ c.requires.ordered c.requires.scene.ready.ordered
-    c.in_default.ensures f) c.jump_if.ensures.emits
-
-pub conditions::condition-returns-in-Constant-clause-is : goal.conditions::condition-returns-in-Constant-clause-is
-conditions::condition-returns-in-Constant-clause-is t c =
-    let n = node_at c.args.cx.d.now c.requires.scene.ready c.requires.typed c.in-Some.ensures c.in-Constant.is in
-    IfOk-weaker c.jump_if-in-Constant.result _ _
-    (λ r f. condition_constant _ c.requires.ordered c.requires.scene.ready.ordered
-    (record { node = _; there = c.in-Some.ensures; is = c.in-Constant.is }) n.is n.fits f)
-    c.jump_if-in-Constant.ensures.emits
-
-pub conditions::condition-returns-in-Unary-LogicalNot-default-clause-is :
-    goal.conditions::condition-returns-in-Unary-LogicalNot-default-clause-is
-conditions::condition-returns-in-Unary-LogicalNot-default-clause-is t c =
-    let w = c.in-Unary-LogicalNot-default in
-    let is = w.is ∙ ap (λ z. exprs.Unary z w.a) (rw w.is at w.field-0-is) in
-    let n = node_at c.args.cx.d.now c.requires.scene.ready c.requires.typed c.in-Some.ensures is in
-    IfOk-weaker c.opposite_condition.result _ _
-    (λ r h. h n.is (record { kind = n.kind; is = n.value })
-    (record { node = _; there = c.in-Some.ensures; is = is })) c.opposite_condition.ensures.is
-
-pub conditions::condition-returns-in-And-clause-is : goal.conditions::condition-returns-in-And-clause-is
-conditions::condition-returns-in-And-clause-is t c =
-    let n = node_at c.args.cx.d.now c.requires.scene.ready c.requires.typed c.in-Some.ensures c.in-And.is in
-    IfOk-weaker c.joined_condition.result _ _
-    (λ r h. h n.is
-    (subst (λ (j : Junction). HasScalar c.args.cx.p.now j.a) (sym c.and.ensures)
-    (record { kind = n.left_kind; is = n.left }))
-    (subst (λ (j : Junction). HasScalar c.args.cx.p.now j.b) (sym c.and.ensures)
-    (record { kind = n.right_kind; is = n.right }))
-    (subst (λ (j : Junction). IsNode c.args.cx.p.now c.args.k (joined j.both j.a j.b)) (sym c.and.ensures)
-    (record { node = _; there = c.in-Some.ensures; is = c.in-And.is }))) c.joined_condition.ensures.is
-
-pub conditions::condition-returns-in-Or-clause-is : goal.conditions::condition-returns-in-Or-clause-is
-conditions::condition-returns-in-Or-clause-is t c =
-    let n = node_at c.args.cx.d.now c.requires.scene.ready c.requires.typed c.in-Some.ensures c.in-Or.is in
-    IfOk-weaker c.joined_condition-in-Or.result _ _
-    (λ r h. h n.is
-    (subst (λ (j : Junction). HasScalar c.args.cx.p.now j.a) (sym c.or.ensures)
-    (record { kind = n.left_kind; is = n.left }))
-    (subst (λ (j : Junction). HasScalar c.args.cx.p.now j.b) (sym c.or.ensures)
-    (record { kind = n.right_kind; is = n.right }))
-    (subst (λ (j : Junction). IsNode c.args.cx.p.now c.args.k (joined j.both j.a j.b)) (sym c.or.ensures)
-    (record { node = _; there = c.in-Some.ensures; is = c.in-Or.is }))) c.joined_condition-in-Or.ensures.is
-
-pub conditions::condition-returns-in_ok-on-in_default-kind-clause-is :
-    goal.conditions::condition-returns-in_ok-on-in_default-kind-clause-is
-conditions::condition-returns-in_ok-on-in_default-kind-clause-is t c =
-    IfOk-weaker c.branch-out.result _ _
-    (λ r f. condition_branch _ c.requires.ordered c.requires.scene.ready.ordered
-    c.in_ok-on-in_default-kind.ensures.has c.in_ok-on-in_default-kind.ensures.is f) c.branch-out.ensures.emits
-
-pub conditions::opposite_condition-returns-clause-is : goal.conditions::opposite_condition-returns-clause-is
-conditions::opposite_condition-returns-clause-is t c =
-    IfOk-weaker c.condition.result _ _
-    (λ r h s v n. condition_opposite _ c.requires.ordered c.requires.scene.ready.ordered s v n h) c.condition.ensures.is
-
-pub conditions::joined_around-returns-clause-is : goal.conditions::joined_around-returns-clause-is
-conditions::joined_around-returns-clause-is t c =
-    IfOk-weaker c.stand.result _ _
-    (λ r f s a b n. condition_around _ c.requires.ordered c.requires.scene.ready.ordered _ _ _ a b c.args.jump.when s
-    (subst (λ z. IsNode c.args.cx.p.now c.args.k (joined z c.args.j.a c.args.j.b)) c.requires.around n)
-    c.label.ensures.labelled c.in_ok-condition.ensures.is c.in_ok-condition-2.ensures.is (one_emits _ _ _ refl f))
-    c.stand.ensures.stands
-
-pub conditions::joined_condition-returns-clause-is : goal.conditions::joined_condition-returns-clause-is
-conditions::joined_condition-returns-clause-is t c =
-    let e = opposite_of c.args.j.both c.args.jump.when c.if-j-jump.false in
-    IfOk-weaker c.condition-2.result _ _
-    (λ r h s a b n. condition_through _ c.requires.ordered c.requires.scene.ready.ordered _ _ _ a b c.args.jump.when s
-    (subst (λ z. IsNode c.args.cx.p.now c.args.k (joined z c.args.j.a c.args.j.b)) e n)
-    c.in_ok-condition.ensures.is h) c.condition-2.ensures.is
-
-pub expressions::truth-returns-clause-is : goal.expressions::truth-returns-clause-is
-expressions::truth-returns-clause-is t c =
-    IfOk-weaker c.join_fork.result _ _
-    (λ r f a b n. value_truth _ c.requires.ordered c.requires.scene.ready.ordered _ _ _ a b c.args.j.both
-    c.requires.node.is n c.fork-fork.ensures.forked
-    (c.in_ok-joined_condition.ensures.is c.requires.node.is a b n) c.in_ok-constant.ensures.emits
-    c.in_ok-turn_fork.ensures.emits c.in_ok-constant-2.ensures.emits (one_emits _ _ _ refl f))
-    c.join_fork.ensures.stands
-
-pub expressions::conversion-returns-then-is_none-clause-is : goal.expressions::conversion-returns-then-is_none-clause-is
-expressions::conversion-returns-then-is_none-clause-is t c =
-    let none = sym (c.scalar.ensures c.requires.scene.ready) ∙ none_is _ c.if-is_none.ensures in
-    IfOk-weaker c.constant.result _ _
-    (λ r f w n. value_dropped _ c.requires.ordered c.requires.scene.ready.ordered _ _ n w none
-    c.in_ok-effect.ensures.is f) c.constant.ensures.emits
-
-pub expressions::conversion-returns-then-same_kind-clause-is :
-    goal.expressions::conversion-returns-then-same_kind-clause-is
-expressions::conversion-returns-then-same_kind-clause-is t c =
-    let same = kinds_agree _ _ (sym c.same_kind.ensures ∙ c.if-same_kind.true) in
-    let alike = sym (c.kind-old.ensures c.requires.scene.ready) ∙ same ∙ c.kind-new.ensures c.requires.scene.ready in
-    IfOk-weaker c.value.result _ _
-    (λ r h w n. value_kept _ c.requires.ordered c.requires.scene.ready.ordered _ _ n w alike h) c.value.ensures.is
-
-pub expressions::conversion-returns-clause-is : goal.expressions::conversion-returns-clause-is
-expressions::conversion-returns-clause-is t c =
-    IfOk-weaker c.convert.result _ _
-    (λ r f w n. value_converted _ c.requires.ordered c.requires.scene.ready.ordered _ _ n w
-    (c.kind-old.ensures c.requires.scene.ready) (c.kind-new.ensures c.requires.scene.ready) c.in_ok-x.ensures.is f)
-    c.convert.ensures.emits
-
-pub expressions::chosen_effect-returns-clause-is : goal.expressions::chosen_effect-returns-clause-is
-expressions::chosen_effect-returns-clause-is t c =
-    IfOk-weaker c.join_fork.result _ _
-    (λ r f h n. effect_choice _ c.requires.ordered c.requires.scene.ready.ordered n h c.fork-fork.ensures.forked
-    c.in_ok-condition.ensures.is c.in_ok-effect.ensures.is c.in_ok-turn_fork.ensures.emits
-    c.in_ok-effect-2.ensures.is (one_emits _ _ _ refl f)) c.join_fork.ensures.stands
-
-pub expressions::chosen_effect-returns-clause-places : goal.expressions::chosen_effect-returns-clause-places
-expressions::chosen_effect-returns-clause-places t c =
-    IfOk-weaker c.join_fork.result _ _
-    (λ r f h n. place_effect_choice _ c.requires.ordered c.requires.scene.ready.ordered n h c.fork-fork.ensures.forked
-    c.in_ok-condition.ensures.is c.in_ok-effect.ensures.places c.in_ok-turn_fork.ensures.emits
-    c.in_ok-effect-2.ensures.places (one_emits _ _ _ refl f)) c.join_fork.ensures.stands
-
-pub expressions::effect-returns-in_default-clause-is : goal.expressions::effect-returns-in_default-clause-is
-expressions::effect-returns-in_default-clause-is t c =
-    effect_no_node _ c.requires.ordered c.requires.scene.ready.ordered _ _ c.in_default.ensures
-
-pub expressions::effect-returns-in_default-clause-places : goal.expressions::effect-returns-in_default-clause-places
-expressions::effect-returns-in_default-clause-places t c =
-    place_effect_no_node _ c.requires.ordered c.requires.scene.ready.ordered _ _ c.in_default.ensures
-
-pub expressions::effect-returns-in-Convert-clause-is : goal.expressions::effect-returns-in-Convert-clause-is
-expressions::effect-returns-in-Convert-clause-is t c =
-    IfOk-weaker c.effect.result _ _
-    (λ r h. effect_converted _ c.requires.ordered c.requires.scene.ready.ordered
-    (record { node = _; there = c.in-Some.ensures; is = c.in-Convert.is }) h) c.effect.ensures.is
-
-pub expressions::effect-returns-in-Convert-clause-places : goal.expressions::effect-returns-in-Convert-clause-places
-expressions::effect-returns-in-Convert-clause-places t c =
-    IfOk-weaker c.effect.result _ _
-    (λ r h. place_effect_converted _ c.requires.ordered c.requires.scene.ready.ordered
-    (record { node = _; there = c.in-Some.ensures; is = c.in-Convert.is }) h) c.effect.ensures.places
-
-pub expressions::effect-returns-in_ok-effect-in-Comma-clause-is :
-    goal.expressions::effect-returns-in_ok-effect-in-Comma-clause-is
-expressions::effect-returns-in_ok-effect-in-Comma-clause-is t c =
-    IfOk-weaker c.effect-in-Comma-2.result _ _
-    (λ r h. effect_comma _ c.requires.ordered c.requires.scene.ready.ordered
-    (record { node = _; there = c.in-Some.ensures; is = c.in-Comma.is }) c.in_ok-effect-in-Comma.ensures.is h)
-    c.effect-in-Comma-2.ensures.is
-
-pub expressions::effect-returns-in_ok-effect-in-Comma-clause-places :
-    goal.expressions::effect-returns-in_ok-effect-in-Comma-clause-places
-expressions::effect-returns-in_ok-effect-in-Comma-clause-places t c =
-    IfOk-weaker c.effect-in-Comma-2.result _ _
-    (λ r h. place_effect_comma _ c.requires.ordered c.requires.scene.ready.ordered
-    (record { node = _; there = c.in-Some.ensures; is = c.in-Comma.is }) c.in_ok-effect-in-Comma.ensures.is h)
-    c.effect-in-Comma-2.ensures.places
-
-pub expressions::effect-returns-in-Conditional-clause-is : goal.expressions::effect-returns-in-Conditional-clause-is
-expressions::effect-returns-in-Conditional-clause-is t c =
-    let n = node_at c.args.cx.d.now c.requires.scene.ready c.requires.typed c.in-Some.ensures c.in-Conditional.is in
-    IfOk-weaker c.chosen_effect.result _ _
-    (λ r h. h (record { kind = n.kind; is = n.test })
-    (record { node = _; there = c.in-Some.ensures; is = c.in-Conditional.is })) c.chosen_effect.ensures.is
-
-pub expressions::effect-returns-in-Conditional-clause-places :
-    goal.expressions::effect-returns-in-Conditional-clause-places
-expressions::effect-returns-in-Conditional-clause-places t c =
-    let n = node_at c.args.cx.d.now c.requires.scene.ready c.requires.typed c.in-Some.ensures c.in-Conditional.is in
-    IfOk-weaker c.chosen_effect.result _ _
-    (λ r h. h (record { kind = n.kind; is = n.test })
-    (record { node = _; there = c.in-Some.ensures; is = c.in-Conditional.is })) c.chosen_effect.ensures.places
-
-pub expressions::effect-returns-in-And-clause-is : goal.expressions::effect-returns-in-And-clause-is
-expressions::effect-returns-in-And-clause-is t c =
-    let n = node_at c.args.cx.d.now c.requires.scene.ready c.requires.typed c.in-Some.ensures c.in-And.is in
-    IfOk-weaker c.guarded_effect.result _ _
-    (λ r h. h (record { kind = n.left_kind; is = n.left })
-    (record { node = _; there = c.in-Some.ensures; is = c.in-And.is })) c.guarded_effect.ensures.is
-
-pub expressions::effect-returns-in-And-clause-places : goal.expressions::effect-returns-in-And-clause-places
-expressions::effect-returns-in-And-clause-places t c =
-    let n = node_at c.args.cx.d.now c.requires.scene.ready c.requires.typed c.in-Some.ensures c.in-And.is in
-    let there = is_node c.in-Some.ensures c.in-And.is in
-    IfOk-weaker c.guarded_effect.result _ _
-    (λ r h. place_effect_never _ c.requires.ordered c.requires.scene.ready.ordered there refl
-    (h (record { kind = n.left_kind; is = n.left }) there)) c.guarded_effect.ensures.is
-
-pub expressions::effect-returns-in-Or-clause-is : goal.expressions::effect-returns-in-Or-clause-is
-expressions::effect-returns-in-Or-clause-is t c =
-    let n = node_at c.args.cx.d.now c.requires.scene.ready c.requires.typed c.in-Some.ensures c.in-Or.is in
-    IfOk-weaker c.guarded_effect-in-Or.result _ _
-    (λ r h. h (record { kind = n.left_kind; is = n.left })
-    (record { node = _; there = c.in-Some.ensures; is = c.in-Or.is })) c.guarded_effect-in-Or.ensures.is
-
-pub expressions::effect-returns-in-Or-clause-places : goal.expressions::effect-returns-in-Or-clause-places
-expressions::effect-returns-in-Or-clause-places t c =
-    let n = node_at c.args.cx.d.now c.requires.scene.ready c.requires.typed c.in-Some.ensures c.in-Or.is in
-    let there = is_node c.in-Some.ensures c.in-Or.is in
-    IfOk-weaker c.guarded_effect-in-Or.result _ _
-    (λ r h. place_effect_never _ c.requires.ordered c.requires.scene.ready.ordered there refl
-    (h (record { kind = n.left_kind; is = n.left }) there)) c.guarded_effect-in-Or.ensures.is
-
-pub expressions::effect-returns-in-Load-clause-is : goal.expressions::effect-returns-in-Load-clause-is
-expressions::effect-returns-in-Load-clause-is t c =
-    IfOk-weaker c.read_effect.result _ _
-    (λ r h. h (record { node = _; there = c.in-Some.ensures; is = c.in-Load.is })
-    (whole_load c.args.cx.d.now c.requires.scene.ready c.requires.typed c.in-Some.ensures _ c.in-Load.is))
-    c.read_effect.ensures.is
-
-pub expressions::effect-returns-in-Load-clause-places : goal.expressions::effect-returns-in-Load-clause-places
-expressions::effect-returns-in-Load-clause-places t c =
-    IfOk-weaker c.read_effect.result _ _
-    (λ r h. h (record { node = _; there = c.in-Some.ensures; is = c.in-Load.is })
-    (whole_load c.args.cx.d.now c.requires.scene.ready c.requires.typed c.in-Some.ensures _ c.in-Load.is))
-    c.read_effect.ensures.places
-
-pub expressions::effect-returns-in-Deref-clause-is : goal.expressions::effect-returns-in-Deref-clause-is
-expressions::effect-returns-in-Deref-clause-is t c =
-    IfOk-weaker c.effect-in-Deref.result _ _
-    (λ r h. effect_deref _ c.requires.ordered c.requires.scene.ready.ordered
-    (record { node = _; there = c.in-Some.ensures; is = c.in-Deref.is }) h) c.effect-in-Deref.ensures.is
-
-pub expressions::effect-returns-in-Deref-clause-places : goal.expressions::effect-returns-in-Deref-clause-places
-expressions::effect-returns-in-Deref-clause-places t c =
-    IfOk-weaker c.effect-in-Deref.result _ _
-    (λ r h. place_effect_deref _ c.requires.ordered c.requires.scene.ready.ordered
-    (record { node = _; there = c.in-Some.ensures; is = c.in-Deref.is }) h) c.effect-in-Deref.ensures.is
-
-pub expressions::effect-returns-in-Member-clause-is : goal.expressions::effect-returns-in-Member-clause-is
-expressions::effect-returns-in-Member-clause-is t c =
-    IfOk-weaker c.effect-in-Member.result _ _
-    (λ r h. effect_member _ c.requires.ordered c.requires.scene.ready.ordered
-    (record { node = _; there = c.in-Some.ensures; is = c.in-Member.is }) h) c.effect-in-Member.ensures.places
-
-pub expressions::effect-returns-in-Member-clause-places : goal.expressions::effect-returns-in-Member-clause-places
-expressions::effect-returns-in-Member-clause-places t c =
-    IfOk-weaker c.effect-in-Member.result _ _
-    (λ r h. place_effect_member _ c.requires.ordered c.requires.scene.ready.ordered
-    (record { node = _; there = c.in-Some.ensures; is = c.in-Member.is }) h) c.effect-in-Member.ensures.places
-
-pub expressions::effect-returns-in-Assign-clause-is : goal.expressions::effect-returns-in-Assign-clause-is
-expressions::effect-returns-in-Assign-clause-is t c =
-    let n = is_node c.in-Some.ensures c.in-Assign.is in
-    let whole = whole_assign c.args.cx.d.now c.requires.scene.ready c.requires.typed c.in-Some.ensures _ _
-    c.in-Assign.is in
-    both_weaker c.assignment.result _ _ _
-    (λ r h f. effect_assigned _ c.requires.ordered c.requires.scene.ready.ordered n whole (h n) (f n))
-    c.assignment.ensures.is c.assignment.ensures.copies
-
-pub expressions::effect-returns-in-Assign-clause-places : goal.expressions::effect-returns-in-Assign-clause-places
-expressions::effect-returns-in-Assign-clause-places t c =
-    let n = is_node c.in-Some.ensures c.in-Assign.is in
-    let whole = whole_assign c.args.cx.d.now c.requires.scene.ready c.requires.typed c.in-Some.ensures _ _
-    c.in-Assign.is in
-    both_weaker c.assignment.result _ _ _
-    (λ r h f. place_effect_assigned _ c.requires.ordered c.requires.scene.ready.ordered n whole (h n) (f n))
-    c.assignment.ensures.is c.assignment.ensures.copies
-
-pub expressions::effect-returns-in-Step-clause-is : goal.expressions::effect-returns-in-Step-clause-is
-expressions::effect-returns-in-Step-clause-is t c =
-    let n = node_at c.args.cx.d.now c.requires.scene.ready c.requires.typed c.in-Some.ensures c.in-Step.is in
-    let there = is_node c.in-Some.ensures c.in-Step.is in
-    IfOk-weaker c.step.result _ _
-    (λ r h. effect_changed _ c.requires.ordered c.requires.scene.ready.ordered there refl
-    (record { kind = n.kind; is = n.is }) (h there)) c.step.ensures.is
-
-pub expressions::effect-returns-in-Step-clause-places : goal.expressions::effect-returns-in-Step-clause-places
-expressions::effect-returns-in-Step-clause-places t c =
-    let there = is_node c.in-Some.ensures c.in-Step.is in
-    IfOk-weaker c.step.result _ _
-    (λ r h. place_effect_never _ c.requires.ordered c.requires.scene.ready.ordered there refl (h there))
-    c.step.ensures.is
-
-pub expressions::effect-returns-in-Compound-clause-is : goal.expressions::effect-returns-in-Compound-clause-is
-expressions::effect-returns-in-Compound-clause-is t c =
-    let n = node_at c.args.cx.d.now c.requires.scene.ready c.requires.typed c.in-Some.ensures c.in-Compound.is in
-    let there = is_node c.in-Some.ensures c.in-Compound.is in
-    let w = has_compound c.args.cx.d.now c.requires.scene.ready c.requires.typed c.in-Some.ensures _ _ _ _
-    c.in-Compound.is in
-    IfOk-weaker c.compound.result _ _
-    (λ r h. effect_changed _ c.requires.ordered c.requires.scene.ready.ordered there refl w
-    (h _ _ there n c.change_of-change.ensures.is)) c.compound.ensures.is
-
-pub expressions::effect-returns-in-Compound-clause-places : goal.expressions::effect-returns-in-Compound-clause-places
-expressions::effect-returns-in-Compound-clause-places t c =
-    let n = node_at c.args.cx.d.now c.requires.scene.ready c.requires.typed c.in-Some.ensures c.in-Compound.is in
-    let there = is_node c.in-Some.ensures c.in-Compound.is in
-    IfOk-weaker c.compound.result _ _
-    (λ r h. place_effect_never _ c.requires.ordered c.requires.scene.ready.ordered there refl
-    (h _ _ there n c.change_of-change.ensures.is)) c.compound.ensures.is
-
-pub expressions::effect-returns-in-Call-clause-is : goal.expressions::effect-returns-in-Call-clause-is
-expressions::effect-returns-in-Call-clause-is t c =
-    let there = is_node c.in-Some.ensures c.in-Call.is in
-    IfOk-weaker c.call.result _ _
-    (λ r h. effect_called _ c.requires.ordered c.requires.scene.ready.ordered there refl
-    (h (subst (λ z. IsNode c.args.cx.p.now c.args.k (exprs.Call c.in-Call.f z)) (sym c.as_slice.ensures) there)))
-    c.call.ensures.is
-
-pub expressions::effect-returns-in-Call-clause-places : goal.expressions::effect-returns-in-Call-clause-places
-expressions::effect-returns-in-Call-clause-places t c =
-    let there = is_node c.in-Some.ensures c.in-Call.is in
-    IfOk-weaker c.call.result _ _
-    (λ r h. place_effect_never _ c.requires.ordered c.requires.scene.ready.ordered there refl
-    (h (subst (λ z. IsNode c.args.cx.p.now c.args.k (exprs.Call c.in-Call.f z)) (sym c.as_slice.ensures) there)))
-    c.call.ensures.is
-
-pub expressions::effect-returns-in-Library-clause-is : goal.expressions::effect-returns-in-Library-clause-is
-expressions::effect-returns-in-Library-clause-is t c =
-    let there = is_node c.in-Some.ensures c.in-Library.is in
-    IfOk-weaker c.library.result _ _
-    (λ r h. effect_called _ c.requires.ordered c.requires.scene.ready.ordered there refl
-    (h (subst (λ z. IsNode c.args.cx.p.now c.args.k (exprs.Library c.in-Library.n z))
-    (sym c.as_slice-in-Library.ensures) there))) c.library.ensures.is
-
-pub expressions::effect-returns-in-Library-clause-places : goal.expressions::effect-returns-in-Library-clause-places
-expressions::effect-returns-in-Library-clause-places t c =
-    let there = is_node c.in-Some.ensures c.in-Library.is in
-    IfOk-weaker c.library.result _ _
-    (λ r h. place_effect_never _ c.requires.ordered c.requires.scene.ready.ordered there refl
-    (h (subst (λ z. IsNode c.args.cx.p.now c.args.k (exprs.Library c.in-Library.n z))
-    (sym c.as_slice-in-Library.ensures) there))) c.library.ensures.is
-
-pub expressions::effect-returns-in-Constant-clause-is : goal.expressions::effect-returns-in-Constant-clause-is
-expressions::effect-returns-in-Constant-clause-is t c =
-    effect_leaf _ c.requires.ordered c.requires.scene.ready.ordered
-    (is_node c.in-Some.ensures refl) (leaf_of _ c.in-Constant.is) _
-
-pub expressions::effect-returns-in-Constant-clause-places : goal.expressions::effect-returns-in-Constant-clause-places
-expressions::effect-returns-in-Constant-clause-places t c =
-    place_effect_leaf _ c.requires.ordered c.requires.scene.ready.ordered
-    (is_node c.in-Some.ensures refl) (leaf_of _ c.in-Constant.is) _
-
-pub expressions::effect-returns-in-Constant-2-clause-is : goal.expressions::effect-returns-in-Constant-2-clause-is
-expressions::effect-returns-in-Constant-2-clause-is t c =
-    effect_leaf _ c.requires.ordered c.requires.scene.ready.ordered
-    (is_node c.in-Some.ensures refl) (leaf_of _ c.in-Constant.is) _
-
-pub expressions::effect-returns-in-Constant-2-clause-places :
-    goal.expressions::effect-returns-in-Constant-2-clause-places
-expressions::effect-returns-in-Constant-2-clause-places t c =
-    place_effect_leaf _ c.requires.ordered c.requires.scene.ready.ordered
-    (is_node c.in-Some.ensures refl) (leaf_of _ c.in-Constant.is) _
-
-pub expressions::effect-returns-in-Constant-3-clause-is : goal.expressions::effect-returns-in-Constant-3-clause-is
-expressions::effect-returns-in-Constant-3-clause-is t c =
-    effect_leaf _ c.requires.ordered c.requires.scene.ready.ordered
-    (is_node c.in-Some.ensures refl) (leaf_of _ c.in-Constant.is) _
-
-pub expressions::effect-returns-in-Constant-3-clause-places :
-    goal.expressions::effect-returns-in-Constant-3-clause-places
-expressions::effect-returns-in-Constant-3-clause-places t c =
-    place_effect_leaf _ c.requires.ordered c.requires.scene.ready.ordered
-    (is_node c.in-Some.ensures refl) (leaf_of _ c.in-Constant.is) _
-
-pub expressions::effect-returns-in-Constant-4-clause-is : goal.expressions::effect-returns-in-Constant-4-clause-is
-expressions::effect-returns-in-Constant-4-clause-is t c =
-    effect_leaf _ c.requires.ordered c.requires.scene.ready.ordered
-    (is_node c.in-Some.ensures refl) (leaf_of _ c.in-Constant.is) _
-
-pub expressions::effect-returns-in-Constant-4-clause-places :
-    goal.expressions::effect-returns-in-Constant-4-clause-places
-expressions::effect-returns-in-Constant-4-clause-places t c =
-    place_effect_leaf _ c.requires.ordered c.requires.scene.ready.ordered
-    (is_node c.in-Some.ensures refl) (leaf_of _ c.in-Constant.is) _
-
-pub expressions::effect-returns-in-Constant-5-clause-is : goal.expressions::effect-returns-in-Constant-5-clause-is
-expressions::effect-returns-in-Constant-5-clause-is t c =
-    effect_leaf _ c.requires.ordered c.requires.scene.ready.ordered
-    (is_node c.in-Some.ensures refl) (leaf_of _ c.in-Constant.is) _
-
-pub expressions::effect-returns-in-Constant-5-clause-places :
-    goal.expressions::effect-returns-in-Constant-5-clause-places
-expressions::effect-returns-in-Constant-5-clause-places t c =
-    place_effect_leaf _ c.requires.ordered c.requires.scene.ready.ordered
-    (is_node c.in-Some.ensures refl) (leaf_of _ c.in-Constant.is) _
-
-pub expressions::effect-returns-in_ok-t-in-Decay-clause-is :
-    goal.expressions::effect-returns-in_ok-t-in-Decay-clause-is
-expressions::effect-returns-in_ok-t-in-Decay-clause-is t c =
-    let works = worked_of _ c.in-Decay.is in
-    IfOk-weaker c.value.result _ _
-    (λ r h. effect_of_value _ c.requires.ordered c.requires.scene.ready.ordered
-    (is_node c.in-Some.ensures refl) (worked_no_place _ works)
-    (has_worked c.args.cx.d.now c.requires.scene.ready c.requires.typed c.in-Some.ensures _ works refl)
-    c.in_ok-t-in-Decay.ensures.next c.in_ok-t-in-Decay.ensures.emits h) c.value.ensures.is
-
-pub expressions::effect-returns-in_ok-t-in-Decay-clause-places :
-    goal.expressions::effect-returns-in_ok-t-in-Decay-clause-places
-expressions::effect-returns-in_ok-t-in-Decay-clause-places t c =
-    let works = worked_of _ c.in-Decay.is in
-    IfOk-weaker c.value.result _ _
-    (λ r h. place_effect_never _ c.requires.ordered c.requires.scene.ready.ordered
-    (is_node c.in-Some.ensures refl) (worked_no_place _ works)
-    (effect_of_value _ c.requires.ordered c.requires.scene.ready.ordered
-    (is_node c.in-Some.ensures refl) (worked_no_place _ works)
-    (has_worked c.args.cx.d.now c.requires.scene.ready c.requires.typed c.in-Some.ensures _ works refl)
-    c.in_ok-t-in-Decay.ensures.next c.in_ok-t-in-Decay.ensures.emits h)) c.value.ensures.is
-
-pub expressions::read_effect-returns-in-None-clause-is : goal.expressions::read_effect-returns-in-None-clause-is
-expressions::read_effect-returns-in-None-clause-is t c =
-    IfOk-weaker c.effect.result _ _
-    (λ r h n w. effect_unread _ c.requires.ordered c.requires.scene.ready.ordered n
-    (sym (c.scalar.ensures c.requires.scene.ready) ∙ c.in-None.is) w h) c.effect.ensures.places
-
-pub expressions::read_effect-returns-in-None-clause-places :
-    goal.expressions::read_effect-returns-in-None-clause-places
-expressions::read_effect-returns-in-None-clause-places t c =
-    IfOk-weaker c.effect.result _ _
-    (λ r h n w. place_effect_unread _ c.requires.ordered c.requires.scene.ready.ordered n
-    (sym (c.scalar.ensures c.requires.scene.ready) ∙ c.in-None.is) w h) c.effect.ensures.places
-
-pub expressions::read_effect-returns-in-Some-variable-clause-is :
-    goal.expressions::read_effect-returns-in-Some-variable-clause-is
-expressions::read_effect-returns-in-Some-variable-clause-is t c =
-    let scalar : IsScalar c.args.cx.p.now c.args.k c.in-Some.kind =
-    record { is = sym (c.scalar.ensures c.requires.scene.ready) ∙ c.in-Some.is } in
-    λ n w. effect_variable _ c.requires.ordered c.requires.scene.ready.ordered n scalar _
-    c.in-Some-variable.ensures.stands
-
-pub expressions::read_effect-returns-in-Some-variable-clause-places :
-    goal.expressions::read_effect-returns-in-Some-variable-clause-places
-expressions::read_effect-returns-in-Some-variable-clause-places t c =
-    let scalar : IsScalar c.args.cx.p.now c.args.k c.in-Some.kind =
-    record { is = sym (c.scalar.ensures c.requires.scene.ready) ∙ c.in-Some.is } in
-    λ n w. place_effect_read _ c.requires.ordered c.requires.scene.ready.ordered n scalar
-    (effect_variable _ c.requires.ordered c.requires.scene.ready.ordered n scalar _ c.in-Some-variable.ensures.stands)
-
-pub expressions::read_effect-returns-in_ok-t-in-None-variable-clause-is :
-    goal.expressions::read_effect-returns-in_ok-t-in-None-variable-clause-is
-expressions::read_effect-returns-in_ok-t-in-None-variable-clause-is t c =
-    let scalar : IsScalar c.args.cx.p.now c.args.k c.in-Some.kind =
-    record { is = sym (c.scalar.ensures c.requires.scene.ready) ∙ c.in-Some.is } in
-    IfOk-weaker c.load.result _ _
-    (λ r h n w. effect_read _ c.requires.ordered c.requires.scene.ready.ordered n scalar
-    c.in_ok-t-in-None-variable.ensures.next c.in_ok-t-in-None-variable.ensures.emits (h n)) c.load.ensures.is
-
-pub expressions::read_effect-returns-in_ok-t-in-None-variable-clause-places :
-    goal.expressions::read_effect-returns-in_ok-t-in-None-variable-clause-places
-expressions::read_effect-returns-in_ok-t-in-None-variable-clause-places t c =
-    let scalar : IsScalar c.args.cx.p.now c.args.k c.in-Some.kind =
-    record { is = sym (c.scalar.ensures c.requires.scene.ready) ∙ c.in-Some.is } in
-    IfOk-weaker c.load.result _ _
-    (λ r h n w. place_effect_read _ c.requires.ordered c.requires.scene.ready.ordered n scalar
-    (effect_read _ c.requires.ordered c.requires.scene.ready.ordered n scalar
-    c.in_ok-t-in-None-variable.ensures.next c.in_ok-t-in-None-variable.ensures.emits (h n))) c.load.ensures.is
-
-pub expressions::value-returns-in-Convert-clause-is : goal.expressions::value-returns-in-Convert-clause-is
-expressions::value-returns-in-Convert-clause-is t c =
-    IfOk-weaker c.conversion.result _ _
-    (λ r h. h (has_converted c.args.cx.d.now c.requires.scene.ready c.requires.typed c.in-Some.ensures _
-    c.in-Convert.is)
-    (is_node c.in-Some.ensures c.in-Convert.is)) c.conversion.ensures.is
-
-pub expressions::value-returns-in-And-clause-is : goal.expressions::value-returns-in-And-clause-is
-expressions::value-returns-in-And-clause-is t c =
-    let n = node_at c.args.cx.d.now c.requires.scene.ready c.requires.typed c.in-Some.ensures c.in-And.is in
-    IfOk-weaker c.truth.result _ _
-    (λ r h. h (subst (λ (j : Junction). HasScalar c.args.cx.p.now j.a) (sym c.and.ensures)
-    (record { kind = n.left_kind; is = n.left }))
-    (subst (λ (j : Junction). HasScalar c.args.cx.p.now j.b) (sym c.and.ensures)
-    (record { kind = n.right_kind; is = n.right }))
-    (subst (λ (j : Junction). IsNode c.args.cx.p.now c.args.k (joined j.both j.a j.b)) (sym c.and.ensures)
-    (is_node c.in-Some.ensures c.in-And.is))) c.truth.ensures.is
-
-pub expressions::value-returns-in-Or-clause-is : goal.expressions::value-returns-in-Or-clause-is
-expressions::value-returns-in-Or-clause-is t c =
-    let n = node_at c.args.cx.d.now c.requires.scene.ready c.requires.typed c.in-Some.ensures c.in-Or.is in
-    IfOk-weaker c.truth-in-Or.result _ _
-    (λ r h. h (subst (λ (j : Junction). HasScalar c.args.cx.p.now j.a) (sym c.or.ensures)
-    (record { kind = n.left_kind; is = n.left }))
-    (subst (λ (j : Junction). HasScalar c.args.cx.p.now j.b) (sym c.or.ensures)
-    (record { kind = n.right_kind; is = n.right }))
-    (subst (λ (j : Junction). IsNode c.args.cx.p.now c.args.k (joined j.both j.a j.b)) (sym c.or.ensures)
-    (is_node c.in-Some.ensures c.in-Or.is))) c.truth-in-Or.ensures.is
-
-pub expressions::value-returns-in-Assign-clause-is : goal.expressions::value-returns-in-Assign-clause-is
-expressions::value-returns-in-Assign-clause-is t c =
-    IfOk-weaker c.assignment.result _ _ (λ r h. value_changed _ (h (is_node c.in-Some.ensures c.in-Assign.is)))
-    c.assignment.ensures.is
-
-pub expressions::value-returns-in-Compound-clause-is : goal.expressions::value-returns-in-Compound-clause-is
-expressions::value-returns-in-Compound-clause-is t c =
-    let n = node_at c.args.cx.d.now c.requires.scene.ready c.requires.typed c.in-Some.ensures c.in-Compound.is in
-    IfOk-weaker c.compound.result _ _
-    (λ r h. value_changed _ (h _ _ (is_node c.in-Some.ensures c.in-Compound.is) n c.change_of-change.ensures.is))
-    c.compound.ensures.is
-
-pub expressions::value-returns-in-Step-clause-is : goal.expressions::value-returns-in-Step-clause-is
-expressions::value-returns-in-Step-clause-is t c =
-    IfOk-weaker c.step.result _ _ (λ r h. value_changed _ (h (is_node c.in-Some.ensures c.in-Step.is)))
-    c.step.ensures.is
-
-pub expressions::value-returns-in-Call-clause-is : goal.expressions::value-returns-in-Call-clause-is
-expressions::value-returns-in-Call-clause-is t c =
-    IfOk-weaker c.call.result _ _
-    (λ r h. value_called _ c.asked.ensures.given
-    (h (subst (λ z. IsNode c.args.cx.p.now c.args.k (exprs.Call c.in-Call.f z)) (sym c.as_slice.ensures)
-    (is_node c.in-Some.ensures c.in-Call.is)))) c.call.ensures.is
-
-pub expressions::value-returns-in-Library-clause-is : goal.expressions::value-returns-in-Library-clause-is
-expressions::value-returns-in-Library-clause-is t c =
-    IfOk-weaker c.library.result _ _
-    (λ r h. value_called _ c.asked-in-Library.ensures.given
-    (h (subst (λ z. IsNode c.args.cx.p.now c.args.k (exprs.Library c.in-Library.n z))
-    (sym c.as_slice-in-Library.ensures) (is_node c.in-Some.ensures c.in-Library.is)))) c.library.ensures.is
-
-pub expressions::value-returns-in-Literal-clause-is : goal.expressions::value-returns-in-Literal-clause-is
-expressions::value-returns-in-Literal-clause-is t c =
-    IfOk-weaker c.constant-in-Literal.result _ _
-    (λ r f. value_no_value _ c.requires.ordered c.requires.scene.ready.ordered (is_node c.in-Some.ensures refl)
-    (never_value (setting c.args.cx) _ (place_of _ c.in-Literal.is)) f) c.constant-in-Literal.ensures.emits
-
-pub calls::call-returns-in_ok-temps-in-Some-clause-is : goal.calls::call-returns-in_ok-temps-in-Some-clause-is
-calls::call-returns-in_ok-temps-in-Some-clause-is t c =
-    IfOk-weaker c.call.result _ _
-    (λ r f n. call_named _ c.requires.ordered c.requires.scene.ready c.args.cx.d.now _ _ _ n c.requires.node
-    c.in-Some.n c.in-Some.ensures.names (c.in-Some.ensures.signed _ _ c.requires.node.of)
-    c.in_ok-temps-in-Some.ensures.is (one_emits _ _ _ refl f)) c.call.ensures.pushed
-
-pub calls::call-returns-in_ok-temps-in-None-clause-is : goal.calls::call-returns-in_ok-temps-in-None-clause-is
-calls::call-returns-in_ok-temps-in-None-clause-is t c =
-    IfOk-weaker c.call_value.result _ _
-    (λ r f n. call_by_value _ c.requires.ordered c.requires.scene.ready c.args.cx.d.now _ _ _ n c.requires.node
-    c.written_by.ensures.spares (λ e h. c.unwrap_or-of.ensures ∙ c.facts.ensures.target e c.requires.scene.ready h)
-    c.pos.ensures c.in_ok-v-in-None.ensures.is c.in_ok-temps-in-None.ensures.is (one_emits _ _ _ refl f))
-    c.call_value.ensures.pushed
-
-pub calls::library-returns-in-Library-clause-is : goal.calls::library-returns-in-Library-clause-is
-calls::library-returns-in-Library-clause-is t c =
-    let p = c.args.cx.p.now in
-    let asks = subst (λ z. ServiceAsks z c.requires.node.service.takes c.requires.node.service.gives) c.in-Library.is
-    (c.service_of.ensures.asks c.requires.node.service c.requires.node.there) in
-    let served = is_served p c.args.k c.requires.node.service.takes c.requires.node.service.gives c.args.args.now
-    c.requires.node.fit c.requires.node.gives (called_services.Library c.in-Library.op) asks in
-    IfOk-weaker c.service.result _ _
-    (λ r f n. call_served _ c.requires.ordered c.requires.scene.ready.ordered
-    (service_as (called_services.Library c.in-Library.op)) n
-    (sym (ap service_as c.in-Library.is) ∙ c.service_of.ensures.is) served c.in_ok-temps.ensures.is
-    (library_serves c.in-Library.op _ _ _ asks (one_emits _ _ _ refl f))) c.service.ensures.pushed
-
-pub calls::library-returns-in-Exit-clause-is : goal.calls::library-returns-in-Exit-clause-is
-calls::library-returns-in-Exit-clause-is t c =
-    let p = c.args.cx.p.now in
-    let asks = subst (λ z. ServiceAsks z c.requires.node.service.takes c.requires.node.service.gives) c.in-Exit.is
-    (c.service_of.ensures.asks c.requires.node.service c.requires.node.there) in
-    let served = is_served p c.args.k c.requires.node.service.takes c.requires.node.service.gives c.args.args.now
-    c.requires.node.fit c.requires.node.gives called_services.Exit asks in
-    IfOk-weaker c.service-in-Exit.result _ _
-    (λ r f n. call_served _ c.requires.ordered c.requires.scene.ready.ordered (service_as called_services.Exit) n
-    (sym (ap service_as c.in-Exit.is) ∙ c.service_of.ensures.is) served c.in_ok-temps.ensures.is
-    (one_emits _ _ _ refl f)) c.service-in-Exit.ensures.pushed
-
-pub calls::library-returns-in-Intrinsic-clause-is : goal.calls::library-returns-in-Intrinsic-clause-is
-calls::library-returns-in-Intrinsic-clause-is t c =
-    let p = c.args.cx.p.now in
-    let i = c.in-Intrinsic.i in
-    let asks = subst (λ z. ServiceAsks z c.requires.node.service.takes c.requires.node.service.gives) c.in-Intrinsic.is
-    (c.service_of.ensures.asks c.requires.node.service c.requires.node.there) in
-    let served = is_served p c.args.k c.requires.node.service.takes c.requires.node.service.gives c.args.args.now
-    c.requires.node.fit c.requires.node.gives (called_services.Intrinsic i) asks in
-    let long = has_length p _ c.requires.node.service.takes c.requires.node.service.gives c.args.args.now
-    c.in_ok-temps.temps.items c.second_temp-b.result i asks c.requires.node.fit c.in_ok-temps.ensures.kinds (cc) in
-    IfOk-weaker c.intrinsic_value.result _ _
-    (λ r f n. call_served _ c.requires.ordered c.requires.scene.ready.ordered
-    (service_as (called_services.Intrinsic i)) n
-    (sym (ap service_as c.in-Intrinsic.is) ∙ c.service_of.ensures.is) served c.in_ok-temps.ensures.is
-    (intrinsic_serves i _ _ c.first_kind-kind.ensures.is (cc) (cc) f)) (c.intrinsic_value.ensures.emits long)
+pub expressions::step-returns-in_ok-store-in-None : goal.expressions::step-returns-in_ok-store-in-None
+expressions::step-returns-in_ok-store-in-None t c =
+    record {
+      lowered = tail_grew _ _ c.give.result (grew (grew (grew
+          (both c.in_ok-at-in-None.ensures.lowered c.in_ok-old-in-None.ensures.lowered)
+          c.in_ok-load-in-None.ensures.grown c.in_ok-load-in-None.ensures.adds) c.in_ok-new-in-None.ensures.grown
+          c.in_ok-new-in-None.ensures.adds) c.in_ok-store-in-None.ensures.grown c.in_ok-store-in-None.ensures.adds)
+          c.give.ensures.grown c.give.ensures.adds (omega (arith, c.requires.node.operands.weight));
+      spends = last_given _ c.give.result c.in_ok-old-in-None.ensures.owns
+          (and (and (and (owned c.in_ok-at-in-None.ensures.spends c.in_ok-old-in-None.ensures.owns)
+          c.in_ok-load-in-None.ensures.spent) c.in_ok-new-in-None.ensures.spent) c.in_ok-store-in-None.ensures.spent)
+          c.give.ensures.spent c.give.ensures.there
+          (omega (arith, c.requires.node.operands.weight, heavy (expression c.args.cx.p.now c.args.a)))
+          (omega (arith, c.requires.node.operands.weight, heavy (expression c.args.cx.p.now c.args.a)))
+          (omega (arith, c.requires.node.operands.copies));
+      is = (let ready = c.requires.scene.ready in
+          IfOk-weaker c.give.result _ _
+          (λ r f n. steps_place _ c.requires.ordered ready.ordered
+          (steps_are _ c.requires.ordered ready.ordered c.args.cx.d.now c.pointed_size.result n c.requires.node
+          (c.pointed_size.ensures.is ready) (c.pointed_size.ensures.size ready) c.unwrap_or-size.ensures) n c.args.to
+          _ _ _ _ _ _ _ (c.kind-kind.ensures ready) c.pos.ensures c.pos-in-None.ensures c.in-None.ensures.other
+          c.in_ok-at-in-None.ensures.is c.in_ok-old-in-None.ensures.is c.in_ok-load-in-None.ensures.emits
+          c.drops_old.result c.drops_old.ensures
+          c.in_ok-new-in-None.ensures.same c.in_ok-new-in-None.ensures.apart c.in_ok-store-in-None.ensures.emits f)
+          c.give.ensures.emits);
+    }
+
+pub expressions::value-returns-in-Call : goal.expressions::value-returns-in-Call
+expressions::value-returns-in-Call t c =
+    record {
+      lowered = search rules;
+      spends = last _ _ _ _ c.call.result nothing c.call.ensures.spends (omega arith) (omega arith)
+          (omega arith);
+      is = IfOk-weaker c.call.result _ _
+          (λ r h. value_called _ c.asked.ensures.given
+          (h (subst (λ z. IsNode c.args.cx.p.now c.args.k (exprs.Call c.in-Call.f z)) (sym c.as_slice.ensures)
+          (is_node c.in-Some.ensures c.in-Call.is)))) c.call.ensures.is;
+    }
+
+pub expressions::value-returns-in-Library : goal.expressions::value-returns-in-Library
+expressions::value-returns-in-Library t c =
+    record {
+      lowered = search rules;
+      spends = last _ _ _ _ c.library.result nothing c.library.ensures.spends (omega arith) (omega arith)
+          (omega arith);
+      is = IfOk-weaker c.library.result _ _
+          (λ r h. value_called _ c.asked-in-Library.ensures.given
+          (h (subst (λ z. IsNode c.args.cx.p.now c.args.k (exprs.Library c.in-Library.n z))
+          (sym c.as_slice-in-Library.ensures) (is_node c.in-Some.ensures c.in-Library.is)))) c.library.ensures.is;
+    }
+
+pub expressions::value-returns-in-Int : goal.expressions::value-returns-in-Int
+expressions::value-returns-in-Int t c =
+    record {
+      lowered = search rules;
+      spends = search rules;
+      is = IfOk-weaker c.integer.result _ _
+          (λ r h. h (record { node = _; there = c.in-Some.ensures; is = c.in-Int.is })) c.integer.ensures.is;
+    }
+
+pub expressions::unary-returns-in-Plus : goal.expressions::unary-returns-in-Plus
+expressions::unary-returns-in-Plus t c =
+    record {
+      lowered = search rules;
+      spends = search rules;
+      is = IfOk-weaker c.signed_value.result _ _
+          (λ r h. h c.args.op (subst (λ z. Signs z sem.Positive) (sym c.in-Plus.is) tt)) c.signed_value.ensures.is;
+    }
+
+pub expressions::unary-returns-in-Minus : goal.expressions::unary-returns-in-Minus
+expressions::unary-returns-in-Minus t c =
+    record {
+      lowered = search rules;
+      spends = search rules;
+      is = IfOk-weaker c.signed_value-in-Minus.result _ _
+          (λ r h. h c.args.op (subst (λ z. Signs z sem.Negative) (sym c.in-Minus.is) tt))
+          c.signed_value-in-Minus.ensures.is;
+    }
+
+pub expressions::unary-returns-in-Complement : goal.expressions::unary-returns-in-Complement
+expressions::unary-returns-in-Complement t c =
+    record {
+      lowered = search rules;
+      spends = search rules;
+      is = IfOk-weaker c.signed_value-in-Complement.result _ _
+          (λ r h. h c.args.op (subst (λ z. Signs z sem.Complement) (sym c.in-Complement.is) tt))
+          c.signed_value-in-Complement.ensures.is;
+    }
+
+pub places::place-returns-in-Conditional : goal.places::place-returns-in-Conditional
+places::place-returns-in-Conditional t c =
+    record {
+      lowered = search rules;
+      spends = search rules;
+      is = (let n = node_at c.args.cx.d.now c.requires.scene.ready c.requires.typed c.in-Some.ensures
+          c.in-Conditional.is in
+          IfOk-weaker c.place_choice.result _ _
+          (λ r h. h (record { kind = n.kind; is = n.test })
+          (record { node = _; there = c.in-Some.ensures; is = c.in-Conditional.is })) c.place_choice.ensures.is);
+    }
+
+pub places::struct_copy-returns-in_default : goal.places::struct_copy-returns-in_default
+places::struct_copy-returns-in_default t c =
+    record {
+      lowered = search rules;
+      spends = search rules;
+      is = IfOk-weaker c.plain_copy.result _ _
+          (λ r h. h (plain_none (setting c.args.cx) c.requires.ordered c.requires.scene.ready.ordered c.args.k
+          c.in_default.ensures)) c.plain_copy.ensures.is;
+    }
+
+pub places::struct_copy-returns-in-Conditional : goal.places::struct_copy-returns-in-Conditional
+places::struct_copy-returns-in-Conditional t c =
+    record {
+      lowered = search rules;
+      spends = search rules;
+      is = IfOk-weaker c.chosen_copy.result _ _
+          (λ r h. h (record { node = _; there = c.in-Some.ensures; is = c.in-Conditional.is }))
+          c.chosen_copy.ensures.is;
+    }
+
+pub places::struct_copy-returns-in_default-kind : goal.places::struct_copy-returns-in_default-kind
+places::struct_copy-returns-in_default-kind t c =
+    record {
+      lowered = search rules;
+      spends = search rules;
+      is = IfOk-weaker c.plain_copy-in_default-kind.result _ _
+          (λ r h. h (plain_own (setting c.args.cx) c.requires.ordered c.requires.scene.ready.ordered _
+          c.in-Some.e.now.kind c.requires.typed (record { node = _; there = c.in-Some.ensures; is = refl })
+          c.in_default-kind.not-Conditional c.in_default-kind.not-Comma c.in_default-kind.not-Load))
+          c.plain_copy-in_default-kind.ensures.is;
+    }
+
+pub expressions::sum-returns-in-Some : goal.expressions::sum-returns-in-Some
+expressions::sum-returns-in-Some t c =
+    record {
+      lowered = search rules;
+      spends = search rules;
+      is = (let ready = c.requires.scene.ready in
+          let points = sym (c.in-Some.ensures.is ready) in
+          IfOk-weaker c.pointer_first.result _ _
+          (λ r h n. h (sum_first _ c.requires.ordered ready.ordered c.args.cx.d.now n c.requires.node
+          (first_pointer _ _ _ _ c.requires.node points) points (c.in-Some.ensures.size ready) c.stride.ensures))
+          c.pointer_first.ensures.is);
+    }
+
+pub expressions::sum-returns-in-None : goal.expressions::sum-returns-in-None
+expressions::sum-returns-in-None t c =
+    record {
+      lowered = search rules;
+      spends = search rules;
+      is = (let ready = c.requires.scene.ready in
+          let points = sym (c.in-None.ensures.is ready) in
+          IfOk-weaker c.pointer_second.result _ _
+          (λ r h n. h (sum_second _ c.requires.ordered ready.ordered c.args.cx.d.now n c.requires.node points
+          (subst (IsPointed c.args.cx.p.now.types (type_at c.args.cx.p.now c.args.b)) (sym c.unwrap_or-size.ensures)
+          (given_is _ c.pointed_size-in-None.result 0 (c.pointed_size-in-None.ensures.is ready
+          ∙ points_there (c.requires.node.indexes points).0) (c.pointed_size-in-None.ensures.size ready)))
+          c.stride-in-None.ensures))
+          c.pointer_second.ensures.is);
+    }
+
+pub expressions::assignment-returns-in-None : goal.expressions::assignment-returns-in-None
+expressions::assignment-returns-in-None t c =
+    record {
+      lowered = search rules;
+      spends = search rules;
+      is = IfOk-weaker c.object_assignment.result _ _ (λ r h. h c.in-None.ensures.other)
+          c.object_assignment.ensures.is;
+      copies = IfOk-weaker c.object_assignment.result _ _
+          (λ r f n h. no_copies n c.if-facts.false (c.facts.ensures.record n.node c.requires.scene.ready n.there) h)
+          c.object_assignment.ensures.is;
+    }
+
+pub conditions::condition-returns-in-Unary-LogicalNot-default :
+    goal.conditions::condition-returns-in-Unary-LogicalNot-default
+conditions::condition-returns-in-Unary-LogicalNot-default t c =
+    record {
+      lowered = search rules;
+      spends = search rules;
+      is = (let w = c.in-Unary-LogicalNot-default in
+          let is = w.is ∙ ap (λ z. exprs.Unary z w.a) (rw w.is at w.field-0-is) in
+          let n = node_at c.args.cx.d.now c.requires.scene.ready c.requires.typed c.in-Some.ensures is in
+          IfOk-weaker c.opposite_condition.result _ _
+          (λ r h. h n.is (record { kind = n.kind; is = n.value })
+          (record { node = _; there = c.in-Some.ensures; is = is })) c.opposite_condition.ensures.is);
+    }
+
+pub expressions::effect-returns-in-Conditional : goal.expressions::effect-returns-in-Conditional
+expressions::effect-returns-in-Conditional t c =
+    record {
+      lowered = search rules;
+      spends = search rules;
+      is = (let n = node_at c.args.cx.d.now c.requires.scene.ready c.requires.typed c.in-Some.ensures
+          c.in-Conditional.is in
+          IfOk-weaker c.chosen_effect.result _ _
+          (λ r h. h (record { kind = n.kind; is = n.test })
+          (record { node = _; there = c.in-Some.ensures; is = c.in-Conditional.is })) c.chosen_effect.ensures.is);
+      places = (let n = node_at c.args.cx.d.now c.requires.scene.ready c.requires.typed c.in-Some.ensures
+          c.in-Conditional.is in
+          IfOk-weaker c.chosen_effect.result _ _
+          (λ r h. h (record { kind = n.kind; is = n.test })
+          (record { node = _; there = c.in-Some.ensures; is = c.in-Conditional.is })) c.chosen_effect.ensures.places);
+    }
+
+pub expressions::effect-returns-in-And : goal.expressions::effect-returns-in-And
+expressions::effect-returns-in-And t c =
+    record {
+      lowered = search rules;
+      spends = search rules;
+      is = (let n = node_at c.args.cx.d.now c.requires.scene.ready c.requires.typed c.in-Some.ensures c.in-And.is in
+          IfOk-weaker c.guarded_effect.result _ _
+          (λ r h. h (record { kind = n.left_kind; is = n.left })
+          (record { node = _; there = c.in-Some.ensures; is = c.in-And.is })) c.guarded_effect.ensures.is);
+      places = (let n = node_at c.args.cx.d.now c.requires.scene.ready c.requires.typed c.in-Some.ensures c.in-And.is
+          in
+          let there = is_node c.in-Some.ensures c.in-And.is in
+          IfOk-weaker c.guarded_effect.result _ _
+          (λ r h. place_effect_never _ c.requires.ordered c.requires.scene.ready.ordered there refl
+          (h (record { kind = n.left_kind; is = n.left }) there)) c.guarded_effect.ensures.is);
+    }
+
+pub expressions::effect-returns-in-Or : goal.expressions::effect-returns-in-Or
+expressions::effect-returns-in-Or t c =
+    record {
+      lowered = search rules;
+      spends = search rules;
+      is = (let n = node_at c.args.cx.d.now c.requires.scene.ready c.requires.typed c.in-Some.ensures c.in-Or.is in
+          IfOk-weaker c.guarded_effect-in-Or.result _ _
+          (λ r h. h (record { kind = n.left_kind; is = n.left })
+          (record { node = _; there = c.in-Some.ensures; is = c.in-Or.is })) c.guarded_effect-in-Or.ensures.is);
+      places = (let n = node_at c.args.cx.d.now c.requires.scene.ready c.requires.typed c.in-Some.ensures c.in-Or.is in
+          let there = is_node c.in-Some.ensures c.in-Or.is in
+          IfOk-weaker c.guarded_effect-in-Or.result _ _
+          (λ r h. place_effect_never _ c.requires.ordered c.requires.scene.ready.ordered there refl
+          (h (record { kind = n.left_kind; is = n.left }) there)) c.guarded_effect-in-Or.ensures.is);
+    }
+
+pub expressions::effect-returns-in-Load : goal.expressions::effect-returns-in-Load
+expressions::effect-returns-in-Load t c =
+    record {
+      lowered = search rules;
+      spends = search rules;
+      is = IfOk-weaker c.read_effect.result _ _
+          (λ r h. h (record { node = _; there = c.in-Some.ensures; is = c.in-Load.is })
+          (whole_load c.args.cx.d.now c.requires.scene.ready c.requires.typed c.in-Some.ensures _ c.in-Load.is))
+          c.read_effect.ensures.is;
+      places = IfOk-weaker c.read_effect.result _ _
+          (λ r h. h (record { node = _; there = c.in-Some.ensures; is = c.in-Load.is })
+          (whole_load c.args.cx.d.now c.requires.scene.ready c.requires.typed c.in-Some.ensures _ c.in-Load.is))
+          c.read_effect.ensures.places;
+    }
+
+pub expressions::effect-returns-in-Constant-2 : goal.expressions::effect-returns-in-Constant-2
+expressions::effect-returns-in-Constant-2 t c =
+    record {
+      lowered = search rules;
+      spends = search rules;
+      is = effect_leaf _ c.requires.ordered c.requires.scene.ready.ordered
+          (is_node c.in-Some.ensures refl) (leaf_of _ c.in-Constant.is) _;
+      places = place_effect_leaf _ c.requires.ordered c.requires.scene.ready.ordered
+          (is_node c.in-Some.ensures refl) (leaf_of _ c.in-Constant.is) _;
+    }
+
+pub expressions::effect-returns-in-Constant-3 : goal.expressions::effect-returns-in-Constant-3
+expressions::effect-returns-in-Constant-3 t c =
+    record {
+      lowered = search rules;
+      spends = search rules;
+      is = effect_leaf _ c.requires.ordered c.requires.scene.ready.ordered
+          (is_node c.in-Some.ensures refl) (leaf_of _ c.in-Constant.is) _;
+      places = place_effect_leaf _ c.requires.ordered c.requires.scene.ready.ordered
+          (is_node c.in-Some.ensures refl) (leaf_of _ c.in-Constant.is) _;
+    }
+
+pub expressions::effect-returns-in-Constant-4 : goal.expressions::effect-returns-in-Constant-4
+expressions::effect-returns-in-Constant-4 t c =
+    record {
+      lowered = search rules;
+      spends = search rules;
+      is = effect_leaf _ c.requires.ordered c.requires.scene.ready.ordered
+          (is_node c.in-Some.ensures refl) (leaf_of _ c.in-Constant.is) _;
+      places = place_effect_leaf _ c.requires.ordered c.requires.scene.ready.ordered
+          (is_node c.in-Some.ensures refl) (leaf_of _ c.in-Constant.is) _;
+    }
+
+pub expressions::effect-returns-in-Constant-5 : goal.expressions::effect-returns-in-Constant-5
+expressions::effect-returns-in-Constant-5 t c =
+    record {
+      lowered = search rules;
+      spends = search rules;
+      is = effect_leaf _ c.requires.ordered c.requires.scene.ready.ordered
+          (is_node c.in-Some.ensures refl) (leaf_of _ c.in-Constant.is) _;
+      places = place_effect_leaf _ c.requires.ordered c.requires.scene.ready.ordered
+          (is_node c.in-Some.ensures refl) (leaf_of _ c.in-Constant.is) _;
+    }
+
+pub expressions::value-returns-in-Convert : goal.expressions::value-returns-in-Convert
+expressions::value-returns-in-Convert t c =
+    record {
+      lowered = search rules;
+      spends = search rules;
+      is = IfOk-weaker c.conversion.result _ _
+          (λ r h. h (has_converted c.args.cx.d.now c.requires.scene.ready c.requires.typed c.in-Some.ensures _
+          c.in-Convert.is)
+          (is_node c.in-Some.ensures c.in-Convert.is)) c.conversion.ensures.is;
+    }
+
+pub expressions::value-returns-in-And : goal.expressions::value-returns-in-And
+expressions::value-returns-in-And t c =
+    record {
+      lowered = search rules;
+      spends = search rules;
+      is = (let n = node_at c.args.cx.d.now c.requires.scene.ready c.requires.typed c.in-Some.ensures c.in-And.is in
+          IfOk-weaker c.truth.result _ _
+          (λ r h. h (subst (λ (j : Junction). HasScalar c.args.cx.p.now j.a) (sym c.and.ensures)
+          (record { kind = n.left_kind; is = n.left }))
+          (subst (λ (j : Junction). HasScalar c.args.cx.p.now j.b) (sym c.and.ensures)
+          (record { kind = n.right_kind; is = n.right }))
+          (subst (λ (j : Junction). IsNode c.args.cx.p.now c.args.k (joined j.both j.a j.b)) (sym c.and.ensures)
+          (is_node c.in-Some.ensures c.in-And.is))) c.truth.ensures.is);
+    }
+
+pub expressions::value-returns-in-Or : goal.expressions::value-returns-in-Or
+expressions::value-returns-in-Or t c =
+    record {
+      lowered = search rules;
+      spends = search rules;
+      is = (let n = node_at c.args.cx.d.now c.requires.scene.ready c.requires.typed c.in-Some.ensures c.in-Or.is in
+          IfOk-weaker c.truth-in-Or.result _ _
+          (λ r h. h (subst (λ (j : Junction). HasScalar c.args.cx.p.now j.a) (sym c.or.ensures)
+          (record { kind = n.left_kind; is = n.left }))
+          (subst (λ (j : Junction). HasScalar c.args.cx.p.now j.b) (sym c.or.ensures)
+          (record { kind = n.right_kind; is = n.right }))
+          (subst (λ (j : Junction). IsNode c.args.cx.p.now c.args.k (joined j.both j.a j.b)) (sym c.or.ensures)
+          (is_node c.in-Some.ensures c.in-Or.is))) c.truth-in-Or.ensures.is);
+    }
+
+pub expressions::value-returns-in-Assign : goal.expressions::value-returns-in-Assign
+expressions::value-returns-in-Assign t c =
+    record {
+      lowered = search rules;
+      spends = search rules;
+      is = IfOk-weaker c.assignment.result _ _ (λ r h. value_changed _ (h (is_node c.in-Some.ensures c.in-Assign.is)))
+          c.assignment.ensures.is;
+    }
+
+pub expressions::value-returns-in-Compound : goal.expressions::value-returns-in-Compound
+expressions::value-returns-in-Compound t c =
+    record {
+      lowered = search rules;
+      spends = search rules;
+      is = (let n = node_at c.args.cx.d.now c.requires.scene.ready c.requires.typed c.in-Some.ensures c.in-Compound.is
+          in
+          IfOk-weaker c.compound.result _ _
+          (λ r h. value_changed _ (h _ _ (is_node c.in-Some.ensures c.in-Compound.is) n c.change_of-change.ensures.is))
+          c.compound.ensures.is);
+    }
+
+pub expressions::value-returns-in-Step : goal.expressions::value-returns-in-Step
+expressions::value-returns-in-Step t c =
+    record {
+      lowered = search rules;
+      spends = search rules;
+      is = IfOk-weaker c.step.result _ _ (λ r h. value_changed _ (h (is_node c.in-Some.ensures c.in-Step.is)))
+          c.step.ensures.is;
+    }
 
 pub calls::arguments-returns-clause-is : goal.calls::arguments-returns-clause-is
 calls::arguments-returns-clause-is t c =
@@ -6248,3 +5930,660 @@ calls::arguments-returns-clause-is t c =
     c.loop-a.behind.items) none c.loop-a.invariant.1 in
     subst (λ z. ShowsArguments s c.args.args.now z c.args.out.now c.loop-a.out) (append-nil c.loop-a.temps.items)
     (arguments_end s done)
+
+-- ---- where memory lacks
+
+pub expressions::compound-returns-in_err-at-in-None : goal.expressions::compound-returns-in_err-at-in-None
+expressions::compound-returns-in_err-at-in-None t c =
+    let e = c.from_residual-in_err-at-in-None.ensures.0 in
+    record {
+      is = fails _ _ e;
+      lowered = fails _ _ e;
+      spends = fails _ _ e;
+    }
+
+pub expressions::compound-returns-in_err-changed-in-None : goal.expressions::compound-returns-in_err-changed-in-None
+expressions::compound-returns-in_err-changed-in-None t c =
+    let e = c.from_residual-in_err-changed-in-None.ensures.0 in
+    record {
+      is = fails _ _ e;
+      lowered = fails _ _ e;
+      spends = fails _ _ e;
+    }
+
+pub expressions::compound-returns-in_err-changed-in-Some : goal.expressions::compound-returns-in_err-changed-in-Some
+expressions::compound-returns-in_err-changed-in-Some t c =
+    let e = c.from_residual-in_err-changed-in-Some.ensures.0 in
+    record {
+      is = fails _ _ e;
+      lowered = fails _ _ e;
+      spends = fails _ _ e;
+    }
+
+pub expressions::compound-returns-in_err-load-in-None : goal.expressions::compound-returns-in_err-load-in-None
+expressions::compound-returns-in_err-load-in-None t c =
+    let e = c.from_residual-in_err-load-in-None.ensures.0 in
+    record {
+      is = fails _ _ e;
+      lowered = fails _ _ e;
+      spends = fails _ _ e;
+    }
+
+pub expressions::compound-returns-in_err-store-in-None : goal.expressions::compound-returns-in_err-store-in-None
+expressions::compound-returns-in_err-store-in-None t c =
+    let e = c.from_residual-in_err-store-in-None.ensures.0 in
+    record {
+      is = fails _ _ e;
+      lowered = fails _ _ e;
+      spends = fails _ _ e;
+    }
+
+pub expressions::compound-returns-in_err-temp-in-None : goal.expressions::compound-returns-in_err-temp-in-None
+expressions::compound-returns-in_err-temp-in-None t c =
+    let e = c.from_residual-in_err-temp-in-None.ensures.0 in
+    record {
+      is = fails _ _ e;
+      lowered = fails _ _ e;
+      spends = fails _ _ e;
+    }
+
+pub expressions::compound-returns-in_err-y-in-None : goal.expressions::compound-returns-in_err-y-in-None
+expressions::compound-returns-in_err-y-in-None t c =
+    let e = c.from_residual-in_err-y-in-None.ensures.0 in
+    record {
+      is = fails _ _ e;
+      lowered = fails _ _ e;
+      spends = fails _ _ e;
+    }
+
+pub expressions::compound-returns-in_err-y-in-Some : goal.expressions::compound-returns-in_err-y-in-Some
+expressions::compound-returns-in_err-y-in-Some t c =
+    let e = c.from_residual.ensures.0 in record { is = fails _ _ e; lowered = fails _ _ e; spends = fails _ _ e }
+
+pub expressions::chosen_effect-returns-in_err-condition : goal.expressions::chosen_effect-returns-in_err-condition
+expressions::chosen_effect-returns-in_err-condition t c =
+    let e = c.from_residual.ensures.0 in
+    record {
+      is = fails _ _ e;
+      lowered = fails _ _ e;
+      places = fails _ _ e;
+      spends = fails _ _ e;
+    }
+
+pub expressions::chosen_effect-returns-in_err-effect : goal.expressions::chosen_effect-returns-in_err-effect
+expressions::chosen_effect-returns-in_err-effect t c =
+    let e = c.from_residual-in_err-effect.ensures.0 in
+    record {
+      is = fails _ _ e;
+      lowered = fails _ _ e;
+      places = fails _ _ e;
+      spends = fails _ _ e;
+    }
+
+pub expressions::chosen_effect-returns-in_err-effect-2 : goal.expressions::chosen_effect-returns-in_err-effect-2
+expressions::chosen_effect-returns-in_err-effect-2 t c =
+    let e = c.from_residual-in_err-effect-2.ensures.0 in
+    record {
+      is = fails _ _ e;
+      lowered = fails _ _ e;
+      places = fails _ _ e;
+      spends = fails _ _ e;
+    }
+
+pub expressions::chosen_effect-returns-in_err-turn_fork : goal.expressions::chosen_effect-returns-in_err-turn_fork
+expressions::chosen_effect-returns-in_err-turn_fork t c =
+    let e = c.from_residual-in_err-turn_fork.ensures.0 in
+    record {
+      is = fails _ _ e;
+      lowered = fails _ _ e;
+      places = fails _ _ e;
+      spends = fails _ _ e;
+    }
+
+pub expressions::object_assignment-returns-in_err-at : goal.expressions::object_assignment-returns-in_err-at
+expressions::object_assignment-returns-in_err-at t c =
+    let e = c.from_residual.ensures.0 in record { is = fails _ _ e; lowered = fails _ _ e; spends = fails _ _ e }
+
+pub expressions::object_assignment-returns-in_err-store : goal.expressions::object_assignment-returns-in_err-store
+expressions::object_assignment-returns-in_err-store t c =
+    let e = c.from_residual-in_err-store.ensures.0 in
+    record {
+      is = fails _ _ e;
+      lowered = fails _ _ e;
+      spends = fails _ _ e;
+    }
+
+pub expressions::object_assignment-returns-in_err-v : goal.expressions::object_assignment-returns-in_err-v
+expressions::object_assignment-returns-in_err-v t c =
+    let e = c.from_residual-in_err-v.ensures.0 in
+    record {
+      is = fails _ _ e;
+      lowered = fails _ _ e;
+      spends = fails _ _ e;
+    }
+
+pub places::chosen_copy-returns-in_err-condition : goal.places::chosen_copy-returns-in_err-condition
+places::chosen_copy-returns-in_err-condition t c =
+    let e = c.from_residual.ensures.0 in record { is = fails _ _ e; lowered = fails _ _ e; spends = fails _ _ e }
+
+pub places::chosen_copy-returns-in_err-struct_copy : goal.places::chosen_copy-returns-in_err-struct_copy
+places::chosen_copy-returns-in_err-struct_copy t c =
+    let e = c.from_residual-in_err-struct_copy.ensures.0 in
+    record {
+      is = fails _ _ e;
+      lowered = fails _ _ e;
+      spends = fails _ _ e;
+    }
+
+pub places::chosen_copy-returns-in_err-struct_copy-2 : goal.places::chosen_copy-returns-in_err-struct_copy-2
+places::chosen_copy-returns-in_err-struct_copy-2 t c =
+    let e = c.from_residual-in_err-struct_copy-2.ensures.0 in
+    record {
+      is = fails _ _ e;
+      lowered = fails _ _ e;
+      spends = fails _ _ e;
+    }
+
+pub places::chosen_copy-returns-in_err-turn_fork : goal.places::chosen_copy-returns-in_err-turn_fork
+places::chosen_copy-returns-in_err-turn_fork t c =
+    let e = c.from_residual-in_err-turn_fork.ensures.0 in
+    record {
+      is = fails _ _ e;
+      lowered = fails _ _ e;
+      spends = fails _ _ e;
+    }
+
+pub expressions::comparison-returns-in_err-x : goal.expressions::comparison-returns-in_err-x
+expressions::comparison-returns-in_err-x t c =
+    let e = c.from_residual.ensures.0 in record { is = fails _ _ e; lowered = fails _ _ e; spends = fails _ _ e }
+
+pub places::place_choice-returns-in_err-condition : goal.places::place_choice-returns-in_err-condition
+places::place_choice-returns-in_err-condition t c =
+    let e = c.from_residual.ensures.0 in record { is = fails _ _ e; lowered = fails _ _ e; spends = fails _ _ e }
+
+pub places::place_choice-returns-in_err-place : goal.places::place_choice-returns-in_err-place
+places::place_choice-returns-in_err-place t c =
+    let e = c.from_residual-in_err-place.ensures.0 in
+    record {
+      is = fails _ _ e;
+      lowered = fails _ _ e;
+      spends = fails _ _ e;
+    }
+
+pub places::place_choice-returns-in_err-place-2 : goal.places::place_choice-returns-in_err-place-2
+places::place_choice-returns-in_err-place-2 t c =
+    let e = c.from_residual-in_err-place-2.ensures.0 in
+    record {
+      is = fails _ _ e;
+      lowered = fails _ _ e;
+      spends = fails _ _ e;
+    }
+
+pub places::place_choice-returns-in_err-turn_fork : goal.places::place_choice-returns-in_err-turn_fork
+places::place_choice-returns-in_err-turn_fork t c =
+    let e = c.from_residual-in_err-turn_fork.ensures.0 in
+    record {
+      is = fails _ _ e;
+      lowered = fails _ _ e;
+      spends = fails _ _ e;
+    }
+
+pub expressions::effect-returns-in_err-effect-in-Comma : goal.expressions::effect-returns-in_err-effect-in-Comma
+expressions::effect-returns-in_err-effect-in-Comma t c =
+    let e = c.from_residual.ensures.0 in
+    record {
+      is = fails _ _ e;
+      lowered = fails _ _ e;
+      places = fails _ _ e;
+      spends = fails _ _ e;
+    }
+
+pub expressions::effect-returns-in_err-t-in-Decay : goal.expressions::effect-returns-in_err-t-in-Decay
+expressions::effect-returns-in_err-t-in-Decay t c =
+    let e = c.from_residual-in_err-t-in-Decay.ensures.0 in
+    record {
+      is = fails _ _ e;
+      lowered = fails _ _ e;
+      places = fails _ _ e;
+      spends = fails _ _ e;
+    }
+
+pub expressions::assigned-returns-in_err-v-in-Some : goal.expressions::assigned-returns-in_err-v-in-Some
+expressions::assigned-returns-in_err-v-in-Some t c =
+    let e = c.from_residual.ensures.0 in
+    record {
+      has = fails _ _ e;
+      is = fails _ _ e;
+      lowered = fails _ _ e;
+      spends = fails _ _ e;
+    }
+
+pub expressions::assigned-returns-in_err-value-in-Some : goal.expressions::assigned-returns-in_err-value-in-Some
+expressions::assigned-returns-in_err-value-in-Some t c =
+    let e = c.from_residual-in_err-value-in-Some.ensures.0 in
+    record {
+      has = fails _ _ e;
+      is = fails _ _ e;
+      lowered = fails _ _ e;
+      spends = fails _ _ e;
+    }
+
+pub calls::arguments-returns-in_err-behind : goal.calls::arguments-returns-in_err-behind
+calls::arguments-returns-in_err-behind t c =
+    let e = c.from_residual.ensures.0 in
+    record {
+      is = fails _ _ e;
+      kinds = fails _ _ e;
+      lowered = fails _ _ e;
+      spends = fails _ _ e;
+    }
+
+pub calls::arguments-returns-in_err-push : goal.calls::arguments-returns-in_err-push
+calls::arguments-returns-in_err-push t c =
+    let e = c.from_residual-in_err-push.ensures.0 in
+    record {
+      is = fails _ _ e;
+      kinds = fails _ _ e;
+      lowered = fails _ _ e;
+      spends = fails _ _ e;
+    }
+
+pub calls::arguments-returns-in_err-t : goal.calls::arguments-returns-in_err-t
+calls::arguments-returns-in_err-t t c =
+    let e = c.from_residual-in_err-t.ensures.0 in
+    record {
+      is = fails _ _ e;
+      kinds = fails _ _ e;
+      lowered = fails _ _ e;
+      spends = fails _ _ e;
+    }
+
+pub expressions::pair-returns-in_err-x : goal.expressions::pair-returns-in_err-x
+expressions::pair-returns-in_err-x t c =
+    let e = c.from_residual.ensures.0 in
+    record {
+      is = fails _ _ e;
+      left = fails _ _ e;
+      left_kind = fails _ _ e;
+      lowered = fails _ _ e;
+      right = fails _ _ e;
+      right_kind = fails _ _ e;
+      spends = fails _ _ e;
+    }
+
+pub expressions::pair-returns-in_err-y : goal.expressions::pair-returns-in_err-y
+expressions::pair-returns-in_err-y t c =
+    let e = c.from_residual-in_err-y.ensures.0 in
+    record {
+      is = fails _ _ e;
+      left = fails _ _ e;
+      left_kind = fails _ _ e;
+      lowered = fails _ _ e;
+      right = fails _ _ e;
+      right_kind = fails _ _ e;
+      spends = fails _ _ e;
+    }
+
+pub expressions::step-returns-in_err-at-in-None : goal.expressions::step-returns-in_err-at-in-None
+expressions::step-returns-in_err-at-in-None t c =
+    let e = c.from_residual.ensures.0 in record { is = fails _ _ e; lowered = fails _ _ e; spends = fails _ _ e }
+
+pub expressions::step-returns-in_err-load-in-None : goal.expressions::step-returns-in_err-load-in-None
+expressions::step-returns-in_err-load-in-None t c =
+    let e = c.from_residual-in_err-load-in-None.ensures.0 in
+    record {
+      is = fails _ _ e;
+      lowered = fails _ _ e;
+      spends = fails _ _ e;
+    }
+
+pub expressions::step-returns-in_err-new-in-None : goal.expressions::step-returns-in_err-new-in-None
+expressions::step-returns-in_err-new-in-None t c =
+    let e = c.from_residual-in_err-new-in-None.ensures.0 in
+    record {
+      is = fails _ _ e;
+      lowered = fails _ _ e;
+      spends = fails _ _ e;
+    }
+
+pub expressions::step-returns-in_err-old-in-None : goal.expressions::step-returns-in_err-old-in-None
+expressions::step-returns-in_err-old-in-None t c =
+    let e = c.from_residual-in_err-old-in-None.ensures.0 in
+    record {
+      is = fails _ _ e;
+      lowered = fails _ _ e;
+      spends = fails _ _ e;
+    }
+
+pub expressions::step-returns-in_err-store-in-None : goal.expressions::step-returns-in_err-store-in-None
+expressions::step-returns-in_err-store-in-None t c =
+    let e = c.from_residual-in_err-store-in-None.ensures.0 in
+    record {
+      is = fails _ _ e;
+      lowered = fails _ _ e;
+      spends = fails _ _ e;
+    }
+
+pub expressions::load-returns-in_err-from-in-None : goal.expressions::load-returns-in_err-from-in-None
+expressions::load-returns-in_err-from-in-None t c =
+    let e = c.from_residual.ensures.0 in record { is = fails _ _ e; lowered = fails _ _ e; spends = fails _ _ e }
+
+pub expressions::truth-returns-in_err-constant : goal.expressions::truth-returns-in_err-constant
+expressions::truth-returns-in_err-constant t c =
+    let e = c.from_residual-in_err-constant.ensures.0 in
+    record {
+      is = fails _ _ e;
+      lowered = fails _ _ e;
+      spends = fails _ _ e;
+    }
+
+pub expressions::truth-returns-in_err-constant-2 : goal.expressions::truth-returns-in_err-constant-2
+expressions::truth-returns-in_err-constant-2 t c =
+    let e = c.from_residual-in_err-constant-2.ensures.0 in
+    record {
+      is = fails _ _ e;
+      lowered = fails _ _ e;
+      spends = fails _ _ e;
+    }
+
+pub expressions::truth-returns-in_err-joined_condition : goal.expressions::truth-returns-in_err-joined_condition
+expressions::truth-returns-in_err-joined_condition t c =
+    let e = c.from_residual.ensures.0 in record { is = fails _ _ e; lowered = fails _ _ e; spends = fails _ _ e }
+
+pub expressions::truth-returns-in_err-turn_fork : goal.expressions::truth-returns-in_err-turn_fork
+expressions::truth-returns-in_err-turn_fork t c =
+    let e = c.from_residual-in_err-turn_fork.ensures.0 in
+    record {
+      is = fails _ _ e;
+      lowered = fails _ _ e;
+      spends = fails _ _ e;
+    }
+
+pub expressions::unary-returns-in_err-x-in-LogicalNot : goal.expressions::unary-returns-in_err-x-in-LogicalNot
+expressions::unary-returns-in_err-x-in-LogicalNot t c =
+    let e = c.from_residual.ensures.0 in record { is = fails _ _ e; lowered = fails _ _ e; spends = fails _ _ e }
+
+pub places::member-returns-in_err-place-in-None : goal.places::member-returns-in_err-place-in-None
+places::member-returns-in_err-place-in-None t c =
+    let e = c.from_residual.ensures.0 in record { is = fails _ _ e; lowered = fails _ _ e; spends = fails _ _ e }
+
+pub expressions::assignment-returns-in_err-struct_assignment :
+    goal.expressions::assignment-returns-in_err-struct_assignment
+expressions::assignment-returns-in_err-struct_assignment t c =
+    let e = c.from_residual.ensures.0 in
+    record {
+      copies = fails _ _ e;
+      is = fails _ _ e;
+      lowered = fails _ _ e;
+      spends = fails _ _ e;
+    }
+
+pub expressions::assignment-returns-in_err-value-in-Some : goal.expressions::assignment-returns-in_err-value-in-Some
+expressions::assignment-returns-in_err-value-in-Some t c =
+    let e = c.from_residual-in_err-value-in-Some.ensures.0 in
+    record {
+      copies = fails _ _ e;
+      is = fails _ _ e;
+      lowered = fails _ _ e;
+      spends = fails _ _ e;
+    }
+
+pub places::address-returns-in_err-place : goal.places::address-returns-in_err-place
+places::address-returns-in_err-place t c =
+    let e = c.from_residual.ensures.0 in record { is = fails _ _ e; lowered = fails _ _ e; spends = fails _ _ e }
+
+pub calls::call-returns-in_err-temps-in-None : goal.calls::call-returns-in_err-temps-in-None
+calls::call-returns-in_err-temps-in-None t c =
+    let e = c.from_residual-in_err-temps-in-None.ensures.0 in
+    record {
+      is = fails _ _ e;
+      lowered = fails _ _ e;
+      spends = fails _ _ e;
+    }
+
+pub calls::call-returns-in_err-temps-in-Some : goal.calls::call-returns-in_err-temps-in-Some
+calls::call-returns-in_err-temps-in-Some t c =
+    let e = c.from_residual.ensures.0 in record { is = fails _ _ e; lowered = fails _ _ e; spends = fails _ _ e }
+
+pub calls::call-returns-in_err-v-in-None : goal.calls::call-returns-in_err-v-in-None
+calls::call-returns-in_err-v-in-None t c =
+    let e = c.from_residual-in_err-v-in-None.ensures.0 in
+    record {
+      is = fails _ _ e;
+      lowered = fails _ _ e;
+      spends = fails _ _ e;
+    }
+
+pub expressions::displaced-returns-in_err-base : goal.expressions::displaced-returns-in_err-base
+expressions::displaced-returns-in_err-base t c =
+    let e = c.from_residual.ensures.0 in record { is = fails _ _ e; lowered = fails _ _ e; spends = fails _ _ e }
+
+pub expressions::distance-returns-in_err-x : goal.expressions::distance-returns-in_err-x
+expressions::distance-returns-in_err-x t c =
+    let e = c.from_residual.ensures.0 in record { is = fails _ _ e; lowered = fails _ _ e; spends = fails _ _ e }
+
+pub places::fresh_place-returns-in_err-place : goal.places::fresh_place-returns-in_err-place
+places::fresh_place-returns-in_err-place t c =
+    let e = c.from_residual-in_err-place.ensures.0 in
+    record {
+      has = fails _ _ e;
+      is = fails _ _ e;
+      lowered = fails _ _ e;
+      spends = fails _ _ e;
+    }
+
+pub places::fresh_place-returns-in_err-t : goal.places::fresh_place-returns-in_err-t
+places::fresh_place-returns-in_err-t t c =
+    let e = c.from_residual.ensures.0 in
+    record {
+      has = fails _ _ e;
+      is = fails _ _ e;
+      lowered = fails _ _ e;
+      spends = fails _ _ e;
+    }
+
+pub expressions::pointer_first-returns-in_err-base-in-None :
+    goal.expressions::pointer_first-returns-in_err-base-in-None
+expressions::pointer_first-returns-in_err-base-in-None t c =
+    let e = c.from_residual.ensures.0 in record { is = fails _ _ e; lowered = fails _ _ e; spends = fails _ _ e }
+
+pub expressions::comma-returns-in_err-effect : goal.expressions::comma-returns-in_err-effect
+expressions::comma-returns-in_err-effect t c =
+    let e = c.from_residual.ensures.0 in record { is = fails _ _ e; lowered = fails _ _ e; spends = fails _ _ e }
+
+pub expressions::capability-returns-in_err-x : goal.expressions::capability-returns-in_err-x
+expressions::capability-returns-in_err-x t c =
+    let e = c.from_residual.ensures.0 in record { is = fails _ _ e; lowered = fails _ _ e; spends = fails _ _ e }
+
+pub places::place-returns-in_err-t-in-Assign : goal.places::place-returns-in_err-t-in-Assign
+places::place-returns-in_err-t-in-Assign t c =
+    let e = c.from_residual.ensures.0 in record { is = fails _ _ e; lowered = fails _ _ e; spends = fails _ _ e }
+
+pub places::struct_copy-returns-in_err-effect-in-Comma : goal.places::struct_copy-returns-in_err-effect-in-Comma
+places::struct_copy-returns-in_err-effect-in-Comma t c =
+    let e = c.from_residual.ensures.0 in record { is = fails _ _ e; lowered = fails _ _ e; spends = fails _ _ e }
+
+pub expressions::signed_value-returns-in_err-x : goal.expressions::signed_value-returns-in_err-x
+expressions::signed_value-returns-in_err-x t c =
+    let e = c.from_residual.ensures.0 in record { is = fails _ _ e; lowered = fails _ _ e; spends = fails _ _ e }
+
+pub conditions::condition-returns-in_err-on-in_default-kind :
+    goal.conditions::condition-returns-in_err-on-in_default-kind
+conditions::condition-returns-in_err-on-in_default-kind t c =
+    let e = c.from_residual.ensures.0 in record { is = fails _ _ e; lowered = fails _ _ e; spends = fails _ _ e }
+
+pub places::plain_copy-returns-in_err-from : goal.places::plain_copy-returns-in_err-from
+places::plain_copy-returns-in_err-from t c =
+    let e = c.from_residual.ensures.0 in record { is = fails _ _ e; lowered = fails _ _ e; spends = fails _ _ e }
+
+pub places::plain_copy-returns-in_err-to : goal.places::plain_copy-returns-in_err-to
+places::plain_copy-returns-in_err-to t c =
+    let e = c.from_residual-in_err-to.ensures.0 in
+    record {
+      is = fails _ _ e;
+      lowered = fails _ _ e;
+      spends = fails _ _ e;
+    }
+
+pub expressions::conversion-returns-in_err-effect : goal.expressions::conversion-returns-in_err-effect
+expressions::conversion-returns-in_err-effect t c =
+    let e = c.from_residual.ensures.0 in record { is = fails _ _ e; lowered = fails _ _ e; spends = fails _ _ e }
+
+pub expressions::conversion-returns-in_err-x : goal.expressions::conversion-returns-in_err-x
+expressions::conversion-returns-in_err-x t c =
+    let e = c.from_residual-in_err-x.ensures.0 in
+    record {
+      is = fails _ _ e;
+      lowered = fails _ _ e;
+      spends = fails _ _ e;
+    }
+
+pub expressions::choice-returns-in_err-condition : goal.expressions::choice-returns-in_err-condition
+expressions::choice-returns-in_err-condition t c =
+    let e = c.from_residual.ensures.0 in record { is = fails _ _ e; lowered = fails _ _ e; spends = fails _ _ e }
+
+pub expressions::choice-returns-in_err-turn_fork : goal.expressions::choice-returns-in_err-turn_fork
+expressions::choice-returns-in_err-turn_fork t c =
+    let e = c.from_residual-in_err-turn_fork.ensures.0 in
+    record {
+      is = fails _ _ e;
+      lowered = fails _ _ e;
+      spends = fails _ _ e;
+    }
+
+pub expressions::choice-returns-in_err-value : goal.expressions::choice-returns-in_err-value
+expressions::choice-returns-in_err-value t c =
+    let e = c.from_residual-in_err-value.ensures.0 in
+    record {
+      is = fails _ _ e;
+      lowered = fails _ _ e;
+      spends = fails _ _ e;
+    }
+
+pub expressions::choice-returns-in_err-value-2 : goal.expressions::choice-returns-in_err-value-2
+expressions::choice-returns-in_err-value-2 t c =
+    let e = c.from_residual-in_err-value-2.ensures.0 in
+    record {
+      is = fails _ _ e;
+      lowered = fails _ _ e;
+      spends = fails _ _ e;
+    }
+
+pub places::struct_assignment-returns-in_err-struct_copy : goal.places::struct_assignment-returns-in_err-struct_copy
+places::struct_assignment-returns-in_err-struct_copy t c =
+    let e = c.from_residual-in_err-struct_copy.ensures.0 in
+    record {
+      has = fails _ _ e;
+      is = fails _ _ e;
+      lowered = fails _ _ e;
+      spends = fails _ _ e;
+    }
+
+pub places::struct_assignment-returns-in_err-t : goal.places::struct_assignment-returns-in_err-t
+places::struct_assignment-returns-in_err-t t c =
+    let e = c.from_residual.ensures.0 in
+    record {
+      has = fails _ _ e;
+      is = fails _ _ e;
+      lowered = fails _ _ e;
+      spends = fails _ _ e;
+    }
+
+pub expressions::operand-returns-in_err-t-in-None : goal.expressions::operand-returns-in_err-t-in-None
+expressions::operand-returns-in_err-t-in-None t c =
+    let e = c.from_residual.ensures.0 in
+    record {
+      has = fails _ _ e;
+      is = fails _ _ e;
+      lowered = fails _ _ e;
+      spends = fails _ _ e;
+    }
+
+pub expressions::operand-returns-in_err-value-in-None : goal.expressions::operand-returns-in_err-value-in-None
+expressions::operand-returns-in_err-value-in-None t c =
+    let e = c.from_residual-in_err-value-in-None.ensures.0 in
+    record {
+      has = fails _ _ e;
+      is = fails _ _ e;
+      lowered = fails _ _ e;
+      spends = fails _ _ e;
+    }
+
+pub conditions::joined_around-returns-in_err-condition : goal.conditions::joined_around-returns-in_err-condition
+conditions::joined_around-returns-in_err-condition t c =
+    let e = c.from_residual.ensures.0 in record { is = fails _ _ e; lowered = fails _ _ e; spends = fails _ _ e }
+
+pub conditions::joined_around-returns-in_err-condition-2 : goal.conditions::joined_around-returns-in_err-condition-2
+conditions::joined_around-returns-in_err-condition-2 t c =
+    let e = c.from_residual-in_err-condition-2.ensures.0 in
+    record {
+      is = fails _ _ e;
+      lowered = fails _ _ e;
+      spends = fails _ _ e;
+    }
+
+pub expressions::held-returns-in_err-temp : goal.expressions::held-returns-in_err-temp
+expressions::held-returns-in_err-temp t c =
+    let e = c.from_residual.ensures.0 in
+    record {
+      holds = fails _ _ e;
+      is = fails _ _ e;
+      kind = fails _ _ e;
+      lowered = fails _ _ e;
+      spends = fails _ _ e;
+    }
+
+pub expressions::pointer_second-returns-in_err-i-in-None : goal.expressions::pointer_second-returns-in_err-i-in-None
+expressions::pointer_second-returns-in_err-i-in-None t c =
+    let e = c.from_residual.ensures.0 in record { is = fails _ _ e; lowered = fails _ _ e; spends = fails _ _ e }
+
+pub calls::library-returns-in_err-temps : goal.calls::library-returns-in_err-temps
+calls::library-returns-in_err-temps t c =
+    let e = c.from_residual.ensures.0 in record { is = fails _ _ e; lowered = fails _ _ e; spends = fails _ _ e }
+
+pub expressions::operand_in-returns-in_err-value-in-None : goal.expressions::operand_in-returns-in_err-value-in-None
+expressions::operand_in-returns-in_err-value-in-None t c =
+    let e = c.from_residual.ensures.0 in
+    record {
+      holds = fails _ _ e;
+      is = fails _ _ e;
+      kind = fails _ _ e;
+      lowered = fails _ _ e;
+      spends = fails _ _ e;
+    }
+
+pub expressions::guarded_effect-returns-in_err-condition : goal.expressions::guarded_effect-returns-in_err-condition
+expressions::guarded_effect-returns-in_err-condition t c =
+    let e = c.from_residual.ensures.0 in record { is = fails _ _ e; lowered = fails _ _ e; spends = fails _ _ e }
+
+pub expressions::guarded_effect-returns-in_err-effect : goal.expressions::guarded_effect-returns-in_err-effect
+expressions::guarded_effect-returns-in_err-effect t c =
+    let e = c.from_residual-in_err-effect.ensures.0 in
+    record {
+      is = fails _ _ e;
+      lowered = fails _ _ e;
+      spends = fails _ _ e;
+    }
+
+pub expressions::read_effect-returns-in_err-t-in-None-variable :
+    goal.expressions::read_effect-returns-in_err-t-in-None-variable
+expressions::read_effect-returns-in_err-t-in-None-variable t c =
+    let e = c.from_residual.ensures.0 in
+    record {
+      is = fails _ _ e;
+      lowered = fails _ _ e;
+      places = fails _ _ e;
+      spends = fails _ _ e;
+    }
+
+pub expressions::integer-returns-in_err-x : goal.expressions::integer-returns-in_err-x
+expressions::integer-returns-in_err-x t c =
+    let e = c.from_residual.ensures.0 in record { is = fails _ _ e; lowered = fails _ _ e; spends = fails _ _ e }
+
+pub conditions::joined_condition-returns-in_err-condition : goal.conditions::joined_condition-returns-in_err-condition
+conditions::joined_condition-returns-in_err-condition t c =
+    let e = c.from_residual.ensures.0 in record { is = fails _ _ e; lowered = fails _ _ e; spends = fails _ _ e }
+
+pub places::place_behind-returns-in_err-effect : goal.places::place_behind-returns-in_err-effect
+places::place_behind-returns-in_err-effect t c =
+    let e = c.from_residual.ensures.0 in record { is = fails _ _ e; lowered = fails _ _ e; spends = fails _ _ e }

@@ -1,5 +1,5 @@
 use Rattle.std.proofs.Common.{subst}
-use Rattle.std.proofs.lemmas.Result.{IfOk-weaker}
+use Rattle.std.proofs.lemmas.Result.{IfOk-weaker, IfOk-from_err as fails}
 use Rattle.tac_lower.specs.Signed.{ReturnFits}
 use Rattle.tac_lower.proofs.Homes.{left_before, tail_whole, keeps_returned, closed_grown}
 use Rattle.tac_lower.proofs.Shortness.{made_returned}
@@ -51,3 +51,15 @@ returns-clause-ends c =
     ends_after fits s.ready.ordered c.args.out.now c.end_value.new.out _ c.leave.result c.in_ok-value.value _
     (c.gives.ensures c.args.cx.p.now fits.result fits.takes s.ready fits.type_is) c.in_ok-value.ensures.ends
     c.leave.ensures.pushed
+
+pub returns-in_err-value : goal.returns-in_err-value
+returns-in_err-value c =
+    let e = c.from_residual.ensures.0 in
+    record {
+      adds = fails _ _ e;
+      ends = fails _ _ e;
+      keeps = fails _ _ e;
+      made = fails _ _ e;
+      spent = fails _ _ e;
+      whole = fails _ _ e;
+    }

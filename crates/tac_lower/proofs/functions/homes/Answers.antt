@@ -76,31 +76,20 @@ loop-v-preserved c =
           one.simple one.object so_far.objects;
     }
 
-pub returns-clause-housed : goal.returns-clause-housed
-returns-clause-housed c =
-    let same = ap length c.as_slice-v-items.ensures in
-    homes_all c.args.program.p.now c.args.d.now c.args.out.now c.loop-v.out c.loop-v.found.items c.loop-v.v-index
-    c.loop-v.invariant.homes (omega arith)
-
-pub returns-clause-grown : goal.returns-clause-grown
-returns-clause-grown c = c.loop-v.invariant.homes.grown
-
-pub returns-clause-adds : goal.returns-clause-adds
-returns-clause-adds c =
-    let same = ap length c.as_slice-v-items.ensures in
-    homes_add c.args.program.p.now c.args.d.now c.args.out.now c.loop-v.out c.loop-v.found.items c.loop-v.v-index _
-    c.loop-v.invariant.homes (omega arith)
-
-pub returns-clause-spent : goal.returns-clause-spent
-returns-clause-spent c =
-    let same = ap length c.as_slice-v-items.ensures in
-    spent_within c.loop-v.invariant.homes.spent (omega arith) (omega arith)
-
-pub returns-clause-apart : goal.returns-clause-apart
-returns-clause-apart c = c.loop-v.invariant.apart.once
-
-pub returns-clause-homes : goal.returns-clause-homes
-returns-clause-homes c = c.loop-v.invariant.homes.homed
-
-pub returns-clause-added : goal.returns-clause-added
-returns-clause-added c = c.loop-v.invariant.homes.added
+pub returns : goal.returns
+returns c =
+    record {
+      housed = (let same = ap length c.as_slice-v-items.ensures in
+          homes_all c.args.program.p.now c.args.d.now c.args.out.now c.loop-v.out c.loop-v.found.items c.loop-v.v-index
+          c.loop-v.invariant.homes (omega arith));
+      homes = c.loop-v.invariant.homes.homed;
+      added = c.loop-v.invariant.homes.added;
+      grown = c.loop-v.invariant.homes.grown;
+      adds = (let same = ap length c.as_slice-v-items.ensures in
+          homes_add c.args.program.p.now c.args.d.now c.args.out.now c.loop-v.out c.loop-v.found.items
+          c.loop-v.v-index _
+          c.loop-v.invariant.homes (omega arith));
+      spent = (let same = ap length c.as_slice-v-items.ensures in
+          spent_within c.loop-v.invariant.homes.spent (omega arith) (omega arith));
+      apart = c.loop-v.invariant.apart.once;
+    }

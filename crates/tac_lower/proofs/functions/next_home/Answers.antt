@@ -1,6 +1,6 @@
 use Rattle.std.proofs.Common.{ℕ, length, ap, sym, arith}
 use Rattle.std.specs.Prelude.{◌==◌, if◌then◌else◌}
-use Rattle.std.proofs.lemmas.Result.{IfOk-weaker}
+use Rattle.std.proofs.lemmas.Result.{IfOk-weaker, IfOk-from_err as fails}
 use Rattle.tac_lower.proofs.Homes.{parameter_temp}
 use Rattle.tac_lower.proofs.functions.next_home.Goals as goal
 
@@ -12,7 +12,11 @@ value_temp-requires-clause-parameter c = λ lt.
     (omega arith)
 
 pub returns-in_ok-t-clause-home : goal.returns-in_ok-t-clause-home
-returns-in_ok-t-clause-home c = (c.in_ok-t.ensures.has, sym (c.kind_of_type-kind.ensures c.requires.ready), c.if-v.true)
+returns-in_ok-t-clause-home c = (
+  c.in_ok-t.ensures.has,
+  sym (c.kind_of_type-kind.ensures c.requires.ready),
+  c.if-v.true,
+)
 
 pub returns-else-v-clause-home : goal.returns-else-v-clause-home
 returns-else-v-clause-home c =
@@ -29,3 +33,16 @@ returns-else-v-clause-numbered c =
       ap {B = ℕ} (λ b. if b then 0 else (if c.args.count.objects == w then 1 else 0)) c.if-v.false,
     ))
     c.object_home.ensures.numbered
+
+pub returns-in_err-t : goal.returns-in_err-t
+returns-in_err-t c =
+    let e = c.from_residual.ensures.0 in
+    record {
+      added = fails _ _ e;
+      adds = fails _ _ e;
+      grown = fails _ _ e;
+      home = fails _ _ e;
+      next = fails _ _ e;
+      numbered = fails _ _ e;
+      spent = fails _ _ e;
+    }

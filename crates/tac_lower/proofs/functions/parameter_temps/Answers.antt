@@ -1,3 +1,4 @@
+use Rattle.std.proofs.lemmas.Result.{IfOk-from_err as fails}
 use Rattle.std.proofs.Common.{length, get_or, ap, ◌∙◌, arith}
 use Rattle.c_tree.specs.WellTyped.{type_in}
 use Rattle.tac_lower.specs.Nodes.{kept_as, or_int}
@@ -29,25 +30,29 @@ loop-x-preserved c =
     (number_of c.as_slice-x-items.result.now d.params c.loop-x.x-index c.as_slice-x-items.ensures (omega arith))
     c.in_ok-temp.ensures.spent c.in_ok-temp.ensures.emits.added
 
-pub returns-clause-parameters : goal.returns-clause-parameters
-returns-clause-parameters c =
-    let same = ap length c.as_slice-x-items.ensures in
-    parameters_all c.args.program.p.now c.args.d.now c.args.out.now c.loop-x.out c.loop-x.x-index c.loop-x.invariant
-    (omega arith)
+pub returns : goal.returns
+returns c =
+    record {
+      parameters = (let same = ap length c.as_slice-x-items.ensures in
+          parameters_all c.args.program.p.now c.args.d.now c.args.out.now c.loop-x.out c.loop-x.x-index
+          c.loop-x.invariant
+          (omega arith));
+      added = c.loop-x.invariant.added;
+      grown = c.loop-x.invariant.grown;
+      adds = (let same = ap length c.as_slice-x-items.ensures in
+          parameters_add c.args.program.p.now c.args.d.now c.args.out.now c.loop-x.out c.loop-x.x-index _
+          c.loop-x.invariant (omega arith));
+      spent = (let same = ap length c.as_slice-x-items.ensures in
+          spent_within c.loop-x.invariant.spent (omega arith) (omega arith));
+    }
 
-pub returns-clause-grown : goal.returns-clause-grown
-returns-clause-grown c = c.loop-x.invariant.grown
-
-pub returns-clause-adds : goal.returns-clause-adds
-returns-clause-adds c =
-    let same = ap length c.as_slice-x-items.ensures in
-    parameters_add c.args.program.p.now c.args.d.now c.args.out.now c.loop-x.out c.loop-x.x-index _
-    c.loop-x.invariant (omega arith)
-
-pub returns-clause-spent : goal.returns-clause-spent
-returns-clause-spent c =
-    let same = ap length c.as_slice-x-items.ensures in
-    spent_within c.loop-x.invariant.spent (omega arith) (omega arith)
-
-pub returns-clause-added : goal.returns-clause-added
-returns-clause-added c = c.loop-x.invariant.added
+pub returns-in_err-temp : goal.returns-in_err-temp
+returns-in_err-temp c =
+    let e = c.from_residual.ensures.0 in
+    record {
+      added = fails _ _ e;
+      adds = fails _ _ e;
+      grown = fails _ _ e;
+      parameters = fails _ _ e;
+      spent = fails _ _ e;
+    }

@@ -2,7 +2,7 @@ use Rattle.std.proofs.Common.{refl, ap, sym, ◌∙◌, arith}
 use Rattle.c_tree.specs.WellTyped.{type_in}
 use Rattle.tac_lower.specs.Nodes.{kept_as, or_int}
 use Rattle.tac_lower.proofs.Bodies.{pointer_at, entered}
-use Rattle.std.proofs.lemmas.Result.{IfOk-weaker}
+use Rattle.std.proofs.lemmas.Result.{IfOk-weaker, IfOk-from_err as fails}
 use Rattle.tac_lower.proofs.Spending.{taken_enters, enters_then, enters_within}
 use Rattle.tac_lower.proofs.Steps.{still, as_kind, tail_grew}
 use Rattle.tac_lower.proofs.Zeroing.{taken_one}
@@ -36,3 +36,7 @@ returns-clause-spent c =
     (omega arith)
     (λ v. omega (arith, taken_one c.args.cx.homes.now c.args.x c.args.n c.args.at v c.requires.home)))
     c.store.ensures.spent
+
+pub returns-in_err-enter_object : goal.returns-in_err-enter_object
+returns-in_err-enter_object c =
+    let e = c.from_residual.ensures.0 in record { lowered = fails _ _ e; spent = fails _ _ e; takes = fails _ _ e }

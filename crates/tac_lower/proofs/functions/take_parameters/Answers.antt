@@ -1,3 +1,4 @@
+use Rattle.std.proofs.lemmas.Result.{IfOk-from_err as fails}
 use Rattle.std.proofs.Common.{get_or, length, ap, sym, subst, refl, arith}
 use Rattle.tac_lower.specs.Emitted.{HasKind}
 use Rattle.tac_lower.specs.Signed.{kept_parameter}
@@ -57,18 +58,19 @@ loop-x-preserved c =
           (omega arith)) c.loop-x.invariant.takes c.in_ok-take_parameter.ensures.takes;
     }
 
-pub returns-clause-lowered : goal.returns-clause-lowered
-returns-clause-lowered c = c.loop-x.invariant.lowered
+pub returns : goal.returns
+returns c =
+    record {
+      lowered = c.loop-x.invariant.lowered;
+      spent = (let same = ap length c.as_slice-x-items.ensures in
+          enters_within c.loop-x.invariant.spent (omega arith) (omega arith) (omega arith)
+          (λ v. omega (arith, taken_some c.args.cx.homes.now c.args.d.now.params c.loop-x.x-index v)));
+      takes = (let same = ap length c.as_slice-x-items.ensures in
+          subst (λ xs. Emits c.args.out.now c.loop-x.out 0 (taking c.args.cx.homes.now
+          (kept_parameter c.args.cx.p.now c.args.d.now) c.args.d.now.pos xs 0))
+          (take_all c.loop-x.x-index c.args.d.now.params (omega arith)) c.loop-x.invariant.takes);
+    }
 
-pub returns-clause-spent : goal.returns-clause-spent
-returns-clause-spent c =
-    let same = ap length c.as_slice-x-items.ensures in
-    enters_within c.loop-x.invariant.spent (omega arith) (omega arith) (omega arith)
-    (λ v. omega (arith, taken_some c.args.cx.homes.now c.args.d.now.params c.loop-x.x-index v))
-
-pub returns-clause-takes : goal.returns-clause-takes
-returns-clause-takes c =
-    let same = ap length c.as_slice-x-items.ensures in
-    subst (λ xs. Emits c.args.out.now c.loop-x.out 0 (taking c.args.cx.homes.now
-    (kept_parameter c.args.cx.p.now c.args.d.now) c.args.d.now.pos xs 0))
-    (take_all c.loop-x.x-index c.args.d.now.params (omega arith)) c.loop-x.invariant.takes
+pub returns-in_err-take_parameter : goal.returns-in_err-take_parameter
+returns-in_err-take_parameter c =
+    let e = c.from_residual.ensures.0 in record { lowered = fails _ _ e; spent = fails _ _ e; takes = fails _ _ e }

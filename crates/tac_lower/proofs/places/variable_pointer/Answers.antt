@@ -17,15 +17,18 @@ returns-in-Some-clause-lowered c =
     tail_grew _ _ c.transfer.result (start c.requires.scene) c.transfer.ensures.grown c.transfer.ensures.adds
     (omega arith)
 
-pub returns-in-None-clause-lowered : goal.returns-in-None-clause-lowered
-returns-in-None-clause-lowered c =
-    tail_grew _ _ c.constant.result (start c.requires.scene) c.constant.ensures.grown c.constant.ensures.adds
-    (omega arith)
-
-pub returns-in-None-clause-spent : goal.returns-in-None-clause-spent
-returns-in-None-clause-spent c =
-    IfOk-weaker c.constant.result _ _ (λ r h. spent_within h (omega arith) (omega arith))
-    (c.constant.ensures.short refl)
+pub returns-in-None : goal.returns-in-None
+returns-in-None c =
+    record {
+      lowered = tail_grew _ _ c.constant.result (start c.requires.scene) c.constant.ensures.grown
+          c.constant.ensures.adds
+          (omega arith);
+      spent = IfOk-weaker c.constant.result _ _ (λ r h. spent_within h (omega arith) (omega arith))
+          (c.constant.ensures.short refl);
+      is = IfOk-weaker c.constant.result _ _
+          (λ r f k n node. place_missing _ c.requires.scene.ready.order c.requires.scene.ready.ordered c.args.cx.d.now
+          c.requires.scene.housed.many n node c.in-None.ensures.other f) c.constant.ensures.emits;
+    }
 
 pub returns-in-Some-clause-is : goal.returns-in-Some-clause-is
 returns-in-Some-clause-is c =
@@ -33,9 +36,3 @@ returns-in-Some-clause-is c =
     (λ r f k n node. place_object _ c.requires.scene.ready.order c.requires.scene.ready.ordered n
     c.in-Some.ensures.stands.1 f)
     c.transfer.ensures.emits
-
-pub returns-in-None-clause-is : goal.returns-in-None-clause-is
-returns-in-None-clause-is c =
-    IfOk-weaker c.constant.result _ _
-    (λ r f k n node. place_missing _ c.requires.scene.ready.order c.requires.scene.ready.ordered c.args.cx.d.now
-    c.requires.scene.housed.many n node c.in-None.ensures.other f) c.constant.ensures.emits

@@ -1,4 +1,4 @@
-use Rattle.std.proofs.Common.{◌+◌, ◌*◌, [], ◌∷◌, ◌++◌, length, take, drop, refl, sym, ap, ◌∙◌, subst, arith}
+use Rattle.std.proofs.Common.{◌+◌, ◌*◌, [], ◌∷◌, ◌++◌, length, take, drop, refl, sym, ap, ◌∙◌, subst, arith, rules}
 use Rattle.c_tree.specs.WellTyped.{AreVars, type_in}
 use Rattle.tac_lower.specs.Copied.{part_copies, all_part_copies}
 use Rattle.tac_lower.specs.Nodes.{weight_in, expression, or_int}
@@ -25,7 +25,7 @@ use Rattle.tac_lower.proofs.Steps.{heavy, start, both, at_most, still, as_kind, 
 use Rattle.tac_lower.proofs.Steps.{tail_stands, fork, label, opened, turned, first_open, second_open, opened_has}
 use Rattle.tac_lower.proofs.Steps.{opened_room}
 use Rattle.tac_lower.proofs.Switching.{opened_beside, opened_at_most, opened_label, open_last, none_behind}
-use Rattle.std.proofs.lemmas.Result.{IfOk-weaker}
+use Rattle.std.proofs.lemmas.Result.{IfOk-weaker, IfOk-from_err as fails}
 use Rattle.std.proofs.lemmas.List.{length-take-le, take_more, take_all}
 use Rattle.c_tree.specs.declared.typed.StmtKind.TheVariants as stmts
 use Rattle.tac_lower.specs.Stating.{exits_as, routine}
@@ -177,15 +177,18 @@ block-statements-requires t c =
 
 -- ---- loops
 
-pub loop_body-returns-clause-behind : goal.loop_body-returns-clause-behind
-loop_body-returns-clause-behind t c =
-    tail_behind _ _ c.stand.result c.in_ok-statement.ensures.lowered c.stand.ensures.stands
-
-pub loop_body-returns-clause-spends : goal.loop_body-returns-clause-spends
-loop_body-returns-clause-spends t c =
-    parts_last_and _ _ _ _ c.stand.result c.in_ok-statement.ensures.spends c.stand.ensures.spent (omega arith)
-    (omega arith)
-    (omega arith) (λ w. omega arith)
+pub loop_body-returns : goal.loop_body-returns
+loop_body-returns t c =
+    record {
+      behind = tail_behind _ _ c.stand.result c.in_ok-statement.ensures.lowered c.stand.ensures.stands;
+      spends = parts_last_and _ _ _ _ c.stand.result c.in_ok-statement.ensures.spends c.stand.ensures.spent (omega
+          arith)
+          (omega arith)
+          (omega arith) (λ w. omega arith);
+      is = IfOk-weaker c.stand.result _ _
+          (λ q h. record { middle = c.statement.new.out; body = c.in_ok-statement.ensures.is; stands = h })
+          c.stand.ensures.stands;
+    }
 
 pub tested_loop-test_loop-requires-clause-scene : goal.tested_loop-test_loop-requires-clause-scene
 tested_loop-test_loop-requires-clause-scene t c = (begun c.requires.scene c.in_ok-circle.ensures.begun).scene
@@ -217,21 +220,26 @@ tested_loop-end_loop-requires t c = record {
       c.in_ok-step_loop.ensures.lowered;
 }
 
-pub tested_loop-returns-clause-lowered : goal.tested_loop-returns-clause-lowered
-tested_loop-returns-clause-lowered t c =
-    let one = opened (begun c.requires.scene c.in_ok-circle.ensures.begun) c.in_ok-test_loop.ensures.lowered in
-    let two = opened (behind_second one c.in_ok-loop_body.ensures.behind) c.in_ok-step_loop.ensures.lowered in
-    tail_turned _ c.end_loop.result two c.end_loop.ensures.turned c.end_loop.ensures.adds
-    (omega arith)
-
-pub tested_loop-returns-clause-spends : goal.tested_loop-returns-clause-spends
-tested_loop-returns-clause-spends t c =
-    parts_last_and _ _ _ _ c.end_loop.result
-    (parts_after (parts_after (parts_after (of_code (begun_spent c.in_ok-circle.ensures.begun))
-    (of_expression c.in_ok-test_loop.ensures.spends))
-    c.in_ok-loop_body.ensures.spends)
-    (of_expression c.in_ok-step_loop.ensures.spends)) c.end_loop.ensures.spent (omega arith) (omega arith) (omega arith)
-    (λ w. omega arith)
+pub tested_loop-returns : goal.tested_loop-returns
+tested_loop-returns t c =
+    record {
+      lowered = (let one = opened (begun c.requires.scene c.in_ok-circle.ensures.begun)
+          c.in_ok-test_loop.ensures.lowered in
+          let two = opened (behind_second one c.in_ok-loop_body.ensures.behind) c.in_ok-step_loop.ensures.lowered in
+          tail_turned _ c.end_loop.result two c.end_loop.ensures.turned c.end_loop.ensures.adds
+          (omega arith));
+      spends = parts_last_and _ _ _ _ c.end_loop.result
+          (parts_after (parts_after (parts_after (of_code (begun_spent c.in_ok-circle.ensures.begun))
+          (of_expression c.in_ok-test_loop.ensures.spends))
+          c.in_ok-loop_body.ensures.spends)
+          (of_expression c.in_ok-step_loop.ensures.spends)) c.end_loop.ensures.spent (omega arith) (omega arith)
+          (omega arith)
+          (λ w. omega arith);
+      is = IfOk-weaker c.end_loop.result _ _
+          (λ q h. states_loop _ c.requires.ordered c.requires.scene.ready.ordered c.in_ok-circle.ensures.begun
+          c.in_ok-test_loop.ensures.is c.in_ok-loop_body.ensures.is c.in_ok-step_loop.ensures.is h)
+          c.end_loop.ensures.emits;
+    }
 
 pub repeated_loop-condition-requires-clause-scene : goal.repeated_loop-condition-requires-clause-scene
 repeated_loop-condition-requires-clause-scene t c =
@@ -255,18 +263,23 @@ repeated_loop-end_loop-requires t c =
           c.in_ok-condition.ensures.lowered;
     }
 
-pub repeated_loop-returns-clause-lowered : goal.repeated_loop-returns-clause-lowered
-repeated_loop-returns-clause-lowered t c =
-    let one = behind_second (begun c.requires.scene c.in_ok-circle.ensures.begun) c.in_ok-loop_body.ensures.behind in
-    tail_turned _ c.end_loop.result (opened one c.in_ok-condition.ensures.lowered)
-    c.end_loop.ensures.turned c.end_loop.ensures.adds (omega arith)
-
-pub repeated_loop-returns-clause-spends : goal.repeated_loop-returns-clause-spends
-repeated_loop-returns-clause-spends t c =
-    parts_last_and _ _ _ _ c.end_loop.result
-    (parts_after (parts_after (of_code (begun_spent c.in_ok-circle.ensures.begun)) c.in_ok-loop_body.ensures.spends)
-    (of_expression c.in_ok-condition.ensures.spends))
-    c.end_loop.ensures.spent (omega arith) (omega arith) (omega arith) (λ w. omega arith)
+pub repeated_loop-returns : goal.repeated_loop-returns
+repeated_loop-returns t c =
+    record {
+      lowered = (let one = behind_second (begun c.requires.scene c.in_ok-circle.ensures.begun)
+          c.in_ok-loop_body.ensures.behind in
+          tail_turned _ c.end_loop.result (opened one c.in_ok-condition.ensures.lowered)
+          c.end_loop.ensures.turned c.end_loop.ensures.adds (omega arith));
+      spends = parts_last_and _ _ _ _ c.end_loop.result
+          (parts_after (parts_after (of_code (begun_spent c.in_ok-circle.ensures.begun))
+          c.in_ok-loop_body.ensures.spends)
+          (of_expression c.in_ok-condition.ensures.spends))
+          c.end_loop.ensures.spent (omega arith) (omega arith) (omega arith) (λ w. omega arith);
+      is = IfOk-weaker c.end_loop.result _ _
+          (λ q h k x n scalar. states_repeated _ c.requires.ordered c.requires.scene.ready.ordered n scalar
+          c.in_ok-circle.ensures.begun c.in_ok-loop_body.ensures.is c.in_ok-condition.ensures.is h)
+          c.end_loop.ensures.emits;
+    }
 
 -- ---- choices
 
@@ -289,22 +302,26 @@ choice-turn_fork-requires t c =
           c.in_ok-statement.ensures.lowered);
     }
 
-pub choice-returns-clause-lowered : goal.choice-returns-clause-lowered
-choice-returns-clause-lowered t c =
-    let one = opened (opened (fork c.requires.scene c.fork-fork.ensures.forked) c.in_ok-condition.ensures.lowered)
-    c.in_ok-statement.ensures.lowered in
-    let two = opened (turned one c.in_ok-turn_fork.ensures.turned c.in_ok-turn_fork.ensures.adds)
-    c.in_ok-statement-2.ensures.lowered in
-    tail_stands _ c.join_fork.result two c.join_fork.ensures.stands (omega arith)
-
-pub choice-returns-clause-spends : goal.choice-returns-clause-spends
-choice-returns-clause-spends t c =
-    parts_last_pushed _ _ c.join_fork.result
-    (parts_after (parts_after (parts_after (parts_after (of_code (forked_spent c.fork-fork.ensures.forked))
-    (of_expression c.in_ok-condition.ensures.spends)) c.in_ok-statement.ensures.spends)
-    (of_code c.in_ok-turn_fork.ensures.spent)) c.in_ok-statement-2.ensures.spends) c.join_fork.ensures.stands
-    (omega arith)
-    (omega arith) (omega arith) (λ w. omega arith) refl refl
+pub choice-returns : goal.choice-returns
+choice-returns t c =
+    record {
+      lowered = (let one = opened (opened (fork c.requires.scene c.fork-fork.ensures.forked)
+          c.in_ok-condition.ensures.lowered)
+          c.in_ok-statement.ensures.lowered in
+          let two = opened (turned one c.in_ok-turn_fork.ensures.turned c.in_ok-turn_fork.ensures.adds)
+          c.in_ok-statement-2.ensures.lowered in
+          tail_stands _ c.join_fork.result two c.join_fork.ensures.stands (omega arith));
+      spends = parts_last_pushed _ _ c.join_fork.result
+          (parts_after (parts_after (parts_after (parts_after (of_code (forked_spent c.fork-fork.ensures.forked))
+          (of_expression c.in_ok-condition.ensures.spends)) c.in_ok-statement.ensures.spends)
+          (of_code c.in_ok-turn_fork.ensures.spent)) c.in_ok-statement-2.ensures.spends) c.join_fork.ensures.stands
+          (omega arith)
+          (omega arith) (omega arith) (λ w. omega arith) refl refl;
+      is = IfOk-weaker c.join_fork.result _ _
+          (λ q h n scalar. states_choice _ c.requires.ordered c.requires.scene.ready.ordered n scalar
+          c.fork-fork.ensures.forked c.in_ok-condition.ensures.is c.in_ok-statement.ensures.is
+          c.in_ok-turn_fork.ensures.emits c.in_ok-statement-2.ensures.is h) c.join_fork.ensures.stands;
+    }
 
 pub guarded-condition-requires-clause-scene : goal.guarded-condition-requires-clause-scene
 guarded-condition-requires-clause-scene t c = (label c.requires.scene c.label-label.ensures.labelled).scene
@@ -316,20 +333,23 @@ pub guarded-condition-requires-clause-room : goal.guarded-condition-requires-cla
 guarded-condition-requires-clause-room t c =
     opened_room c.requires.room (label c.requires.scene c.label-label.ensures.labelled) (omega arith)
 
-pub guarded-returns-clause-lowered : goal.guarded-returns-clause-lowered
-guarded-returns-clause-lowered t c =
-    let one = opened
-    (opened (label c.requires.scene c.label-label.ensures.labelled) c.in_ok-condition.ensures.lowered)
-    c.in_ok-statement.ensures.lowered in
-    tail_stands _ c.stand.result one c.stand.ensures.stands (omega arith)
-
-pub guarded-returns-clause-spends : goal.guarded-returns-clause-spends
-guarded-returns-clause-spends t c =
-    parts_last_and _ _ _ _ c.stand.result
-    (parts_after (parts_after (of_code (labelled_spent c.label-label.ensures.labelled))
-    (of_expression c.in_ok-condition.ensures.spends))
-    c.in_ok-statement.ensures.spends)
-    c.stand.ensures.spent (omega arith) (omega arith) (omega arith) (λ w. omega arith)
+pub guarded-returns : goal.guarded-returns
+guarded-returns t c =
+    record {
+      lowered = (let one = opened
+          (opened (label c.requires.scene c.label-label.ensures.labelled) c.in_ok-condition.ensures.lowered)
+          c.in_ok-statement.ensures.lowered in
+          tail_stands _ c.stand.result one c.stand.ensures.stands (omega arith));
+      spends = parts_last_and _ _ _ _ c.stand.result
+          (parts_after (parts_after (of_code (labelled_spent c.label-label.ensures.labelled))
+          (of_expression c.in_ok-condition.ensures.spends))
+          c.in_ok-statement.ensures.spends)
+          c.stand.ensures.spent (omega arith) (omega arith) (omega arith) (λ w. omega arith);
+      is = IfOk-weaker c.stand.result _ _
+          (λ q h k n scalar. states_guarded _ c.requires.ordered c.requires.scene.ready.ordered n scalar
+          c.label-label.ensures.labelled c.in_ok-condition.ensures.is c.in_ok-statement.ensures.is h)
+          c.stand.ensures.stands;
+    }
 
 -- ---- lists of statements
 
@@ -361,33 +381,40 @@ statements-loop-s-preserved t c =
           c.in_ok-statement.ensures.is;
     }
 
-pub statements-returns-clause-lowered : goal.statements-returns-clause-lowered
-statements-returns-clause-lowered t c =
-    let all = hefts_taken c.args.cx.p.now c.args.body.now c.loop-s.s-index in
-    at_most c.loop-s.invariant.lowered (omega (arith, all))
+pub statements-returns : goal.statements-returns
+statements-returns t c =
+    record {
+      lowered = (let all = hefts_taken c.args.cx.p.now c.args.body.now c.loop-s.s-index in
+          at_most c.loop-s.invariant.lowered (omega (arith, all)));
+      spends = (let all = hefts_taken c.args.cx.p.now c.args.body.now c.loop-s.s-index in
+          let copied = copies_taken c.args.cx.p.now c.args.body.now c.loop-s.s-index in
+          let entered = all_entered_taken c.args.cx.p.now c.args.cx.d.now c.args.body.now c.loop-s.s-index in
+          parts_within c.loop-s.invariant.spends (omega (arith, all)) (omega (arith, all, entered)) (omega (
+            arith,
+            copied,
+          ))
+          (λ w. omega (
+            arith,
+            all_zeroed_taken c.args.cx.p.now c.args.cx.d.now c.args.cx.homes.now c.args.body.now
+                c.loop-s.s-index w,
+          )));
+      is = states_same (routine c.args.cx) c.requires.ordered c.requires.scene.ready.ordered (exits_as c.args.exits)
+          (take_all c.loop-s.s-index c.args.body.now (omega arith)) c.loop-s.invariant.is;
+    }
 
-pub statements-returns-clause-spends : goal.statements-returns-clause-spends
-statements-returns-clause-spends t c =
-    let all = hefts_taken c.args.cx.p.now c.args.body.now c.loop-s.s-index in
-    let copied = copies_taken c.args.cx.p.now c.args.body.now c.loop-s.s-index in
-    let entered = all_entered_taken c.args.cx.p.now c.args.cx.d.now c.args.body.now c.loop-s.s-index in
-    parts_within c.loop-s.invariant.spends (omega (arith, all)) (omega (arith, all, entered)) (omega (arith, copied))
-    (λ w. omega (
-      arith,
-      all_zeroed_taken c.args.cx.p.now c.args.cx.d.now c.args.cx.homes.now c.args.body.now
-          c.loop-s.s-index w,
-    ))
-
-pub block-returns-clause-lowered : goal.block-returns-clause-lowered
-block-returns-clause-lowered t c =
-    tail _ _ c.statements.result c.in_ok-enter.ensures.lowered c.statements.ensures.lowered
-    (omega arith)
-
-pub block-returns-clause-spends : goal.block-returns-clause-spends
-block-returns-clause-spends t c =
-    parts_last _ _ _ _ _ c.statements.result (of_entry c.in_ok-enter.ensures.spent) c.statements.ensures.spends
-    (omega arith)
-    (omega arith) (omega arith) (λ w. omega arith)
+pub block-returns : goal.block-returns
+block-returns t c =
+    record {
+      lowered = tail _ _ c.statements.result c.in_ok-enter.ensures.lowered c.statements.ensures.lowered
+          (omega arith);
+      spends = parts_last _ _ _ _ _ c.statements.result (of_entry c.in_ok-enter.ensures.spent)
+          c.statements.ensures.spends
+          (omega arith)
+          (omega arith) (omega arith) (λ w. omega arith);
+      is = IfOk-weaker c.statements.result _ _
+          (λ q h. record { entry = c.enter.new.out; entered = c.in_ok-enter.ensures.is; body = h })
+          c.statements.ensures.is;
+    }
 
 -- ---- a statement by its kind
 
@@ -402,21 +429,24 @@ statement-effect-requires-clause-room t c =
     c.requires.scene.ready.ordered c.in-Some.ensures c.requires.part c.in-Expr.is).weight in
     less_room c.requires.room (omega arith)
 
-pub statement-returns-in-Expr-clause-lowered : goal.statement-returns-in-Expr-clause-lowered
-statement-returns-in-Expr-clause-lowered t c =
-    let w = (evaluates (frame_of c.args.cx.p.now c.args.cx.d.now) c.args.k c.in-Some.s.now
-    c.requires.scene.ready.ordered c.in-Some.ensures c.requires.part c.in-Expr.is).weight in
-    at_most_ok _ _ _ _ _ _ _ _ c.effect.result c.effect.ensures.lowered (omega arith)
-
-pub statement-returns-in-Expr-clause-spends : goal.statement-returns-in-Expr-clause-spends
-statement-returns-in-Expr-clause-spends t c =
-    let h = evaluates (frame_of c.args.cx.p.now c.args.cx.d.now) c.args.k c.in-Some.s.now
-    c.requires.scene.ready.ordered c.in-Some.ensures c.requires.part c.in-Expr.is in
-    let w = h.weight in
-    let few = h.copies in
-    let one = heavy (expression c.args.cx.p.now c.in-Expr.a) in
-    parts_last_of _ _ _ _ c.effect.result (of_expression nothing) c.effect.ensures.spends (omega arith) (omega arith)
-    (omega arith) (λ w. omega arith)
+pub statement-returns-in-Expr : goal.statement-returns-in-Expr
+statement-returns-in-Expr t c =
+    record {
+      lowered = (let w = (evaluates (frame_of c.args.cx.p.now c.args.cx.d.now) c.args.k c.in-Some.s.now
+          c.requires.scene.ready.ordered c.in-Some.ensures c.requires.part c.in-Expr.is).weight in
+          at_most_ok _ _ _ _ _ _ _ _ c.effect.result c.effect.ensures.lowered (omega arith));
+      spends = (let h = evaluates (frame_of c.args.cx.p.now c.args.cx.d.now) c.args.k c.in-Some.s.now
+          c.requires.scene.ready.ordered c.in-Some.ensures c.requires.part c.in-Expr.is in
+          let w = h.weight in
+          let few = h.copies in
+          let one = heavy (expression c.args.cx.p.now c.in-Expr.a) in
+          parts_last_of _ _ _ _ c.effect.result (of_expression nothing) c.effect.ensures.spends (omega arith) (omega
+          arith)
+          (omega arith) (λ w. omega arith));
+      is = IfOk-weaker c.effect.result _ _
+          (λ q h. states_evaluated _ c.requires.ordered c.requires.scene.ready.ordered
+          (record { node = _; there = c.in-Some.ensures; is = c.in-Expr.is }) h) c.effect.ensures.is;
+    }
 
 pub statement-initialise-requires-clause-typed : goal.statement-initialise-requires-clause-typed
 statement-initialise-requires-clause-typed t c =
@@ -434,20 +464,26 @@ statement-initialise-requires-clause-room t c =
     c.requires.scene.ready.ordered c.in-Some.ensures c.requires.part c.in-Init.is).weight in
     less_room c.requires.room (omega arith)
 
-pub statement-returns-in-Init-clause-lowered : goal.statement-returns-in-Init-clause-lowered
-statement-returns-in-Init-clause-lowered t c =
-    let w = (initialises (frame_of c.args.cx.p.now c.args.cx.d.now) c.args.k c.in-Some.s.now
-    c.requires.scene.ready.ordered c.in-Some.ensures c.requires.part c.in-Init.is).weight in
-    at_most_ok _ _ _ _ _ _ _ _ c.initialise.result c.initialise.ensures.lowered (omega arith)
-
-pub statement-returns-in-Init-clause-spends : goal.statement-returns-in-Init-clause-spends
-statement-returns-in-Init-clause-spends t c =
-    let h = initialises (frame_of c.args.cx.p.now c.args.cx.d.now) c.args.k c.in-Some.s.now
-    c.requires.scene.ready.ordered c.in-Some.ensures c.requires.part c.in-Init.is in
-    let w = h.weight in
-    let few = h.copies in
-    parts_last_of _ _ _ _ c.initialise.result (of_expression nothing) c.initialise.ensures.spends (omega arith)
-    (omega arith) (omega arith) (λ w. omega arith)
+pub statement-returns-in-Init : goal.statement-returns-in-Init
+statement-returns-in-Init t c =
+    record {
+      lowered = (let w = (initialises (frame_of c.args.cx.p.now c.args.cx.d.now) c.args.k c.in-Some.s.now
+          c.requires.scene.ready.ordered c.in-Some.ensures c.requires.part c.in-Init.is).weight in
+          at_most_ok _ _ _ _ _ _ _ _ c.initialise.result c.initialise.ensures.lowered (omega arith));
+      spends = (let h = initialises (frame_of c.args.cx.p.now c.args.cx.d.now) c.args.k c.in-Some.s.now
+          c.requires.scene.ready.ordered c.in-Some.ensures c.requires.part c.in-Init.is in
+          let w = h.weight in
+          let few = h.copies in
+          parts_last_of _ _ _ _ c.initialise.result (of_expression nothing) c.initialise.ensures.spends (omega arith)
+          (omega arith) (omega arith) (λ w. omega arith));
+      is = (let p = c.args.cx.p.now in
+          let part = initialises (frame_of p c.args.cx.d.now) c.args.k c.in-Some.s.now c.requires.scene.ready.ordered
+          c.in-Some.ensures c.requires.part c.in-Init.is in
+          IfOk-weaker c.initialise.result _ _
+          (λ q h. states_init (routine c.args.cx) c.requires.ordered c.requires.scene.ready.ordered
+          (record { node = _; there = c.in-Some.ensures; is = c.in-Init.is }) (given_in (type_in p c.args.cx.d.now.of))
+          part.value (h c.requires.fits)) c.initialise.ensures.is);
+    }
 
 pub statement-leave-requires-clause-part : goal.statement-leave-requires-clause-part
 statement-leave-requires-clause-part t c =
@@ -518,48 +554,67 @@ statement-guarded-requires t c =
       ),
     )
 
-pub statement-returns-in-Some-b-clause-lowered : goal.statement-returns-in-Some-b-clause-lowered
-statement-returns-in-Some-b-clause-lowered t c =
-    let w = (chooses (frame_of c.args.cx.p.now c.args.cx.d.now) c.args.k c.in-Some.s.now
-    c.requires.scene.ready.ordered c.in-Some.ensures c.requires.part c.in-If.is).weight in
-    let n = ap (or_none (heft_in c.args.cx.p.now)) c.in-Some-b.is in
-    at_most_ok _ _ _ _ _ _ _ _ c.choice.result c.choice.ensures.lowered (omega arith)
+pub statement-returns-in-Some-b : goal.statement-returns-in-Some-b
+statement-returns-in-Some-b t c =
+    record {
+      lowered = (let w = (chooses (frame_of c.args.cx.p.now c.args.cx.d.now) c.args.k c.in-Some.s.now
+          c.requires.scene.ready.ordered c.in-Some.ensures c.requires.part c.in-If.is).weight in
+          let n = ap (or_none (heft_in c.args.cx.p.now)) c.in-Some-b.is in
+          at_most_ok _ _ _ _ _ _ _ _ c.choice.result c.choice.ensures.lowered (omega arith));
+      spends = (let h = chooses (frame_of c.args.cx.p.now c.args.cx.d.now) c.args.k c.in-Some.s.now
+          c.requires.scene.ready.ordered c.in-Some.ensures c.requires.part c.in-If.is in
+          let w = h.weight in
+          let few = h.copies in
+          let enters = h.enters (is_entered (length c.args.cx.d.now.params) (length c.args.cx.d.now.vars)) in
+          let n = ap (or_none (heft_in c.args.cx.p.now)) c.in-Some-b.is in
+          let copied = ap (or_none (part_copies c.args.cx.p.now)) c.in-Some-b.is in
+          let m = ap (or_none (entered_in c.args.cx.p.now c.args.cx.d.now)) c.in-Some-b.is in
+          parts_last _ _ _ _ _ c.choice.result (of_expression nothing) c.choice.ensures.spends (omega arith) (omega
+          arith)
+          (omega arith)
+          (λ w. omega (
+            arith,
+            h.enters (is_zeroed (length c.args.cx.d.now.params) c.args.cx.homes.now w),
+            ap (or_none (declared_by c.args.cx.p.now (is_zeroed (length c.args.cx.d.now.params) c.args.cx.homes.now
+                w)))
+                c.in-Some-b.is,
+          )));
+      is = IfOk-weaker c.choice.result _ _
+          (λ q h. h (record {
+            node = _;
+            there = c.in-Some.ensures;
+            is = c.in-If.is
+                ∙ ap (stmts.If c.in-If.c c.in-If.a) c.in-Some-b.is;
+          })
+          (test_scalar (chooses (frame_of c.args.cx.p.now c.args.cx.d.now) c.args.k c.in-Some.s.now
+          c.requires.scene.ready.ordered c.in-Some.ensures c.requires.part c.in-If.is).test)) c.choice.ensures.is;
+    }
 
-pub statement-returns-in-Some-b-clause-spends : goal.statement-returns-in-Some-b-clause-spends
-statement-returns-in-Some-b-clause-spends t c =
-    let h = chooses (frame_of c.args.cx.p.now c.args.cx.d.now) c.args.k c.in-Some.s.now
-    c.requires.scene.ready.ordered c.in-Some.ensures c.requires.part c.in-If.is in
-    let w = h.weight in
-    let few = h.copies in
-    let enters = h.enters (is_entered (length c.args.cx.d.now.params) (length c.args.cx.d.now.vars)) in
-    let n = ap (or_none (heft_in c.args.cx.p.now)) c.in-Some-b.is in
-    let copied = ap (or_none (part_copies c.args.cx.p.now)) c.in-Some-b.is in
-    let m = ap (or_none (entered_in c.args.cx.p.now c.args.cx.d.now)) c.in-Some-b.is in
-    parts_last _ _ _ _ _ c.choice.result (of_expression nothing) c.choice.ensures.spends (omega arith) (omega arith)
-    (omega arith)
-    (λ w. omega (
-      arith,
-      h.enters (is_zeroed (length c.args.cx.d.now.params) c.args.cx.homes.now w),
-      ap (or_none (declared_by c.args.cx.p.now (is_zeroed (length c.args.cx.d.now.params) c.args.cx.homes.now w)))
-          c.in-Some-b.is,
-    ))
-
-pub statement-returns-in-None-clause-lowered : goal.statement-returns-in-None-clause-lowered
-statement-returns-in-None-clause-lowered t c =
-    let w = (chooses (frame_of c.args.cx.p.now c.args.cx.d.now) c.args.k c.in-Some.s.now
-    c.requires.scene.ready.ordered c.in-Some.ensures c.requires.part c.in-If.is).weight in
-    at_most_ok _ _ _ _ _ _ _ _ c.guarded.result c.guarded.ensures.lowered (omega arith)
-
-pub statement-returns-in-None-clause-spends : goal.statement-returns-in-None-clause-spends
-statement-returns-in-None-clause-spends t c =
-    let h = chooses (frame_of c.args.cx.p.now c.args.cx.d.now) c.args.k c.in-Some.s.now
-    c.requires.scene.ready.ordered c.in-Some.ensures c.requires.part c.in-If.is in
-    let w = h.weight in
-    let few = h.copies in
-    let enters = h.enters (is_entered (length c.args.cx.d.now.params) (length c.args.cx.d.now.vars)) in
-    parts_last _ _ _ _ _ c.guarded.result (of_expression nothing) c.guarded.ensures.spends (omega arith) (omega arith)
-    (omega arith)
-    (λ w. omega (arith, h.enters (is_zeroed (length c.args.cx.d.now.params) c.args.cx.homes.now w)))
+pub statement-returns-in-None : goal.statement-returns-in-None
+statement-returns-in-None t c =
+    record {
+      lowered = (let w = (chooses (frame_of c.args.cx.p.now c.args.cx.d.now) c.args.k c.in-Some.s.now
+          c.requires.scene.ready.ordered c.in-Some.ensures c.requires.part c.in-If.is).weight in
+          at_most_ok _ _ _ _ _ _ _ _ c.guarded.result c.guarded.ensures.lowered (omega arith));
+      spends = (let h = chooses (frame_of c.args.cx.p.now c.args.cx.d.now) c.args.k c.in-Some.s.now
+          c.requires.scene.ready.ordered c.in-Some.ensures c.requires.part c.in-If.is in
+          let w = h.weight in
+          let few = h.copies in
+          let enters = h.enters (is_entered (length c.args.cx.d.now.params) (length c.args.cx.d.now.vars)) in
+          parts_last _ _ _ _ _ c.guarded.result (of_expression nothing) c.guarded.ensures.spends (omega arith) (omega
+          arith)
+          (omega arith)
+          (λ w. omega (arith, h.enters (is_zeroed (length c.args.cx.d.now.params) c.args.cx.homes.now w))));
+      is = IfOk-weaker c.guarded.result _ _
+          (λ q h. h c.args.k (record {
+            node = _;
+            there = c.in-Some.ensures;
+            is = c.in-If.is
+                ∙ ap (stmts.If c.in-If.c c.in-If.a) c.in-None.is;
+          })
+          (test_scalar (chooses (frame_of c.args.cx.p.now c.args.cx.d.now) c.args.k c.in-Some.s.now
+          c.requires.scene.ready.ordered c.in-Some.ensures c.requires.part c.in-If.is).test)) c.guarded.ensures.is;
+    }
 
 pub statement-repeated_loop-requires : goal.statement-repeated_loop-requires
 statement-repeated_loop-requires t c =
@@ -581,59 +636,75 @@ statement-repeated_loop-requires t c =
       ),
     )
 
-pub statement-returns-in-Do-clause-lowered : goal.statement-returns-in-Do-clause-lowered
-statement-returns-in-Do-clause-lowered t c =
-    let w = (does (frame_of c.args.cx.p.now c.args.cx.d.now) c.args.k c.in-Some.s.now c.requires.scene.ready.ordered
-    c.in-Some.ensures c.requires.part c.in-Do.is).weight in
-    at_most_ok _ _ _ _ _ _ _ _ c.repeated_loop.result c.repeated_loop.ensures.lowered (omega arith)
+pub statement-returns-in-Do : goal.statement-returns-in-Do
+statement-returns-in-Do t c =
+    record {
+      lowered = (let w = (does (frame_of c.args.cx.p.now c.args.cx.d.now) c.args.k c.in-Some.s.now
+          c.requires.scene.ready.ordered
+          c.in-Some.ensures c.requires.part c.in-Do.is).weight in
+          at_most_ok _ _ _ _ _ _ _ _ c.repeated_loop.result c.repeated_loop.ensures.lowered (omega arith));
+      spends = (let h = does (frame_of c.args.cx.p.now c.args.cx.d.now) c.args.k c.in-Some.s.now
+          c.requires.scene.ready.ordered c.in-Some.ensures c.requires.part c.in-Do.is in
+          let w = h.weight in
+          let few = h.copies in
+          let enters = h.enters (is_entered (length c.args.cx.d.now.params) (length c.args.cx.d.now.vars)) in
+          parts_last _ _ _ _ _ c.repeated_loop.result (of_expression nothing) c.repeated_loop.ensures.spends (omega
+          arith)
+          (omega arith) (omega arith)
+          (λ w. omega (arith, h.enters (is_zeroed (length c.args.cx.d.now.params) c.args.cx.homes.now w))));
+      is = IfOk-weaker c.repeated_loop.result _ _
+          (λ q h. h c.args.k (exits_as c.args.exits) (record { node = _; there = c.in-Some.ensures; is = c.in-Do.is })
+          (test_scalar (does (frame_of c.args.cx.p.now c.args.cx.d.now) c.args.k c.in-Some.s.now
+          c.requires.scene.ready.ordered c.in-Some.ensures c.requires.part c.in-Do.is).test))
+          c.repeated_loop.ensures.is;
+    }
 
-pub statement-returns-in-Do-clause-spends : goal.statement-returns-in-Do-clause-spends
-statement-returns-in-Do-clause-spends t c =
-    let h = does (frame_of c.args.cx.p.now c.args.cx.d.now) c.args.k c.in-Some.s.now
-    c.requires.scene.ready.ordered c.in-Some.ensures c.requires.part c.in-Do.is in
-    let w = h.weight in
-    let few = h.copies in
-    let enters = h.enters (is_entered (length c.args.cx.d.now.params) (length c.args.cx.d.now.vars)) in
-    parts_last _ _ _ _ _ c.repeated_loop.result (of_expression nothing) c.repeated_loop.ensures.spends (omega arith)
-    (omega arith) (omega arith)
-    (λ w. omega (arith, h.enters (is_zeroed (length c.args.cx.d.now.params) c.args.cx.homes.now w)))
+pub statement-returns-in-While : goal.statement-returns-in-While
+statement-returns-in-While t c =
+    record {
+      lowered = (let w = (whiles (frame_of c.args.cx.p.now c.args.cx.d.now) c.args.k c.in-Some.s.now
+          c.requires.scene.ready.ordered c.in-Some.ensures c.requires.part c.in-While.is).weight in
+          at_most_ok _ _ _ _ _ _ _ _ c.tested_loop.result c.tested_loop.ensures.lowered (omega arith));
+      spends = (let h = whiles (frame_of c.args.cx.p.now c.args.cx.d.now) c.args.k c.in-Some.s.now
+          c.requires.scene.ready.ordered c.in-Some.ensures c.requires.part c.in-While.is in
+          let w = h.weight in
+          let few = h.copies in
+          let enters = h.enters (is_entered (length c.args.cx.d.now.params) (length c.args.cx.d.now.vars)) in
+          parts_last _ _ _ _ _ c.tested_loop.result (of_expression nothing) c.tested_loop.ensures.spends (omega arith)
+          (omega arith) (omega arith)
+          (λ w. omega (arith, h.enters (is_zeroed (length c.args.cx.d.now.params) c.args.cx.homes.now w))));
+      is = IfOk-weaker c.tested_loop.result _ _
+          (λ q h. states_while _ c.requires.ordered c.requires.scene.ready.ordered
+          (record { node = _; there = c.in-Some.ensures; is = c.in-While.is })
+          (test_scalar (whiles (frame_of c.args.cx.p.now c.args.cx.d.now) c.args.k c.in-Some.s.now
+          c.requires.scene.ready.ordered c.in-Some.ensures c.requires.part c.in-While.is).test) h)
+          c.tested_loop.ensures.is;
+    }
 
-pub statement-returns-in-While-clause-lowered : goal.statement-returns-in-While-clause-lowered
-statement-returns-in-While-clause-lowered t c =
-    let w = (whiles (frame_of c.args.cx.p.now c.args.cx.d.now) c.args.k c.in-Some.s.now
-    c.requires.scene.ready.ordered c.in-Some.ensures c.requires.part c.in-While.is).weight in
-    at_most_ok _ _ _ _ _ _ _ _ c.tested_loop.result c.tested_loop.ensures.lowered (omega arith)
+pub statement-returns-in-Break : goal.statement-returns-in-Break
+statement-returns-in-Break t c =
+    record {
+      lowered = tail_grew _ _ c.jump_out.result (start c.requires.scene) c.jump_out.ensures.grown
+          c.jump_out.ensures.adds (omega arith);
+      spends = parts_last_and _ _ _ _ c.jump_out.result (of_expression nothing) c.jump_out.ensures.spent
+          (omega arith) (omega (arith, hefty (statement c.args.cx.p.now c.args.k))) (omega arith) (λ w. omega arith);
+      is = IfOk-weaker c.jump_out.result _ _
+          (λ q h. states_break _ c.requires.ordered c.requires.scene.ready.ordered
+          (record { node = _; there = c.in-Some.ensures; is = c.in-Break.is }) h) c.jump_out.ensures.is;
+    }
 
-pub statement-returns-in-While-clause-spends : goal.statement-returns-in-While-clause-spends
-statement-returns-in-While-clause-spends t c =
-    let h = whiles (frame_of c.args.cx.p.now c.args.cx.d.now) c.args.k c.in-Some.s.now
-    c.requires.scene.ready.ordered c.in-Some.ensures c.requires.part c.in-While.is in
-    let w = h.weight in
-    let few = h.copies in
-    let enters = h.enters (is_entered (length c.args.cx.d.now.params) (length c.args.cx.d.now.vars)) in
-    parts_last _ _ _ _ _ c.tested_loop.result (of_expression nothing) c.tested_loop.ensures.spends (omega arith)
-    (omega arith) (omega arith)
-    (λ w. omega (arith, h.enters (is_zeroed (length c.args.cx.d.now.params) c.args.cx.homes.now w)))
-
-pub statement-returns-in-Break-clause-lowered : goal.statement-returns-in-Break-clause-lowered
-statement-returns-in-Break-clause-lowered t c =
-    tail_grew _ _ c.jump_out.result (start c.requires.scene) c.jump_out.ensures.grown
-    c.jump_out.ensures.adds (omega arith)
-
-pub statement-returns-in-Break-clause-spends : goal.statement-returns-in-Break-clause-spends
-statement-returns-in-Break-clause-spends t c =
-    parts_last_and _ _ _ _ c.jump_out.result (of_expression nothing) c.jump_out.ensures.spent
-    (omega arith) (omega (arith, hefty (statement c.args.cx.p.now c.args.k))) (omega arith) (λ w. omega arith)
-
-pub statement-returns-in-Continue-clause-lowered : goal.statement-returns-in-Continue-clause-lowered
-statement-returns-in-Continue-clause-lowered t c =
-    tail_grew _ _ c.jump_out-in-Continue.result (start c.requires.scene)
-    c.jump_out-in-Continue.ensures.grown c.jump_out-in-Continue.ensures.adds (omega arith)
-
-pub statement-returns-in-Continue-clause-spends : goal.statement-returns-in-Continue-clause-spends
-statement-returns-in-Continue-clause-spends t c =
-    parts_last_and _ _ _ _ c.jump_out-in-Continue.result (of_expression nothing) c.jump_out-in-Continue.ensures.spent
-    (omega arith) (omega (arith, hefty (statement c.args.cx.p.now c.args.k))) (omega arith) (λ w. omega arith)
+pub statement-returns-in-Continue : goal.statement-returns-in-Continue
+statement-returns-in-Continue t c =
+    record {
+      lowered = tail_grew _ _ c.jump_out-in-Continue.result (start c.requires.scene)
+          c.jump_out-in-Continue.ensures.grown c.jump_out-in-Continue.ensures.adds (omega arith);
+      spends = parts_last_and _ _ _ _ c.jump_out-in-Continue.result (of_expression nothing)
+          c.jump_out-in-Continue.ensures.spent
+          (omega arith) (omega (arith, hefty (statement c.args.cx.p.now c.args.k))) (omega arith) (λ w. omega arith);
+      is = IfOk-weaker c.jump_out-in-Continue.result _ _
+          (λ q h. states_continue _ c.requires.ordered c.requires.scene.ready.ordered
+          (record { node = _; there = c.in-Some.ensures; is = c.in-Continue.is }) h) c.jump_out-in-Continue.ensures.is;
+    }
 
 pub statement-tested_loop-requires : goal.statement-tested_loop-requires
 statement-tested_loop-requires t c =
@@ -684,33 +755,41 @@ statement-block-requires t c =
       ),
     )
 
-pub statement-returns-in-Block-clause-lowered : goal.statement-returns-in-Block-clause-lowered
-statement-returns-in-Block-clause-lowered t c =
-    let w = (blocks (frame_of c.args.cx.p.now c.args.cx.d.now) c.args.k c.in-Some.s.now
-    c.requires.scene.ready.ordered c.in-Some.ensures c.requires.part c.in-Block.is).weight in
-    let same = ap (hefts_in c.args.cx.p.now) c.as_slice-in-Block.ensures in
-    at_most_ok _ _ _ _ _ _ _ _ c.block.result c.block.ensures.lowered (omega arith)
-
-pub statement-returns-in-Block-clause-spends : goal.statement-returns-in-Block-clause-spends
-statement-returns-in-Block-clause-spends t c =
-    let h = blocks (frame_of c.args.cx.p.now c.args.cx.d.now) c.args.k c.in-Some.s.now
-    c.requires.scene.ready.ordered c.in-Some.ensures c.requires.part c.in-Block.is in
-    let w = h.weight in
-    let few = h.copies in
-    let enters = h.enters (is_entered (length c.args.cx.d.now.params) (length c.args.cx.d.now.vars)) in
-    let same = ap (hefts_in c.args.cx.p.now) c.as_slice-in-Block.ensures in
-    let copied = ap (all_part_copies c.args.cx.p.now) c.as_slice-in-Block.ensures in
-    let vars = ap (entered c.args.cx.d.now) c.as_slice.ensures in
-    let body = ap (all_entered_in c.args.cx.p.now c.args.cx.d.now) c.as_slice-in-Block.ensures in
-    parts_last _ _ _ _ _ c.block.result (of_expression nothing) c.block.ensures.spends (omega arith) (omega arith)
-    (omega arith)
-    (λ w. omega (
-      arith,
-      h.enters (is_zeroed (length c.args.cx.d.now.params) c.args.cx.homes.now w),
-      ap (λ xs. zeroed c.args.cx.d.now c.args.cx.homes.now xs w) c.as_slice.ensures,
-      ap (λ xs. all_zeroed_in c.args.cx.p.now c.args.cx.d.now c.args.cx.homes.now xs w)
-          c.as_slice-in-Block.ensures,
-    ))
+pub statement-returns-in-Block : goal.statement-returns-in-Block
+statement-returns-in-Block t c =
+    record {
+      lowered = (let w = (blocks (frame_of c.args.cx.p.now c.args.cx.d.now) c.args.k c.in-Some.s.now
+          c.requires.scene.ready.ordered c.in-Some.ensures c.requires.part c.in-Block.is).weight in
+          let same = ap (hefts_in c.args.cx.p.now) c.as_slice-in-Block.ensures in
+          at_most_ok _ _ _ _ _ _ _ _ c.block.result c.block.ensures.lowered (omega arith));
+      spends = (let h = blocks (frame_of c.args.cx.p.now c.args.cx.d.now) c.args.k c.in-Some.s.now
+          c.requires.scene.ready.ordered c.in-Some.ensures c.requires.part c.in-Block.is in
+          let w = h.weight in
+          let few = h.copies in
+          let enters = h.enters (is_entered (length c.args.cx.d.now.params) (length c.args.cx.d.now.vars)) in
+          let same = ap (hefts_in c.args.cx.p.now) c.as_slice-in-Block.ensures in
+          let copied = ap (all_part_copies c.args.cx.p.now) c.as_slice-in-Block.ensures in
+          let vars = ap (entered c.args.cx.d.now) c.as_slice.ensures in
+          let body = ap (all_entered_in c.args.cx.p.now c.args.cx.d.now) c.as_slice-in-Block.ensures in
+          parts_last _ _ _ _ _ c.block.result (of_expression nothing) c.block.ensures.spends (omega arith) (omega
+          arith)
+          (omega arith)
+          (λ w. omega (
+            arith,
+            h.enters (is_zeroed (length c.args.cx.d.now.params) c.args.cx.homes.now w),
+            ap (λ xs. zeroed c.args.cx.d.now c.args.cx.homes.now xs w) c.as_slice.ensures,
+            ap (λ xs. all_zeroed_in c.args.cx.p.now c.args.cx.d.now c.args.cx.homes.now xs w)
+                c.as_slice-in-Block.ensures,
+          )));
+      is = IfOk-weaker c.block.result _ _
+          (λ q h. states_block _ c.requires.ordered c.requires.scene.ready.ordered
+          (record {
+            node = _;
+            there = c.in-Some.ensures;
+            is = c.in-Block.is ∙ ap (λ z. stmts.Block z c.in-Block.body) (sym c.as_slice.ensures)
+                ∙ ap (stmts.Block c.as_slice.result.now) (sym c.as_slice-in-Block.ensures);
+          }) h) c.block.ensures.is;
+    }
 
 pub statement-block-requires-in-For : goal.statement-block-requires-in-For
 statement-block-requires-in-For t c =
@@ -766,34 +845,48 @@ statement-tested_loop-requires-in-For t c =
       ),
     )
 
-pub statement-returns-in_ok-block-in-For-clause-lowered : goal.statement-returns-in_ok-block-in-For-clause-lowered
-statement-returns-in_ok-block-in-For-clause-lowered t c =
-    let w = (fors (frame_of c.args.cx.p.now c.args.cx.d.now) c.args.k c.in-Some.s.now c.requires.scene.ready.ordered
-    c.in-Some.ensures c.requires.part c.in-For.is).weight in
-    let same = ap (hefts_in c.args.cx.p.now) c.as_slice-in-For-2.ensures in
-    tail _ _ c.tested_loop-in-For.result c.in_ok-block-in-For.ensures.lowered
-    c.tested_loop-in-For.ensures.lowered (omega arith)
-
-pub statement-returns-in_ok-block-in-For-clause-spends : goal.statement-returns-in_ok-block-in-For-clause-spends
-statement-returns-in_ok-block-in-For-clause-spends t c =
-    let h = fors (frame_of c.args.cx.p.now c.args.cx.d.now) c.args.k c.in-Some.s.now
-    c.requires.scene.ready.ordered c.in-Some.ensures c.requires.part c.in-For.is in
-    let w = h.weight in
-    let few = h.copies in
-    let enters = h.enters (is_entered (length c.args.cx.d.now.params) (length c.args.cx.d.now.vars)) in
-    let same = ap (hefts_in c.args.cx.p.now) c.as_slice-in-For-2.ensures in
-    let copied = ap (all_part_copies c.args.cx.p.now) c.as_slice-in-For-2.ensures in
-    let vars = ap (entered c.args.cx.d.now) c.as_slice-in-For.ensures in
-    let body = ap (all_entered_in c.args.cx.p.now c.args.cx.d.now) c.as_slice-in-For-2.ensures in
-    parts_last _ _ _ _ _ c.tested_loop-in-For.result c.in_ok-block-in-For.ensures.spends
-    c.tested_loop-in-For.ensures.spends (omega arith) (omega arith) (omega arith)
-    (λ w. omega (
-      arith,
-      h.enters (is_zeroed (length c.args.cx.d.now.params) c.args.cx.homes.now w),
-      ap (λ xs. zeroed c.args.cx.d.now c.args.cx.homes.now xs w) c.as_slice-in-For.ensures,
-      ap (λ xs. all_zeroed_in c.args.cx.p.now c.args.cx.d.now c.args.cx.homes.now xs w)
-          c.as_slice-in-For-2.ensures,
-    ))
+pub statement-returns-in_ok-block-in-For : goal.statement-returns-in_ok-block-in-For
+statement-returns-in_ok-block-in-For t c =
+    record {
+      lowered = (let w = (fors (frame_of c.args.cx.p.now c.args.cx.d.now) c.args.k c.in-Some.s.now
+          c.requires.scene.ready.ordered
+          c.in-Some.ensures c.requires.part c.in-For.is).weight in
+          let same = ap (hefts_in c.args.cx.p.now) c.as_slice-in-For-2.ensures in
+          tail _ _ c.tested_loop-in-For.result c.in_ok-block-in-For.ensures.lowered
+          c.tested_loop-in-For.ensures.lowered (omega arith));
+      spends = (let h = fors (frame_of c.args.cx.p.now c.args.cx.d.now) c.args.k c.in-Some.s.now
+          c.requires.scene.ready.ordered c.in-Some.ensures c.requires.part c.in-For.is in
+          let w = h.weight in
+          let few = h.copies in
+          let enters = h.enters (is_entered (length c.args.cx.d.now.params) (length c.args.cx.d.now.vars)) in
+          let same = ap (hefts_in c.args.cx.p.now) c.as_slice-in-For-2.ensures in
+          let copied = ap (all_part_copies c.args.cx.p.now) c.as_slice-in-For-2.ensures in
+          let vars = ap (entered c.args.cx.d.now) c.as_slice-in-For.ensures in
+          let body = ap (all_entered_in c.args.cx.p.now c.args.cx.d.now) c.as_slice-in-For-2.ensures in
+          parts_last _ _ _ _ _ c.tested_loop-in-For.result c.in_ok-block-in-For.ensures.spends
+          c.tested_loop-in-For.ensures.spends (omega arith) (omega arith) (omega arith)
+          (λ w. omega (
+            arith,
+            h.enters (is_zeroed (length c.args.cx.d.now.params) c.args.cx.homes.now w),
+            ap (λ xs. zeroed c.args.cx.d.now c.args.cx.homes.now xs w) c.as_slice-in-For.ensures,
+            ap (λ xs. all_zeroed_in c.args.cx.p.now c.args.cx.d.now c.args.cx.homes.now xs w)
+                c.as_slice-in-For-2.ensures,
+          )));
+      is = IfOk-weaker c.tested_loop-in-For.result _ _
+          (λ q h. states_counted _ c.requires.ordered c.requires.scene.ready.ordered
+          (record {
+            node = _;
+            there = c.in-Some.ensures;
+            is = c.in-For.is
+                ∙ ap (λ z. stmts.For z c.in-For.first c.in-For.test c.in-For.step c.in-For.body)
+                (sym c.as_slice-in-For.ensures)
+                ∙ ap (λ z. stmts.For c.as_slice-in-For.result.now z c.in-For.test c.in-For.step c.in-For.body)
+                (sym c.as_slice-in-For-2.ensures);
+          })
+          (test_scalar_if_any c.in-For.test (fors (frame_of c.args.cx.p.now c.args.cx.d.now) c.args.k c.in-Some.s.now
+          c.requires.scene.ready.ordered c.in-Some.ensures c.requires.part c.in-For.is).test_fits)
+          c.in_ok-block-in-For.ensures.is h) c.tested_loop-in-For.ensures.is;
+    }
 
 pub statement-switch-requires : goal.statement-switch-requires
 statement-switch-requires t c =
@@ -825,35 +918,50 @@ statement-switch-requires t c =
       ),
     )
 
-pub statement-returns-in-Switch-clause-lowered : goal.statement-returns-in-Switch-clause-lowered
-statement-returns-in-Switch-clause-lowered t c =
-    let w = (switches (frame_of c.args.cx.p.now c.args.cx.d.now) c.args.k c.in-Some.s.now
-    c.requires.scene.ready.ordered c.in-Some.ensures c.requires.part c.in-Switch.is).weight in
-    let same = ap (hefts_in c.args.cx.p.now) c.as_slice-in-Switch-3.ensures in
-    let many = ap length c.as_slice-in-Switch-2.ensures in
-    at_most_ok _ _ _ _ _ _ _ _ c.switch.result c.switch.ensures.lowered (omega arith)
-
-pub statement-returns-in-Switch-clause-spends : goal.statement-returns-in-Switch-clause-spends
-statement-returns-in-Switch-clause-spends t c =
-    let h = switches (frame_of c.args.cx.p.now c.args.cx.d.now) c.args.k c.in-Some.s.now
-    c.requires.scene.ready.ordered c.in-Some.ensures c.requires.part c.in-Switch.is in
-    let w = h.weight in
-    let few = h.copies in
-    let enters = h.enters (is_entered (length c.args.cx.d.now.params) (length c.args.cx.d.now.vars)) in
-    let same = ap (hefts_in c.args.cx.p.now) c.as_slice-in-Switch-3.ensures in
-    let copied = ap (all_part_copies c.args.cx.p.now) c.as_slice-in-Switch-3.ensures in
-    let vars = ap (entered c.args.cx.d.now) c.as_slice-in-Switch.ensures in
-    let body = ap (all_entered_in c.args.cx.p.now c.args.cx.d.now) c.as_slice-in-Switch-3.ensures in
-    let many = ap length c.as_slice-in-Switch-2.ensures in
-    parts_last _ _ _ _ _ c.switch.result (of_expression nothing) c.switch.ensures.spends (omega arith) (omega arith)
-    (omega arith)
-    (λ w. omega (
-      arith,
-      h.enters (is_zeroed (length c.args.cx.d.now.params) c.args.cx.homes.now w),
-      ap (λ xs. zeroed c.args.cx.d.now c.args.cx.homes.now xs w) c.as_slice-in-Switch.ensures,
-      ap (λ xs. all_zeroed_in c.args.cx.p.now c.args.cx.d.now c.args.cx.homes.now xs w)
-          c.as_slice-in-Switch-3.ensures,
-    ))
+pub statement-returns-in-Switch : goal.statement-returns-in-Switch
+statement-returns-in-Switch t c =
+    record {
+      lowered = (let w = (switches (frame_of c.args.cx.p.now c.args.cx.d.now) c.args.k c.in-Some.s.now
+          c.requires.scene.ready.ordered c.in-Some.ensures c.requires.part c.in-Switch.is).weight in
+          let same = ap (hefts_in c.args.cx.p.now) c.as_slice-in-Switch-3.ensures in
+          let many = ap length c.as_slice-in-Switch-2.ensures in
+          at_most_ok _ _ _ _ _ _ _ _ c.switch.result c.switch.ensures.lowered (omega arith));
+      spends = (let h = switches (frame_of c.args.cx.p.now c.args.cx.d.now) c.args.k c.in-Some.s.now
+          c.requires.scene.ready.ordered c.in-Some.ensures c.requires.part c.in-Switch.is in
+          let w = h.weight in
+          let few = h.copies in
+          let enters = h.enters (is_entered (length c.args.cx.d.now.params) (length c.args.cx.d.now.vars)) in
+          let same = ap (hefts_in c.args.cx.p.now) c.as_slice-in-Switch-3.ensures in
+          let copied = ap (all_part_copies c.args.cx.p.now) c.as_slice-in-Switch-3.ensures in
+          let vars = ap (entered c.args.cx.d.now) c.as_slice-in-Switch.ensures in
+          let body = ap (all_entered_in c.args.cx.p.now c.args.cx.d.now) c.as_slice-in-Switch-3.ensures in
+          let many = ap length c.as_slice-in-Switch-2.ensures in
+          parts_last _ _ _ _ _ c.switch.result (of_expression nothing) c.switch.ensures.spends (omega arith) (omega
+          arith)
+          (omega arith)
+          (λ w. omega (
+            arith,
+            h.enters (is_zeroed (length c.args.cx.d.now.params) c.args.cx.homes.now w),
+            ap (λ xs. zeroed c.args.cx.d.now c.args.cx.homes.now xs w) c.as_slice-in-Switch.ensures,
+            ap (λ xs. all_zeroed_in c.args.cx.p.now c.args.cx.d.now c.args.cx.homes.now xs w)
+                c.as_slice-in-Switch-3.ensures,
+          )));
+      is = IfOk-weaker c.switch.result _ _
+          (λ q h. h (record {
+            node = _;
+            there = c.in-Some.ensures;
+            is = c.in-Switch.is
+                ∙ ap (λ z. stmts.Switch c.in-Switch.on z c.in-Switch.labels c.in-Switch.body)
+                (sym c.as_slice-in-Switch.ensures)
+                ∙ ap (λ z. stmts.Switch c.in-Switch.on c.as_slice-in-Switch.result.now z c.in-Switch.body)
+                (sym c.as_slice-in-Switch-2.ensures)
+                ∙ ap (stmts.Switch c.in-Switch.on c.as_slice-in-Switch.result.now c.as_slice-in-Switch-2.result.now)
+                (sym c.as_slice-in-Switch-3.ensures);
+          })
+          (integer_scalar (switches (frame_of c.args.cx.p.now c.args.cx.d.now) c.args.k c.in-Some.s.now
+          c.requires.scene.ready.ordered c.in-Some.ensures c.requires.part c.in-Switch.is).integer))
+          c.switch.ensures.is;
+    }
 
 -- ---- switches
 
@@ -895,35 +1003,40 @@ switch-loop-s-init t c =
           c.label-end.ensures.labelled c.in_ok-cases.ensures.is;
     }
 
-pub switch-returns-clause-lowered : goal.switch-returns-clause-lowered
-switch-returns-clause-lowered t c =
-    let p = c.args.cx.p.now in
-    let d = c.args.cx.d.now in
-    let types = c.args.cx.types.now in
-    let homes = c.args.cx.homes.now in
-    let all = hefts_taken p c.args.body.now c.loop-s.s-index in
-    let n = 4 * weight_in p c.args.on + (length c.args.labels.now + 3) + 4 * hefts_in p
-    (take c.loop-s.s-index c.args.body.now) in
-    let o = c.in_ok-stand_behind.ensures.stand.opened p d types homes c.args.out.now (c.label-end.result ∷ []) n
-    c.loop-s.invariant.opened in
-    let last = subst
-    (λ z. Opened p d types homes c.args.out.now c.stand_behind.new.out (z ++ c.label-end.result ∷ []) n)
-    (none_behind c.in_ok-cases.cases.cases.items) o in
-    tail_stands _ c.stand.result last c.stand.ensures.stands (omega (arith, all))
-
-pub switch-returns-clause-spends : goal.switch-returns-clause-spends
-switch-returns-clause-spends t c =
-    let all = hefts_taken c.args.cx.p.now c.args.body.now c.loop-s.s-index in
-    let copied = copies_taken c.args.cx.p.now c.args.body.now c.loop-s.s-index in
-    let entered = all_entered_taken c.args.cx.p.now c.args.cx.d.now c.args.body.now c.loop-s.s-index in
-    parts_last_and _ _ _ _ c.stand.result (parts_after c.loop-s.invariant.spends
-    (of_code c.in_ok-stand_behind.ensures.spent))
-    c.stand.ensures.spent (omega (arith, all)) (omega (arith, all, entered)) (omega (arith, copied))
-    (λ w. omega (
-      arith,
-      all_zeroed_taken c.args.cx.p.now c.args.cx.d.now c.args.cx.homes.now c.args.body.now
-          c.loop-s.s-index w,
-    ))
+pub switch-returns : goal.switch-returns
+switch-returns t c =
+    record {
+      lowered = (let p = c.args.cx.p.now in
+          let d = c.args.cx.d.now in
+          let types = c.args.cx.types.now in
+          let homes = c.args.cx.homes.now in
+          let all = hefts_taken p c.args.body.now c.loop-s.s-index in
+          let n = 4 * weight_in p c.args.on + (length c.args.labels.now + 3) + 4 * hefts_in p
+          (take c.loop-s.s-index c.args.body.now) in
+          let o = c.in_ok-stand_behind.ensures.stand.opened p d types homes c.args.out.now (c.label-end.result ∷ []) n
+          c.loop-s.invariant.opened in
+          let last = subst
+          (λ z. Opened p d types homes c.args.out.now c.stand_behind.new.out (z ++ c.label-end.result ∷ []) n)
+          (none_behind c.in_ok-cases.cases.cases.items) o in
+          tail_stands _ c.stand.result last c.stand.ensures.stands (omega (arith, all)));
+      spends = (let all = hefts_taken c.args.cx.p.now c.args.body.now c.loop-s.s-index in
+          let copied = copies_taken c.args.cx.p.now c.args.body.now c.loop-s.s-index in
+          let entered = all_entered_taken c.args.cx.p.now c.args.cx.d.now c.args.body.now c.loop-s.s-index in
+          parts_last_and _ _ _ _ c.stand.result (parts_after c.loop-s.invariant.spends
+          (of_code c.in_ok-stand_behind.ensures.spent))
+          c.stand.ensures.spent (omega (arith, all)) (omega (arith, all, entered)) (omega (arith, copied))
+          (λ w. omega (
+            arith,
+            all_zeroed_taken c.args.cx.p.now c.args.cx.d.now c.args.cx.homes.now c.args.body.now
+                c.loop-s.s-index w,
+          )));
+      is = IfOk-weaker c.stand.result _ _
+          (λ q h n scalar. states_switch (routine c.args.cx) c.requires.ordered c.requires.scene.ready.ordered n scalar
+          (ap or_int scalar.is.is) refl c.requires.scene.housed c.requires.there
+          (switch_same (routine c.args.cx) c.requires.ordered c.requires.scene.ready.ordered
+          (take_all c.loop-s.s-index c.args.body.now (omega arith)) c.loop-s.invariant.is)
+          c.in_ok-stand_behind.ensures.is h) c.stand.ensures.stands;
+    }
 
 pub switch-statement-requires : goal.switch-statement-requires
 switch-statement-requires t c =
@@ -986,178 +1099,144 @@ switch-loop-s-preserved t c =
           c.loop-s.invariant.is c.in_ok-first.ensures.is c.in_ok-statement.ensures.is;
     }
 
-pub statement-returns-in-Return-clause-spends : goal.statement-returns-in-Return-clause-spends
-statement-returns-in-Return-clause-spends t c =
-    parts_last_of _ _ _ _ c.leave.result (of_expression nothing) c.leave.ensures.spends (omega arith) (omega arith)
-    (omega arith) (λ w. omega arith)
+pub statement-returns-in-Return : goal.statement-returns-in-Return
+statement-returns-in-Return t c =
+    record {
+      lowered = search rules;
+      spends = parts_last_of _ _ _ _ c.leave.result (of_expression nothing) c.leave.ensures.spends (omega arith)
+          (omega arith)
+          (omega arith) (λ w. omega arith);
+      is = IfOk-weaker c.leave.result _ _
+          (λ q h. h (exits_as c.args.exits) (record { node = _; there = c.in-Some.ensures; is = c.in-Return.is }))
+          c.leave.ensures.is;
+    }
 
-pub statement-returns-in_default-clause-spends : goal.statement-returns-in_default-clause-spends
-statement-returns-in_default-clause-spends t c =
-    parts_within (of_expression nothing) (omega arith) (omega arith) (omega arith) (λ w. omega arith)
+pub statement-returns-in_default : goal.statement-returns-in_default
+statement-returns-in_default t c =
+    record {
+      lowered = search rules;
+      spends = parts_within (of_expression nothing) (omega arith) (omega arith) (omega arith) (λ w. omega arith);
+      is = states_none _ c.requires.ordered c.requires.scene.ready.ordered c.args.k c.in_default.ensures;
+    }
 
-pub statement-returns-in-Empty-clause-spends : goal.statement-returns-in-Empty-clause-spends
-statement-returns-in-Empty-clause-spends t c =
-    parts_within (of_expression nothing) (omega arith) (omega arith) (omega arith) (λ w. omega arith)
+pub statement-returns-in-Empty : goal.statement-returns-in-Empty
+statement-returns-in-Empty t c =
+    record {
+      lowered = search rules;
+      spends = parts_within (of_expression nothing) (omega arith) (omega arith) (omega arith) (λ w. omega arith);
+      is = states_nothing _ c.requires.ordered c.requires.scene.ready.ordered
+          (record { node = _; there = c.in-Some.ensures; is = c.in-Empty.is });
+    }
 
 -- ---- whose code it is
 
-pub choice-returns-clause-is : goal.choice-returns-clause-is
-choice-returns-clause-is t c = IfOk-weaker c.join_fork.result _ _
-    (λ q h n scalar. states_choice _ c.requires.ordered c.requires.scene.ready.ordered n scalar
-    c.fork-fork.ensures.forked c.in_ok-condition.ensures.is c.in_ok-statement.ensures.is
-    c.in_ok-turn_fork.ensures.emits c.in_ok-statement-2.ensures.is h) c.join_fork.ensures.stands
+-- ---- where memory lacks
 
-pub guarded-returns-clause-is : goal.guarded-returns-clause-is
-guarded-returns-clause-is t c = IfOk-weaker c.stand.result _ _
-    (λ q h k n scalar. states_guarded _ c.requires.ordered c.requires.scene.ready.ordered n scalar
-    c.label-label.ensures.labelled c.in_ok-condition.ensures.is c.in_ok-statement.ensures.is h) c.stand.ensures.stands
+pub loop_body-returns-in_err-statement : goal.loop_body-returns-in_err-statement
+loop_body-returns-in_err-statement t c =
+    let e = c.from_residual.ensures.0 in record { behind = fails _ _ e; is = fails _ _ e; spends = fails _ _ e }
 
-pub tested_loop-returns-clause-is : goal.tested_loop-returns-clause-is
-tested_loop-returns-clause-is t c = IfOk-weaker c.end_loop.result _ _
-    (λ q h. states_loop _ c.requires.ordered c.requires.scene.ready.ordered c.in_ok-circle.ensures.begun
-    c.in_ok-test_loop.ensures.is c.in_ok-loop_body.ensures.is c.in_ok-step_loop.ensures.is h)
-    c.end_loop.ensures.emits
+pub tested_loop-returns-in_err-circle : goal.tested_loop-returns-in_err-circle
+tested_loop-returns-in_err-circle t c =
+    let e = c.from_residual.ensures.0 in record { is = fails _ _ e; lowered = fails _ _ e; spends = fails _ _ e }
 
-pub repeated_loop-returns-clause-is : goal.repeated_loop-returns-clause-is
-repeated_loop-returns-clause-is t c = IfOk-weaker c.end_loop.result _ _
-    (λ q h k x n scalar. states_repeated _ c.requires.ordered c.requires.scene.ready.ordered n scalar
-    c.in_ok-circle.ensures.begun c.in_ok-loop_body.ensures.is c.in_ok-condition.ensures.is h)
-    c.end_loop.ensures.emits
+pub tested_loop-returns-in_err-test_loop : goal.tested_loop-returns-in_err-test_loop
+tested_loop-returns-in_err-test_loop t c =
+    let e = c.from_residual-in_err-test_loop.ensures.0 in
+    record {
+      is = fails _ _ e;
+      lowered = fails _ _ e;
+      spends = fails _ _ e;
+    }
 
-pub loop_body-returns-clause-is : goal.loop_body-returns-clause-is
-loop_body-returns-clause-is t c = IfOk-weaker c.stand.result _ _
-    (λ q h. record { middle = c.statement.new.out; body = c.in_ok-statement.ensures.is; stands = h })
-    c.stand.ensures.stands
+pub tested_loop-returns-in_err-loop_body : goal.tested_loop-returns-in_err-loop_body
+tested_loop-returns-in_err-loop_body t c =
+    let e = c.from_residual-in_err-loop_body.ensures.0 in
+    record {
+      is = fails _ _ e;
+      lowered = fails _ _ e;
+      spends = fails _ _ e;
+    }
 
-pub block-returns-clause-is : goal.block-returns-clause-is
-block-returns-clause-is t c = IfOk-weaker c.statements.result _ _
-    (λ q h. record { entry = c.enter.new.out; entered = c.in_ok-enter.ensures.is; body = h }) c.statements.ensures.is
+pub tested_loop-returns-in_err-step_loop : goal.tested_loop-returns-in_err-step_loop
+tested_loop-returns-in_err-step_loop t c =
+    let e = c.from_residual-in_err-step_loop.ensures.0 in
+    record {
+      is = fails _ _ e;
+      lowered = fails _ _ e;
+      spends = fails _ _ e;
+    }
 
-pub statement-returns-in_default-clause-is : goal.statement-returns-in_default-clause-is
-statement-returns-in_default-clause-is t c =
-    states_none _ c.requires.ordered c.requires.scene.ready.ordered c.args.k c.in_default.ensures
+pub repeated_loop-returns-in_err-circle : goal.repeated_loop-returns-in_err-circle
+repeated_loop-returns-in_err-circle t c =
+    let e = c.from_residual.ensures.0 in record { is = fails _ _ e; lowered = fails _ _ e; spends = fails _ _ e }
 
-pub statement-returns-in-Expr-clause-is : goal.statement-returns-in-Expr-clause-is
-statement-returns-in-Expr-clause-is t c = IfOk-weaker c.effect.result _ _
-    (λ q h. states_evaluated _ c.requires.ordered c.requires.scene.ready.ordered
-    (record { node = _; there = c.in-Some.ensures; is = c.in-Expr.is }) h) c.effect.ensures.is
+pub repeated_loop-returns-in_err-loop_body : goal.repeated_loop-returns-in_err-loop_body
+repeated_loop-returns-in_err-loop_body t c =
+    let e = c.from_residual-in_err-loop_body.ensures.0 in
+    record {
+      is = fails _ _ e;
+      lowered = fails _ _ e;
+      spends = fails _ _ e;
+    }
 
-pub statement-returns-in-Block-clause-is : goal.statement-returns-in-Block-clause-is
-statement-returns-in-Block-clause-is t c = IfOk-weaker c.block.result _ _
-    (λ q h. states_block _ c.requires.ordered c.requires.scene.ready.ordered
-    (record {
-      node = _;
-      there = c.in-Some.ensures;
-      is = c.in-Block.is ∙ ap (λ z. stmts.Block z c.in-Block.body) (sym c.as_slice.ensures)
-          ∙ ap (stmts.Block c.as_slice.result.now) (sym c.as_slice-in-Block.ensures);
-    }) h) c.block.ensures.is
+pub repeated_loop-returns-in_err-condition : goal.repeated_loop-returns-in_err-condition
+repeated_loop-returns-in_err-condition t c =
+    let e = c.from_residual-in_err-condition.ensures.0 in
+    record {
+      is = fails _ _ e;
+      lowered = fails _ _ e;
+      spends = fails _ _ e;
+    }
 
-pub statement-returns-in-Empty-clause-is : goal.statement-returns-in-Empty-clause-is
-statement-returns-in-Empty-clause-is t c =
-    states_nothing _ c.requires.ordered c.requires.scene.ready.ordered
-    (record { node = _; there = c.in-Some.ensures; is = c.in-Empty.is })
+pub choice-returns-in_err-condition : goal.choice-returns-in_err-condition
+choice-returns-in_err-condition t c =
+    let e = c.from_residual.ensures.0 in record { is = fails _ _ e; lowered = fails _ _ e; spends = fails _ _ e }
 
-pub statement-returns-in-Break-clause-is : goal.statement-returns-in-Break-clause-is
-statement-returns-in-Break-clause-is t c = IfOk-weaker c.jump_out.result _ _
-    (λ q h. states_break _ c.requires.ordered c.requires.scene.ready.ordered
-    (record { node = _; there = c.in-Some.ensures; is = c.in-Break.is }) h) c.jump_out.ensures.is
+pub choice-returns-in_err-statement : goal.choice-returns-in_err-statement
+choice-returns-in_err-statement t c =
+    let e = c.from_residual-in_err-statement.ensures.0 in
+    record {
+      is = fails _ _ e;
+      lowered = fails _ _ e;
+      spends = fails _ _ e;
+    }
 
-pub statement-returns-in-Continue-clause-is : goal.statement-returns-in-Continue-clause-is
-statement-returns-in-Continue-clause-is t c = IfOk-weaker c.jump_out-in-Continue.result _ _
-    (λ q h. states_continue _ c.requires.ordered c.requires.scene.ready.ordered
-    (record { node = _; there = c.in-Some.ensures; is = c.in-Continue.is }) h) c.jump_out-in-Continue.ensures.is
+pub choice-returns-in_err-turn_fork : goal.choice-returns-in_err-turn_fork
+choice-returns-in_err-turn_fork t c =
+    let e = c.from_residual-in_err-turn_fork.ensures.0 in
+    record {
+      is = fails _ _ e;
+      lowered = fails _ _ e;
+      spends = fails _ _ e;
+    }
 
-pub statement-returns-in-Some-b-clause-is : goal.statement-returns-in-Some-b-clause-is
-statement-returns-in-Some-b-clause-is t c = IfOk-weaker c.choice.result _ _
-    (λ q h. h (record {
-      node = _;
-      there = c.in-Some.ensures;
-      is = c.in-If.is
-          ∙ ap (stmts.If c.in-If.c c.in-If.a) c.in-Some-b.is;
-    })
-    (test_scalar (chooses (frame_of c.args.cx.p.now c.args.cx.d.now) c.args.k c.in-Some.s.now
-    c.requires.scene.ready.ordered c.in-Some.ensures c.requires.part c.in-If.is).test)) c.choice.ensures.is
+pub choice-returns-in_err-statement-2 : goal.choice-returns-in_err-statement-2
+choice-returns-in_err-statement-2 t c =
+    let e = c.from_residual-in_err-statement-2.ensures.0 in
+    record {
+      is = fails _ _ e;
+      lowered = fails _ _ e;
+      spends = fails _ _ e;
+    }
 
-pub statement-returns-in-None-clause-is : goal.statement-returns-in-None-clause-is
-statement-returns-in-None-clause-is t c = IfOk-weaker c.guarded.result _ _
-    (λ q h. h c.args.k (record {
-      node = _;
-      there = c.in-Some.ensures;
-      is = c.in-If.is
-          ∙ ap (stmts.If c.in-If.c c.in-If.a) c.in-None.is;
-    })
-    (test_scalar (chooses (frame_of c.args.cx.p.now c.args.cx.d.now) c.args.k c.in-Some.s.now
-    c.requires.scene.ready.ordered c.in-Some.ensures c.requires.part c.in-If.is).test)) c.guarded.ensures.is
+pub guarded-returns-in_err-condition : goal.guarded-returns-in_err-condition
+guarded-returns-in_err-condition t c =
+    let e = c.from_residual.ensures.0 in record { is = fails _ _ e; lowered = fails _ _ e; spends = fails _ _ e }
 
-pub statement-returns-in-Do-clause-is : goal.statement-returns-in-Do-clause-is
-statement-returns-in-Do-clause-is t c = IfOk-weaker c.repeated_loop.result _ _
-    (λ q h. h c.args.k (exits_as c.args.exits) (record { node = _; there = c.in-Some.ensures; is = c.in-Do.is })
-    (test_scalar (does (frame_of c.args.cx.p.now c.args.cx.d.now) c.args.k c.in-Some.s.now
-    c.requires.scene.ready.ordered c.in-Some.ensures c.requires.part c.in-Do.is).test)) c.repeated_loop.ensures.is
+pub guarded-returns-in_err-statement : goal.guarded-returns-in_err-statement
+guarded-returns-in_err-statement t c =
+    let e = c.from_residual-in_err-statement.ensures.0 in
+    record {
+      is = fails _ _ e;
+      lowered = fails _ _ e;
+      spends = fails _ _ e;
+    }
 
-pub statement-returns-in-While-clause-is : goal.statement-returns-in-While-clause-is
-statement-returns-in-While-clause-is t c = IfOk-weaker c.tested_loop.result _ _
-    (λ q h. states_while _ c.requires.ordered c.requires.scene.ready.ordered
-    (record { node = _; there = c.in-Some.ensures; is = c.in-While.is })
-    (test_scalar (whiles (frame_of c.args.cx.p.now c.args.cx.d.now) c.args.k c.in-Some.s.now
-    c.requires.scene.ready.ordered c.in-Some.ensures c.requires.part c.in-While.is).test) h) c.tested_loop.ensures.is
+pub statements-returns-in_err-statement : goal.statements-returns-in_err-statement
+statements-returns-in_err-statement t c =
+    let e = c.from_residual.ensures.0 in record { is = fails _ _ e; lowered = fails _ _ e; spends = fails _ _ e }
 
-pub statement-returns-in-Return-clause-is : goal.statement-returns-in-Return-clause-is
-statement-returns-in-Return-clause-is t c = IfOk-weaker c.leave.result _ _
-    (λ q h. h (exits_as c.args.exits) (record { node = _; there = c.in-Some.ensures; is = c.in-Return.is }))
-    c.leave.ensures.is
-
-pub statement-returns-in_ok-block-in-For-clause-is : goal.statement-returns-in_ok-block-in-For-clause-is
-statement-returns-in_ok-block-in-For-clause-is t c = IfOk-weaker c.tested_loop-in-For.result _ _
-    (λ q h. states_counted _ c.requires.ordered c.requires.scene.ready.ordered
-    (record {
-      node = _;
-      there = c.in-Some.ensures;
-      is = c.in-For.is
-          ∙ ap (λ z. stmts.For z c.in-For.first c.in-For.test c.in-For.step c.in-For.body)
-          (sym c.as_slice-in-For.ensures)
-          ∙ ap (λ z. stmts.For c.as_slice-in-For.result.now z c.in-For.test c.in-For.step c.in-For.body)
-          (sym c.as_slice-in-For-2.ensures);
-    })
-    (test_scalar_if_any c.in-For.test (fors (frame_of c.args.cx.p.now c.args.cx.d.now) c.args.k c.in-Some.s.now
-    c.requires.scene.ready.ordered c.in-Some.ensures c.requires.part c.in-For.is).test_fits)
-    c.in_ok-block-in-For.ensures.is h) c.tested_loop-in-For.ensures.is
-
-pub statements-returns-clause-is : goal.statements-returns-clause-is
-statements-returns-clause-is t c =
-    states_same (routine c.args.cx) c.requires.ordered c.requires.scene.ready.ordered (exits_as c.args.exits)
-    (take_all c.loop-s.s-index c.args.body.now (omega arith)) c.loop-s.invariant.is
-
-pub switch-returns-clause-is : goal.switch-returns-clause-is
-switch-returns-clause-is t c = IfOk-weaker c.stand.result _ _
-    (λ q h n scalar. states_switch (routine c.args.cx) c.requires.ordered c.requires.scene.ready.ordered n scalar
-    (ap or_int scalar.is.is) refl c.requires.scene.housed c.requires.there
-    (switch_same (routine c.args.cx) c.requires.ordered c.requires.scene.ready.ordered
-    (take_all c.loop-s.s-index c.args.body.now (omega arith)) c.loop-s.invariant.is)
-    c.in_ok-stand_behind.ensures.is h) c.stand.ensures.stands
-
-pub statement-returns-in-Switch-clause-is : goal.statement-returns-in-Switch-clause-is
-statement-returns-in-Switch-clause-is t c = IfOk-weaker c.switch.result _ _
-    (λ q h. h (record {
-      node = _;
-      there = c.in-Some.ensures;
-      is = c.in-Switch.is
-          ∙ ap (λ z. stmts.Switch c.in-Switch.on z c.in-Switch.labels c.in-Switch.body)
-          (sym c.as_slice-in-Switch.ensures)
-          ∙ ap (λ z. stmts.Switch c.in-Switch.on c.as_slice-in-Switch.result.now z c.in-Switch.body)
-          (sym c.as_slice-in-Switch-2.ensures)
-          ∙ ap (stmts.Switch c.in-Switch.on c.as_slice-in-Switch.result.now c.as_slice-in-Switch-2.result.now)
-          (sym c.as_slice-in-Switch-3.ensures);
-    })
-    (integer_scalar (switches (frame_of c.args.cx.p.now c.args.cx.d.now) c.args.k c.in-Some.s.now
-    c.requires.scene.ready.ordered c.in-Some.ensures c.requires.part c.in-Switch.is).integer)) c.switch.ensures.is
-
-pub statement-returns-in-Init-clause-is : goal.statement-returns-in-Init-clause-is
-statement-returns-in-Init-clause-is t c =
-    let p = c.args.cx.p.now in
-    let part = initialises (frame_of p c.args.cx.d.now) c.args.k c.in-Some.s.now c.requires.scene.ready.ordered
-    c.in-Some.ensures c.requires.part c.in-Init.is in
-    IfOk-weaker c.initialise.result _ _
-    (λ q h. states_init (routine c.args.cx) c.requires.ordered c.requires.scene.ready.ordered
-    (record { node = _; there = c.in-Some.ensures; is = c.in-Init.is }) (given_in (type_in p c.args.cx.d.now.of))
-    part.value (h c.requires.fits)) c.initialise.ensures.is
+pub block-returns-in_err-enter : goal.block-returns-in_err-enter
+block-returns-in_err-enter t c =
+    let e = c.from_residual.ensures.0 in record { is = fails _ _ e; lowered = fails _ _ e; spends = fails _ _ e }

@@ -1,3 +1,5 @@
+use Rattle.std.proofs.lemmas.Result.{IfOk-from_err as fails}
+use Rattle.std.proofs.lemmas.Option.{slice_get-get_or}
 use Rattle.std.proofs.Common.{arith}
 use Rattle.std.proofs.lemmas.List.{take_more, take_all}
 use Rattle.tac_lower.proofs.Sites.{entered_none, entered_same, entered_more}
@@ -34,15 +36,20 @@ loop-x-preserved c =
           c.in_ok-enter_variable.ensures.is;
     }
 
-pub returns-clause-lowered : goal.returns-clause-lowered
-returns-clause-lowered c = c.loop-x.invariant.lowered
+pub returns : goal.returns
+returns c =
+    record {
+      lowered = c.loop-x.invariant.lowered;
+      spent = (let all = entered_taken c.args.cx.d.now c.args.vars.now c.loop-x.x-index in
+          enters_within c.loop-x.invariant.spent (omega arith) (omega (arith, all)) (omega arith)
+          (λ v. omega (arith, zeroed_some c.args.cx.d.now c.args.cx.homes.now c.args.vars.now c.loop-x.x-index v)));
+      is = entered_same _ (take_all c.loop-x.x-index c.args.vars.now (omega arith)) c.loop-x.invariant.is;
+    }
 
-pub returns-clause-spent : goal.returns-clause-spent
-returns-clause-spent c =
-    let all = entered_taken c.args.cx.d.now c.args.vars.now c.loop-x.x-index in
-    enters_within c.loop-x.invariant.spent (omega arith) (omega (arith, all)) (omega arith)
-    (λ v. omega (arith, zeroed_some c.args.cx.d.now c.args.cx.homes.now c.args.vars.now c.loop-x.x-index v))
+pub enter_variable-requires-clause-there : goal.enter_variable-requires-clause-there
+enter_variable-requires-clause-there c =
+    c.requires.there _ _ (slice_get-get_or c.args.vars.now c.loop-x.x-index 0 c.loop-x-test.true)
 
-pub returns-clause-is : goal.returns-clause-is
-returns-clause-is c =
-    entered_same _ (take_all c.loop-x.x-index c.args.vars.now (omega arith)) c.loop-x.invariant.is
+pub returns-in_err-enter_variable : goal.returns-in_err-enter_variable
+returns-in_err-enter_variable c =
+    let e = c.from_residual.ensures.0 in record { is = fails _ _ e; lowered = fails _ _ e; spent = fails _ _ e }

@@ -36,16 +36,26 @@ pub store-requires-clause-value : goal.store-requires-clause-value
 store-requires-clause-value c = as_kind (kept _ _ _ _ c.in_ok-v.ensures.has c.in_ok-at.ensures.grown)
     (sym (c.kind.ensures c.requires.scene.ready))
 
-pub returns-clause-lowered : goal.returns-clause-lowered
-returns-clause-lowered c =
-    tail_grew _ _ c.store.result (grew c.in_ok-v.ensures.lowered c.in_ok-at.ensures.grown c.in_ok-at.ensures.adds)
-    c.store.ensures.grown c.store.ensures.adds (omega arith)
-
-pub returns-clause-spends : goal.returns-clause-spends
-returns-clause-spends c =
-    last_and _ _ _ _ c.store.result (and c.in_ok-v.ensures.spends c.in_ok-at.ensures.spent) c.store.ensures.spent
-    (omega (arith, heavy (expression c.args.cx.p.now c.args.a)))
-    (omega (arith, heavy (expression c.args.cx.p.now c.args.a))) (omega arith)
+pub returns : goal.returns
+returns c =
+    record {
+      lowered = tail_grew _ _ c.store.result (grew c.in_ok-v.ensures.lowered c.in_ok-at.ensures.grown
+          c.in_ok-at.ensures.adds)
+          c.store.ensures.grown c.store.ensures.adds (omega arith);
+      spends = last_and _ _ _ _ c.store.result (and c.in_ok-v.ensures.spends c.in_ok-at.ensures.spent)
+          c.store.ensures.spent
+          (omega (arith, heavy (expression c.args.cx.p.now c.args.a)))
+          (omega (arith, heavy (expression c.args.cx.p.now c.args.a))) (omega arith);
+      is = (let r = c.requires.scene.ready in
+          let there = typed_there (frame_of c.args.cx.p.now c.args.cx.d.now) c.args.a r.ordered c.requires.typed in
+          let fits = c.facts-facts.ensures.fits there.0 r there.1 in
+          IfOk-weaker c.store.result _ _
+          (λ q h x n at. init_part (routine c.args.cx) c.requires.ordered r.ordered x c.args.offset c.args.a at
+          (λ is. absurd (let no : true ≡ false = sym is
+          ∙ ap (λ z. is_record (bare c.args.cx.p.now.types (type_of z))) there.1 ∙ sym fits.is_record ∙
+          c.if-facts.false
+          in cc)) c.in_ok-v.ensures.is c.in_ok-at.ensures.is (c.kind.ensures r) h) c.store.ensures.emits);
+    }
 
 pub returns-then-facts-clause-spends : goal.returns-then-facts-clause-spends
 returns-then-facts-clause-spends c =
@@ -67,14 +77,3 @@ returns-then-facts-clause-is c =
       c.unit.ensures ∙ sized.1,
     )) h)
     c.struct_copy.ensures.is
-
-pub returns-clause-is : goal.returns-clause-is
-returns-clause-is c =
-    let r = c.requires.scene.ready in
-    let there = typed_there (frame_of c.args.cx.p.now c.args.cx.d.now) c.args.a r.ordered c.requires.typed in
-    let fits = c.facts-facts.ensures.fits there.0 r there.1 in
-    IfOk-weaker c.store.result _ _
-    (λ q h x n at. init_part (routine c.args.cx) c.requires.ordered r.ordered x c.args.offset c.args.a at
-    (λ is. absurd (let no : true ≡ false = sym is
-    ∙ ap (λ z. is_record (bare c.args.cx.p.now.types (type_of z))) there.1 ∙ sym fits.is_record ∙ c.if-facts.false
-    in cc)) c.in_ok-v.ensures.is c.in_ok-at.ensures.is (c.kind.ensures r) h) c.store.ensures.emits

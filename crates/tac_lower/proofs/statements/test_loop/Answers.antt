@@ -10,13 +10,13 @@ use Rattle.std.proofs.lemmas.Result.{IfOk-weaker}
 use Rattle.tac_lower.proofs.Stated.{states_tested, states_untested}
 use Rattle.tac_lower.proofs.statements.test_loop.Goals as goal
 
-pub returns-in-None-clause-lowered : goal.returns-in-None-clause-lowered
-returns-in-None-clause-lowered c =
-    at_most (start c.requires.scene) (omega arith)
-
-pub returns-in-None-clause-spends : goal.returns-in-None-clause-spends
-returns-in-None-clause-spends c =
-    within nothing (omega arith) (omega arith) (omega arith)
+pub returns-in-None : goal.returns-in-None
+returns-in-None c =
+    record {
+      lowered = at_most (start c.requires.scene) (omega arith);
+      spends = within nothing (omega arith) (omega arith) (omega arith);
+      is = states_untested (routine c.args.cx) c.requires.ordered c.requires.scene.ready.ordered c.in-None.is;
+    }
 
 pub condition-requires-clause-typed : goal.condition-requires-clause-typed
 condition-requires-clause-typed c = c.requires.typed.each c.in-Some.c c.in-Some.is
@@ -26,23 +26,17 @@ condition-requires-clause-room c =
     let w = ap (or_none (weight_in c.args.cx.p.now)) c.in-Some.is in
     less_room c.requires.room (omega arith)
 
-pub returns-in-Some-clause-lowered : goal.returns-in-Some-clause-lowered
-returns-in-Some-clause-lowered c =
-    let w = ap (or_none (weight_in c.args.cx.p.now)) c.in-Some.is in
-    at_most_ok _ _ _ _ _ _ _ _ c.condition.result c.condition.ensures.lowered (omega arith)
-
-pub returns-in-Some-clause-spends : goal.returns-in-Some-clause-spends
-returns-in-Some-clause-spends c =
-    let w = ap (or_none (weight_in c.args.cx.p.now)) c.in-Some.is in
-    let few = ap (or_none (copies_in c.args.cx.p.now)) c.in-Some.is in
-    let one = heavy (expression c.args.cx.p.now c.in-Some.c) in
-    last _ _ _ _ c.condition.result nothing c.condition.ensures.spends (omega arith) (omega arith) (omega arith)
-
-pub returns-in-None-clause-is : goal.returns-in-None-clause-is
-returns-in-None-clause-is c =
-    states_untested (routine c.args.cx) c.requires.ordered c.requires.scene.ready.ordered c.in-None.is
-
-pub returns-in-Some-clause-is : goal.returns-in-Some-clause-is
-returns-in-Some-clause-is c = IfOk-weaker c.condition.result _ _
-    (λ q h. states_tested (routine c.args.cx) c.requires.ordered c.requires.scene.ready.ordered c.in-Some.is h)
-    c.condition.ensures.is
+pub returns-in-Some : goal.returns-in-Some
+returns-in-Some c =
+    record {
+      lowered = (let w = ap (or_none (weight_in c.args.cx.p.now)) c.in-Some.is in
+          at_most_ok _ _ _ _ _ _ _ _ c.condition.result c.condition.ensures.lowered (omega arith));
+      spends = (let w = ap (or_none (weight_in c.args.cx.p.now)) c.in-Some.is in
+          let few = ap (or_none (copies_in c.args.cx.p.now)) c.in-Some.is in
+          let one = heavy (expression c.args.cx.p.now c.in-Some.c) in
+          last _ _ _ _ c.condition.result nothing c.condition.ensures.spends (omega arith) (omega arith) (omega
+          arith));
+      is = IfOk-weaker c.condition.result _ _
+          (λ q h. states_tested (routine c.args.cx) c.requires.ordered c.requires.scene.ready.ordered c.in-Some.is h)
+          c.condition.ensures.is;
+    }

@@ -68,7 +68,8 @@ loop-l-preserved c =
       switched = switched_kept _ _ _ (keeps_then _ _ _ (keeps_same _ _ made.kinds) grown.keeps)
           c.loop-l.invariant.switched;
       otherwise = elim c.if-is_none.branch [
-        | then-is_none w ↦ subst (λ z. IsOpen b z) (sym w.otherwise-is) (open_grown (open_here so_far.scene made) grown)
+        | then-is_none w ↦ subst (λ z. IsOpen b z) (sym w.otherwise-is) (open_grown (open_here so_far.scene made)
+            grown)
         | else-is_none w ↦ subst (λ z. IsOpen b z) (sym w.otherwise-is)
             (open_grown (open_beside so_far.scene c.loop-l.invariant.otherwise made) grown)
       ];
@@ -87,20 +88,20 @@ loop-l-preserved c =
           c.in_ok-push.ensures.items;
     }
 
-pub returns-clause-opened : goal.returns-clause-opened
-returns-clause-opened c =
-    let at_end = opened_grown c.loop-l.invariant.opened c.in_ok-jump.ensures.grown c.in_ok-jump.ensures.adds in
-    opened_at_most
-    (opened_permuted _ _ at_end (IsPermutation-map (λ (k : Case). k.label) _ _ c.in_ok-sort_by_key.ensures.permutation))
-    (omega arith)
-
-pub returns-clause-spent : goal.returns-clause-spent
-returns-clause-spent c = spent_within (spent_then c.loop-l.invariant.spent c.in_ok-jump.ensures.spent) (omega arith)
-    (omega arith)
-
-pub returns-clause-is : goal.returns-clause-is
-returns-clause-is c = shows_cases _ c.loop-l.invariant.is
-    (ap labels_as (sym (take_all c.loop-l.l-index c.args.labels.now (omega arith)))) c.in_ok-jump.ensures.emits
-    (IsNonDecreasingBy-from_sort_by_key (λ (c : Case). c.before) _ c.in_ok-sort_by_key.ensures.sorted
-    (λ a r q k. search rules))
-    (c.sort_by_key.ensures.stable (λ (c : Case). c.before) (answers_always _ _ _ (λ f a r g h. search rules)))
+pub returns : goal.returns
+returns c =
+    record {
+      opened = (let at_end = opened_grown c.loop-l.invariant.opened c.in_ok-jump.ensures.grown
+          c.in_ok-jump.ensures.adds in
+          opened_at_most
+          (opened_permuted _ _ at_end (IsPermutation-map (λ (k : Case). k.label) _ _
+          c.in_ok-sort_by_key.ensures.permutation))
+          (omega arith));
+      spent = spent_within (spent_then c.loop-l.invariant.spent c.in_ok-jump.ensures.spent) (omega arith)
+          (omega arith);
+      is = shows_cases _ c.loop-l.invariant.is
+          (ap labels_as (sym (take_all c.loop-l.l-index c.args.labels.now (omega arith)))) c.in_ok-jump.ensures.emits
+          (IsNonDecreasingBy-from_sort_by_key (λ (c : Case). c.before) _ c.in_ok-sort_by_key.ensures.sorted
+          (λ a r q k. search rules))
+          (c.sort_by_key.ensures.stable (λ (c : Case). c.before) (answers_always _ _ _ (λ f a r g h. search rules)));
+    }

@@ -12,14 +12,15 @@ returns-in-None-clause-offset c = λ k.
     (ap (λ z. bare z c.args.t) (sym c.as_slice.ensures) ∙ c.in-None.ensures)
     ∙ sym (ap offset_or_zero (none_before go k no_members))
 
-pub returns-in-Some-clause-offset : goal.returns-in-Some-clause-offset
-returns-in-Some-clause-offset c = λ k.
-    let go = extent c.args.p.now.types in
-    ap (λ o. offset_or_zero (offset_of_member o go k))
-    (ap (λ z. bare z c.args.t) (sym c.as_slice.ensures) ∙ c.in-Some.ensures)
-    ∙ c.members_of.ensures.offset go k
-
-pub returns-in-Some-clause-among : goal.returns-in-Some-clause-among
-returns-in-Some-clause-among c = λ k m h.
-    ap (λ o. slice_get (members_of o) k) (ap (λ z. bare z c.args.t) (sym c.as_slice.ensures) ∙ c.in-Some.ensures)
-    ∙ c.members_of.ensures.among k m h
+pub returns-in-Some : goal.returns-in-Some
+returns-in-Some c =
+    record {
+      offset = (λ k.
+          let go = extent c.args.p.now.types in
+          ap (λ o. offset_or_zero (offset_of_member o go k))
+          (ap (λ z. bare z c.args.t) (sym c.as_slice.ensures) ∙ c.in-Some.ensures)
+          ∙ c.members_of.ensures.offset go k);
+      among = (λ k m h.
+          ap (λ o. slice_get (members_of o) k) (ap (λ z. bare z c.args.t) (sym c.as_slice.ensures) ∙ c.in-Some.ensures)
+          ∙ c.members_of.ensures.among k m h);
+    }

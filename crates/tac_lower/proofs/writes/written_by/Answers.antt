@@ -11,11 +11,12 @@ loop-k-preserved c =
     c.loop-k.invariant ∙ written_next (written_in c.args.table.now) _ c.loop-k.w ks i (get_or ks i 0)
     c.loop-k-test.true (item ks i 0 c.loop-k-test.true) (c.and-w.ensures ∙ ap (both c.loop-k.w) c.written_at.ensures)
 
-pub returns-clause-is : goal.returns-clause-is
-returns-clause-is c = sym (c.loop-k.invariant ∙ written_past (written_in c.args.table.now) c.loop-k.w c.args.ks.now
-    c.loop-k.k-index c.loop-k-test.false)
-
-pub returns-clause-spares : goal.returns-clause-spares
-returns-clause-spares c = written_spares c.args.table.now c.loop-k.w c.args.ks.now
-    (sym (c.loop-k.invariant ∙ written_past (written_in c.args.table.now) c.loop-k.w c.args.ks.now
-    c.loop-k.k-index c.loop-k-test.false))
+pub returns : goal.returns
+returns c =
+    record {
+      is = sym (c.loop-k.invariant ∙ written_past (written_in c.args.table.now) c.loop-k.w c.args.ks.now
+          c.loop-k.k-index c.loop-k-test.false);
+      spares = written_spares c.args.table.now c.loop-k.w c.args.ks.now
+          (sym (c.loop-k.invariant ∙ written_past (written_in c.args.table.now) c.loop-k.w c.args.ks.now
+          c.loop-k.k-index c.loop-k-test.false));
+    }

@@ -1,4 +1,4 @@
-use Rattle.std.proofs.lemmas.Result.{IfOk-weaker}
+use Rattle.std.proofs.lemmas.Result.{IfOk-weaker, IfOk-from_err as fails}
 use Rattle.tac_lower.proofs.Emitting.{turn_emits}
 use Rattle.tac_lower.proofs.emitter.Emitter.turn_fork.Goals as goal
 
@@ -13,3 +13,13 @@ returns-clause-turned c =
 pub returns-clause-emits : goal.returns-clause-emits
 returns-clause-emits c =
     IfOk-weaker c.stand.result _ _ (λ r g. turn_emits _ _ _ _ _ c.in_ok-jump.ensures.emits g) c.stand.ensures.stands
+
+pub returns-in_err-jump : goal.returns-in_err-jump
+returns-in_err-jump c =
+    let e = c.from_residual.ensures.0 in
+    record {
+      adds = fails _ _ e;
+      emits = fails _ _ e;
+      spent = fails _ _ e;
+      turned = fails _ _ e;
+    }
