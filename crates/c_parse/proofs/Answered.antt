@@ -11,7 +11,7 @@ use Rattle.c_parse.specs.declared.cursor.Parts.{Parts}
 use Rattle.c_parse.specs.declared.cursor.Stop.{Stop}
 use Rattle.c_parse.specs.declared.cursor.Stop.TheVariants.{NoMemory, NoTree}
 use Rattle.c_parse.specs.Reading
-use Rattle.c_parse.specs.Reading.{◌>>=◌, Names, Parsed, ParsedParts, Reader}
+use Rattle.c_parse.specs.Reading.{Names, Parsed, ParsedParts}
 use Rattle.c_parse.specs.Got.{Grows, Got, GotParts, Fails}
 use Rattle.c_parse.specs.Runs.{grown}
 use Rattle.c_parse.proofs.Made.{grows_on}

@@ -1,11 +1,10 @@
 -- Reading all tokens of a file once.
-use Rattle.std.proofs.Common.{◌≡◌, ℕ, zero, suc, ◌+◌, ◌≤◌, ◌<◌, List, [], ◌∷◌, ◌++◌, length, Option, Some, None, refl}
-use Rattle.std.proofs.Common.{ap, sym, subst, ◌∙◌, arith, length-append, append_assoc, append-nil, inl, inr}
-use Rattle.std.specs.Prelude.{slice_get, ◌⊎◌}
-use Rattle.std.proofs.lemmas.List.{length_push}
+use Rattle.std.proofs.Common.{◌≡◌, ℕ, zero, suc, ◌+◌, ◌≤◌, ◌<◌, List, [], ◌∷◌, ◌++◌, length, Some, refl}
+use Rattle.std.proofs.Common.{ap, sym, subst, ◌∙◌, arith, length-append, append_assoc, append-nil, inl}
+use Rattle.std.specs.Prelude.{slice_get}
 use Rattle.ck_base.specs.declared.positions.Pos.{Pos}
 use Rattle.ck_base.specs.Tokens.{Lexeme}
-use Rattle.ck_base.specs.Lexes.{Reads, NextToken, NextEnd, Lexes}
+use Rattle.ck_base.specs.Lexes.{Reads, NextToken}
 use Rattle.c_lex.proofs.OneReading.{Reads-push}
 use Rattle.c_tree.specs.File.{IsTokenPlace}
 use Rattle.c_lex.specs.Reader.{Reader}

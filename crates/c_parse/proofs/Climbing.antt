@@ -15,7 +15,7 @@ use Rattle.c_parse.specs.declared.cursor.Parts.{Parts}
 use Rattle.c_parse.specs.declared.cursor.Stop.{Stop}
 use Rattle.c_parse.specs.declared.steps.Step.{Step}
 use Rattle.c_parse.specs.Reading
-use Rattle.c_parse.specs.Reading.{◌>>=◌, Names, Parsed, ParsedParts, Reader, level, level_of, goes_on, starts}
+use Rattle.c_parse.specs.Reading.{◌>>=◌, Names, ParsedParts, Reader, level, level_of, goes_on, starts}
 use Rattle.c_parse.specs.Reading.{goes_on_listing, past}
 use Rattle.c_parse.specs.Got.{Means, Holds, Grows, Got, GotParts, Fails, rest_of, kind_of, after}
 use Rattle.c_parse.specs.Steps.{run, follow_from}

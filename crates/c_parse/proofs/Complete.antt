@@ -17,8 +17,8 @@ use Rattle.c_tree.specs.Syntax.{highest}
 use Rattle.c_tree.specs.Symbols.{symbol, head_of, tail_of, infix_level, operand_level}
 use Rattle.c_tree.specs.Grammar
 use Rattle.c_tree.specs.Grammar.{is_word, is_typedef_name, Naming, Plain, Any, Nameless, Either, is_declared_by}
-use Rattle.c_tree.specs.Grammar.{may_be_nameless, names_type, has_any, is_agreed, names_a_type}
-use Rattle.c_tree.specs.Grammar.{begins_with_typedef_name, may_follow, is_typedef_node, Tags, Trails, Goal, Expression}
+use Rattle.c_tree.specs.Grammar.{may_be_nameless, names_type, has_any, names_a_type}
+use Rattle.c_tree.specs.Grammar.{may_follow, is_typedef_node, Tags, Trails, Goal, Expression}
 use Rattle.c_tree.specs.Grammar.{Piece, TypeName, Specifiers, Specifier, Member, Enumerator, Qualifier, Declarator}
 use Rattle.c_tree.specs.Grammar.{Parameter, Initializer, Derives, Declares, Repeated, Separated, Listed}
 use Rattle.c_parse.specs.Reading
@@ -26,8 +26,8 @@ use Rattle.c_parse.specs.Reading.{◌>>=◌, Names, Parsed, Reader, is_open_pare
 use Rattle.c_parse.specs.Reading.{is_open_bracket, is_close_bracket, is_open_brace, is_close_brace, is_comma}
 use Rattle.c_parse.specs.Reading.{is_semicolon, is_colon, is_star, is_text, is_equals, begins_specifier}
 use Rattle.c_parse.specs.Reading.{begins_declarator, qualifier_of, starts_with, starts, past, expect, begins_type}
-use Rattle.c_parse.specs.Reading.{goes_on_specifying, opens_type, opens_parameters, goes_on_listing, past_comma}
-use Rattle.c_parse.specs.Reading.{level_of, level, goes_on, parts_of, pieces, qualified, qualifiers, tag, with_parts}
+use Rattle.c_parse.specs.Reading.{goes_on_specifying, opens_parameters, goes_on_listing}
+use Rattle.c_parse.specs.Reading.{level, goes_on, parts_of, pieces, qualified, qualifiers, tag, with_parts}
 use Rattle.c_parse.proofs.Tools.{both_true, not_true, or_false, or_assoc, behind, then_is, else_is, bind_is}
 use Rattle.c_parse.proofs.Symbols.{word_is}
 use Rattle.c_parse.proofs.Sound.{level_low, opened, highest_joined}
@@ -351,7 +351,8 @@ module _ (types : Names) (rec : Reader) (h : ℕ) (whole : Complete rec h) where
             (let j = repeated_number types Member (members_headed types) ds in
             let l = length-append n (o ∷ ((b ++ d) ++ (c ∷ r))) in let u = length-append (b ++ d) (c ∷ r) in
             let v = length-append b d in omega arith))
-            ∙ expects_is is_close_brace c _ r (λ rest. Some (node (Kinds.Record k) t (joined ns (more x xs)), rest)) q refl;
+            ∙ expects_is is_close_brace c _ r (λ rest. Some (node (Kinds.Record k) t (joined ns (more x xs)), rest)) q
+            refl;
       }
   specifier_is (Grammar.enum_tag t n e f) low r brace = record {
     token = t;
@@ -938,7 +939,8 @@ module _ (types : Names) (rec : Reader) (h : ℕ) (whole : Complete rec h) where
       by (Firsts.stars o a b {qs} {xs} e ds d) low =
           then_is _ (ap is_star e)
           ∙ ap (λ (p : Syns × List Lexeme). Reading.optional_declarator rec m types p.1
-          >>= λ d. let q : Syn × List Lexeme = (node Kinds.Pointer o (more (node Kinds.Qualifiers o p.0) d.0), d.1) in Some q)
+          >>= λ d. let q : Syn × List Lexeme = (node Kinds.Pointer o (more (node Kinds.Qualifiers o p.0) d.0), d.1) in
+          Some q)
           (ap qualifiers (append_assoc a b r) ∙ qualifiers_are ds (b ++ r) (no_more_qualifiers d r stop))
           ∙ bind_is _ (optional_declarator_is types rec h whole m d (omega arith) r stop)
 

@@ -22,10 +22,10 @@ use Rattle.c_tree.specs.Syntax.{Syn, Syns, node, nil, more, one}
 use Rattle.c_tree.specs.Symbols.{symbol, head_of, tail_of, infix_level, operand_level}
 use Rattle.c_tree.specs.Grammar
 use Rattle.c_tree.specs.Grammar.{is_word, is_typedef_name, Naming, Plain, Any, Nameless, Either, is_declared_by}
-use Rattle.c_tree.specs.Grammar.{may_be_nameless, names_type, has_any, is_agreed, names_a_type}
-use Rattle.c_tree.specs.Grammar.{begins_with_typedef_name, may_follow, is_typedef_node, count, Goal, Expression, Piece}
+use Rattle.c_tree.specs.Grammar.{may_be_nameless, names_type, has_any, is_agreed}
+use Rattle.c_tree.specs.Grammar.{is_typedef_node, count, Goal, Expression}
 use Rattle.c_tree.specs.Grammar.{TypeName, Specifiers, Specifier, Member, Enumerator, Qualifier, Declarator, Parameter}
-use Rattle.c_tree.specs.Grammar.{Initializer, Derives, Declares, Repeated, Separated, Listed}
+use Rattle.c_tree.specs.Grammar.{Initializer, Derives, Declares, Repeated}
 use Rattle.c_parse.specs.Reading.{Names, is_open_parenthesis, is_close_parenthesis, is_close_bracket, is_open_brace}
 use Rattle.c_parse.specs.Reading.{is_close_brace, is_semicolon, is_star, is_text, begins_specifier, begins_declarator}
 use Rattle.c_parse.specs.Reading.{starts_with, starts, begins_type, goes_on_specifying, opens_type, level, goes_on}
@@ -228,13 +228,12 @@ stops_by (Tails.Assigns p) l m le e = ap (λ v. v && nat_le 14 m) (shut_le l 1 (
 stops_by Tails.Ends l m le e = refl
 stops_by _ l m le e = absurd (omega arith)
 
+pull_tail : (s : Symbol) (l : ℕ) → pull s ≤ l → pull_by (tail_of s) ≤ l
+pull_tail Symbols.Text l e = omega arith
+pull_tail _ l e = e
+
 pub stops_here : (s : Symbol) (l m : ℕ) → l ≤ 15 → pull s ≤ l → goes_on (tail_of s) l m ≡ false
-stops_here Symbols.Text l m le e = refl
-stops_here s l m le e = stops_by (tail_of s) l m le (by s e)
-  where
-    by : (s : Symbol) → pull s ≤ l → pull_by (tail_of s) ≤ l
-    by Symbols.Text e = omega arith
-    by _ e = e
+stops_here s l m le e = stops_by (tail_of s) l m le (pull_tail s l e)
 
 pub no_text : (r : List Lexeme) → pull_of r ≤ 16 → starts is_text r ≡ false
 no_text [] e = refl
@@ -691,11 +690,7 @@ ends_before {types} {m} nameless d named r quiet = by (lead d)
 
 declaring_begins : (s : Symbol) → goes_on_declaring s ≡ false → begins_declarator s ≡ false
 declaring_begins (Symbols.Specifier w) e = refl
-declaring_begins s e = by s e
-  where
-    by : (s : Symbol) → goes_on_declaring s ≡ false → begins_declarator s ≡ false
-    by (Symbols.Specifier w) e = refl
-    by _ e = e
+declaring_begins _ e = e
 
 pub declaring_off : (r : List Lexeme) → starts goes_on_declaring r ≡ false → starts begins_declarator r ≡ false
 declaring_off [] e = refl

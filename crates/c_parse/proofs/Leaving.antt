@@ -7,7 +7,7 @@ use Rattle.ck_base.specs.Lexes.{Reads, NextToken, NextRefusal, NextEnd}
 use Rattle.c_lex.proofs.OneReading.{one_token, token_not_end, token_not_refused, refused_not_end}
 use Rattle.c_parse.specs.Reading.{past}
 use Rattle.c_parse.specs.OneRest.{lexemes_set}
-use Rattle.c_parse.specs.Left.{Leaves, Left, leaves_once, ahead, IsAhead}
+use Rattle.c_parse.specs.Left.{Leaves, ahead, IsAhead}
 
 is_first : (file : List ℕ) (i : ℕ) (tokens : List Lexeme) (k : ℕ) (token : Lexeme) → Reads file i tokens k →
     NextEnd file k → NextToken file i token → tokens ≡ token ∷ past tokens

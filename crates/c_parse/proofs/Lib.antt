@@ -26,3 +26,4 @@ pub mod Declarators
 pub mod Followed
 pub mod Checking
 pub mod Leaving
+pub mod Paying

@@ -24,17 +24,17 @@ use Rattle.c_tree.specs.Symbols.{symbol, head_of, tail_of, infix_level, operand_
 use Rattle.c_tree.specs.Grammar
 use Rattle.c_tree.specs.Grammar.{is_word, is_typedef_name, Naming, Plain, Any, Nameless, Either, is_declared_by}
 use Rattle.c_tree.specs.Grammar.{may_be_nameless, names_type, has_any, is_agreed, names_a_type}
-use Rattle.c_tree.specs.Grammar.{begins_with_typedef_name, may_follow, Tags, untagged, tagged, Trails, no_comma, comma}
+use Rattle.c_tree.specs.Grammar.{may_follow, Tags, untagged, tagged, Trails, no_comma, comma}
 use Rattle.c_tree.specs.Grammar.{Goal, Expression, Piece, TypeName, Specifiers, Specifier, Member, Enumerator}
 use Rattle.c_tree.specs.Grammar.{Qualifier, Declarator, Parameter, Initializer, Derives, Declares, Repeated, Separated}
 use Rattle.c_tree.specs.Grammar.{Listed, finished, repeated, last, separated, listed}
 use Rattle.c_parse.specs.Reading
-use Rattle.c_parse.specs.Reading.{◌>>=◌, Names, Parsed, ParsedParts, Reader, is_open_parenthesis, is_close_parenthesis}
+use Rattle.c_parse.specs.Reading.{◌>>=◌, Names, Reader, is_open_parenthesis, is_close_parenthesis}
 use Rattle.c_parse.specs.Reading.{is_open_bracket, is_close_bracket, is_open_brace, is_close_brace, is_comma}
 use Rattle.c_parse.specs.Reading.{is_semicolon, is_colon, is_star, is_text, is_equals, begins_specifier}
-use Rattle.c_parse.specs.Reading.{begins_declarator, qualifier_of, starts_with, starts, past, expect, begins_type}
+use Rattle.c_parse.specs.Reading.{begins_declarator, qualifier_of, starts_with, starts, past, begins_type}
 use Rattle.c_parse.specs.Reading.{goes_on_specifying, opens_type, opens_parameters, goes_on_listing, past_comma}
-use Rattle.c_parse.specs.Reading.{level_of, level, goes_on, parts_of, pieces, qualified, qualifiers, tag, with_parts}
+use Rattle.c_parse.specs.Reading.{level, goes_on, parts_of, pieces, qualified, qualifiers, tag, with_parts}
 use Rattle.c_parse.proofs.Tools.{Gives, nothing, gives, bind, guard, choose, also, both_true, or_false, or_assoc, le_of}
 use Rattle.c_parse.proofs.Tools.{expects, behind}
 use Rattle.c_parse.proofs.Symbols.{close_parenthesis_is, close_bracket_is, close_brace_is, open_parenthesis_is}

@@ -11,19 +11,19 @@ use Rattle.c_tree.specs.declared.syntax.NodeKind.TheVariants as Kinds
 use Rattle.c_tree.specs.Syntax.{Syn, Syns, node, nil, more, one, three, four, own_token, height, highest}
 use Rattle.c_tree.specs.Symbols.{symbol, head_of}
 use Rattle.c_tree.specs.Grammar
-use Rattle.c_tree.specs.Grammar.{predeclared, is_word, is_typedef_name, Naming, Plain, Any, Nameless, Either}
-use Rattle.c_tree.specs.Grammar.{is_declared_by, Goal, Expression, Specifiers, Declarator, Initializer, Derives}
-use Rattle.c_tree.specs.Grammar.{Declares, defines_types, names_a_type, declared_names, names_of_first}
-use Rattle.c_tree.specs.Grammar.{names_unless_last, added_names, new_types, naming, Initializes, Initialized}
-use Rattle.c_tree.specs.Grammar.{Declaration, ends_open, last_ends_open, Optional, States, Items, Externals}
+use Rattle.c_tree.specs.Grammar.{is_word, is_typedef_name, Naming, Plain, Any}
+use Rattle.c_tree.specs.Grammar.{Expression, Specifiers, Declarator, Initializer, Derives}
+use Rattle.c_tree.specs.Grammar.{Declares, defines_types, names_a_type, names_of_first}
+use Rattle.c_tree.specs.Grammar.{added_names, new_types, naming, Initializes, Initialized}
+use Rattle.c_tree.specs.Grammar.{Declaration, ends_open, Optional, States, Items, Externals}
 use Rattle.c_tree.specs.Parses.{DerivesFile, file}
 use Rattle.c_parse.specs.Reading
-use Rattle.c_parse.specs.Reading.{◌>>=◌, Names, Parsed, ParsedParts, Reader, is_open_parenthesis, is_close_parenthesis}
+use Rattle.c_parse.specs.Reading.{◌>>=◌, Names, Reader, is_open_parenthesis, is_close_parenthesis}
 use Rattle.c_parse.specs.Reading.{is_open_brace, is_close_brace, is_comma, is_semicolon, is_colon, is_equals, is_else}
-use Rattle.c_parse.specs.Reading.{is_while, starts_with, starts, past, expect, begins_type, begins_specifier}
-use Rattle.c_parse.specs.Reading.{begins_declarator, goes_on_specifying, read}
+use Rattle.c_parse.specs.Reading.{is_while, starts_with, starts, begins_type, begins_specifier}
+use Rattle.c_parse.specs.Reading.{begins_declarator, read}
 use Rattle.c_parse.specs.Statements
-use Rattle.c_parse.specs.Statements.{StatementReader, are_plain}
+use Rattle.c_parse.specs.Statements.{StatementReader}
 use Rattle.c_parse.proofs.Tools.{both_true, behind, then_is, else_is, bind_is}
 use Rattle.c_parse.proofs.Sound.{opened}
 use Rattle.c_parse.proofs.Firsts

@@ -11,11 +11,11 @@ use Rattle.c_tree.specs.Syntax.{Syn, Syns, node, nil, more, one, two, three, fou
 use Rattle.c_tree.specs.Syntax.{height, highest}
 use Rattle.c_tree.specs.Symbols.{symbol}
 use Rattle.c_tree.specs.Grammar
-use Rattle.c_tree.specs.Grammar.{predeclared, is_word, is_typedef_name, Naming, Plain, Any, Nameless, Either}
-use Rattle.c_tree.specs.Grammar.{is_declared_by, Goal, Expression, Specifiers, Declarator, Initializer, Derives}
-use Rattle.c_tree.specs.Grammar.{Declares, defines_types, names_a_type, declared_names, names_of_first}
+use Rattle.c_tree.specs.Grammar.{predeclared, is_word, Naming, Plain, Any}
+use Rattle.c_tree.specs.Grammar.{Expression, Specifiers, Declarator, Initializer, Derives}
+use Rattle.c_tree.specs.Grammar.{Declares, defines_types, names_a_type, names_of_first}
 use Rattle.c_tree.specs.Grammar.{names_unless_last, added_names, new_types, naming, Initializes, Initialized}
-use Rattle.c_tree.specs.Grammar.{Declaration, ends_open, last_ends_open, Optional, States, Items, Externals}
+use Rattle.c_tree.specs.Grammar.{Declaration, ends_open, Optional, States, Items, Externals}
 use Rattle.c_tree.specs.Parses.{DerivesFile, file}
 use Rattle.c_parse.specs.Reading.{Names, Reader, is_open_parenthesis, is_close_parenthesis, is_open_brace}
 use Rattle.c_parse.specs.Reading.{is_close_brace, is_comma, is_semicolon, is_colon, is_equals, is_else, is_while}

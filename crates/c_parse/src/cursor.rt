@@ -16,7 +16,7 @@ use ck_base::Sequence;
 use std::alloc::{AllocError, AllocFailed, Global};
 
 /// Why nothing was read.
-#[derive(Clone, Copy, Debug, Drop)]
+#[derive(Clone, Copy, Drop)]
 pub(crate) enum Stop {
     NoMemory,
     NoTree,
@@ -45,7 +45,7 @@ impl<T: Drop> From<AllocFailed<T>> for Stop {
 }
 
 /// A token that is looked for.
-#[derive(Clone, Copy, Debug)]
+#[derive(Clone, Copy)]
 pub(crate) enum Mark {
     OpenParenthesis,
     CloseParenthesis,
@@ -65,7 +65,7 @@ pub(crate) enum Mark {
 }
 
 /// What the root of a tree says of it.
-#[derive(Clone, Copy, Debug)]
+#[derive(Clone, Copy)]
 pub(crate) struct Root<'a> {
     pub(crate) kind: NodeKind,
     /// The token that gives its place and text.
@@ -77,7 +77,7 @@ pub(crate) struct Root<'a> {
 }
 
 /// A tree that was read.
-#[derive(Clone, Copy, Debug)]
+#[derive(Clone, Copy)]
 pub(crate) struct Part<'a> {
     pub(crate) number: u32,
     pub(crate) height: u32,
@@ -85,7 +85,7 @@ pub(crate) struct Part<'a> {
 }
 
 /// The parts of a node that is not made yet.
-#[derive(Debug, Drop)]
+#[derive(Drop)]
 pub(crate) struct Parts {
     pub(crate) kids: Vec<u32>,
     /// The greatest height among them.

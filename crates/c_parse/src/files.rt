@@ -62,7 +62,7 @@ fn closing(symbol: Symbol) -> u32
 }
 
 // The brackets of the tokens so far.
-#[derive(Clone, Copy, Debug)]
+#[derive(Clone, Copy)]
 struct Brackets {
     opened: u32,
     closed: u32,

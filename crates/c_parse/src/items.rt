@@ -7,14 +7,14 @@ use ck_base::{Pos, Span};
 use std::marker::Model;
 
 /// Where a token stands.
-#[derive(Clone, Copy, Debug)]
+#[derive(Clone, Copy)]
 pub(crate) struct Place {
     pub(crate) pos: Pos,
     pub(crate) text: Span,
 }
 
 /// A token and what it is to the grammar. Contracts see the token.
-#[derive(Debug, Drop)]
+#[derive(Drop)]
 pub(crate) struct Item<'a> {
     token: Token<'a>,
     symbol: Symbol,

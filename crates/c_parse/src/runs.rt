@@ -26,7 +26,7 @@ pub(crate) fn tag<'a>(cursor: &mut Cursor<'a>) -> Result<Parts, Stop>
     match cursor.take_if(Mark::Word) {
         Some(name) => {
             let part = cursor.leaf(NodeKind::Tag, &name)?;
-            Ok(cursor.only(part)?)
+            cursor.only(part)
         }
         None => Ok(cursor.no_parts()),
     }

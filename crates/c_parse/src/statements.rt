@@ -22,7 +22,7 @@ use crate::steps::Phrase;
 use c_tree::{NodeKind, Symbol};
 
 // How a statement begins that is no expression.
-#[derive(Clone, Copy, Debug)]
+#[derive(Clone, Copy)]
 enum Opening {
     Block,
     Empty,
@@ -37,7 +37,7 @@ enum Opening {
 }
 
 // What a token in braces is to a switch.
-#[derive(Clone, Copy, Debug)]
+#[derive(Clone, Copy)]
 enum Label {
     Case,
     Default,

@@ -14,7 +14,7 @@ use crate::tables::is_type_word;
 use c_tree::{NodeKind, SpecifierWord};
 
 /// A phrase whose height counts.
-#[derive(Clone, Copy, Debug)]
+#[derive(Clone, Copy)]
 pub(crate) enum Phrase {
     /// An expression of at least this level.
     Expression(u32),
@@ -26,7 +26,7 @@ pub(crate) enum Phrase {
 }
 
 /// A step of a production.
-#[derive(Clone, Copy, Debug)]
+#[derive(Clone, Copy)]
 pub(crate) enum Step {
     Read(Phrase),
     TypeName,
@@ -36,7 +36,7 @@ pub(crate) enum Step {
 }
 
 /// Specifiers, and what they say of the declaration.
-#[derive(Clone, Copy, Debug)]
+#[derive(Clone, Copy)]
 pub(crate) struct Specified<'a> {
     pub(crate) part: Part<'a>,
     /// `typedef` is among them.

@@ -1,5 +1,5 @@
 use Rattle.std.proofs.Common.{◌++◌, suc, length, reverse, refl, ap, sym, subst, ◌∙◌, arith}
-use Rattle.std.proofs.lemmas.Result.{err_from_is_err_and}
+use Rattle.std.proofs.lemmas.Result.{err_from_is_err_and, IfOk-weaker}
 use Rattle.std.proofs.lemmas.List.{reverse-reverse}
 use Rattle.c_tree.specs.Syntax.{more, one, own_token}
 use Rattle.c_parse.specs.Reading.{read}
@@ -9,6 +9,7 @@ use Rattle.c_parse.specs.Blocks.{added}
 use Rattle.c_parse.proofs.Made.{bind_is, fails_bind, fails_after, fails_same, grows_to}
 use Rattle.c_parse.proofs.Climbing.{holds_at}
 use Rattle.c_parse.proofs.Declared.{unafter, fails_unafter, added_plain, adds_new, naming_made}
+use Rattle.c_parse.proofs.Paying.{took, noded, then_owed, owed_paid, room_paid}
 use Rattle.c_parse.proofs.declarations.declaration_behind.Goals as goal
 
 pub returns-in_err-parts-clause-tree : goal.returns-in_err-parts-clause-tree
@@ -55,3 +56,22 @@ returns-clause-tree c = λ s x p m.
     ∙ ap (λ v. v ++ in_force c.args.types.now)
     (reverse-reverse (added c.args.specified.defines g.trees) ∙ ap (λ v. added c.args.specified.defines v) u.2
     ∙ ap (λ b. added b (more s u.0)) p.defines ∙ adds_new s u.0 (own_token s) p.nameless))
+
+pub returns-clause-size : goal.returns-clause-size
+returns-clause-size c = IfOk-weaker c.make.result _ _
+    (λ p e. then_owed (owed_paid {m = 7} c.in_ok-parts.ensures.size
+    (took c.declarators.new.cursor c.expect.new.self c.expect.ensures.nodes c.in_ok-expect.ensures.size) refl)
+    (noded c.expect.new.self c.make.new.self e.0 c.make.ensures.rest) refl) c.make.ensures.size
+
+pub returns-clause-low : goal.returns-clause-low
+returns-clause-low c = IfOk-weaker c.make.result _ _
+    (λ p e. omega (arith, e, c.in_ok-parts.ensures.low)) c.make.ensures.low
+
+pub make-requires-clause-room : goal.make-requires-clause-room
+make-requires-clause-room c =
+    room_paid (owed_paid {m = 7} c.in_ok-parts.ensures.size
+    (took c.declarators.new.cursor c.expect.new.self c.expect.ensures.nodes c.in_ok-expect.ensures.size) refl)
+    c.requires.room
+
+pub make-requires-clause-height : goal.make-requires-clause-height
+make-requires-clause-height c = omega (arith, c.in_ok-parts.ensures.low, c.requires.height)

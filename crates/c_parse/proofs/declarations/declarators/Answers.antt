@@ -1,8 +1,9 @@
-use Rattle.std.proofs.Common.{◌≤◌, ap, sym, ◌∙◌, arith, length}
+use Rattle.std.proofs.Common.{◌≤◌, ap, sym, ◌∙◌, arith, length, refl}
 use Rattle.std.proofs.lemmas.Result.{err_from_is_err_and}
 use Rattle.c_parse.specs.Got.{in_force}
 use Rattle.c_parse.proofs.Declared.{declares_begin, declares_step, declares_fail, declares_end, fails_begin}
 use Rattle.c_parse.proofs.Declared.{longer_list}
+use Rattle.c_parse.proofs.Paying.{took, stayed, owed_paid, owed_owed, roomy_paid}
 use Rattle.c_parse.proofs.declarations.declarators.Goals as goal
 
 pub returns-in_err-part-clause-tree : goal.returns-in_err-part-clause-tree
@@ -53,3 +54,14 @@ list-preserved c =
 pub returns-clause-tree : goal.returns-clause-tree
 returns-clause-tree c = λ ys x h m. declares_end _ (c.list.invariant.declares ys x h m)
     (sym c.takes.ensures.found ∙ c.list-test.false) c.takes.ensures.nodes (c.takes.ensures.left c.list-test.false)
+
+pub declarator-requires-clause-room : goal.declarator-requires-clause-room
+declarator-requires-clause-room c =
+    roomy_paid (owed_paid {m = 7} c.list.invariant.size
+    (took c.list.cursor c.takes.new.self c.takes.ensures.nodes (c.takes.ensures.shorter c.list-test.true)) refl)
+    c.requires.room
+
+pub returns-clause-size : goal.returns-clause-size
+returns-clause-size c =
+    owed_owed c.list.invariant.size (stayed c.list.cursor c.takes.new.self c.takes.ensures.nodes
+    (c.takes.ensures.left c.list-test.false))

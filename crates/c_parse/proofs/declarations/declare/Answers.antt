@@ -1,5 +1,5 @@
-use Rattle.std.proofs.Common.{◌-◌, ap, sym, ◌∙◌, arith, Some}
-use Rattle.std.proofs.lemmas.Result.{err_from_is_err_and}
+use Rattle.std.proofs.Common.{◌-◌, ap, sym, ◌∙◌, arith, Some, refl}
+use Rattle.std.proofs.lemmas.Result.{err_from_is_err_and, IfOk-weaker}
 use Rattle.c_tree.specs.declared.syntax.NodeKind.TheVariants as Kinds
 use Rattle.c_tree.specs.Syntax.{node, one, own_token}
 use Rattle.c_tree.specs.Grammar.{Declarator, Plain}
@@ -9,6 +9,7 @@ use Rattle.c_parse.specs.Got.{rest_of, in_force}
 use Rattle.c_parse.proofs.Made.{bind_is, then_is, else_is, fails_bind, fails_after, fails_same, grows_same, grows_to}
 use Rattle.c_parse.proofs.Made.{grows_on, means_on}
 use Rattle.c_parse.proofs.Declared.{declare_at, declare_none, specifies_of, specifies_on, naming_after, naming_alone}
+use Rattle.c_parse.proofs.Paying.{took, stayed, noded, then_paid, then_owed, pays, roomy_paid, room_within}
 use Rattle.c_parse.proofs.declarations.declare.Goals as goal
 
 pub returns-then-budget-eq0-clause-tree : goal.returns-then-budget-eq0-clause-tree
@@ -62,3 +63,53 @@ returns-clause-tree c =
     (sym (c.takes.ensures.left c.if-takes.false)) ∙ d.reads))
     (grows_on g.part.grows grown)
     (c.declaration_behind.ensures.tree g.part.tree d.tree (specifies_on grown (specifies_of _ _ _ g)) d.means)
+
+pub returns-clause-size : goal.returns-clause-size
+returns-clause-size c = IfOk-weaker c.declaration_behind.result _ _
+    (λ p q. pays (then_paid (then_paid (then_owed {m = 5} c.in_ok-specified.ensures.size
+    (stayed c.specifiers.new.cursor c.takes.new.self c.takes.ensures.nodes (c.takes.ensures.left c.if-takes.false))
+    refl)
+    c.in_ok-first.ensures.size) q) refl) c.declaration_behind.ensures.size
+
+pub returns-clause-low : goal.returns-clause-low
+returns-clause-low c = IfOk-weaker c.declaration_behind.result _ _
+    (λ p e. omega (arith, e, c.if-budget-eq0.false)) c.declaration_behind.ensures.low
+
+pub declaration_behind-requires-clause-room : goal.declaration_behind-requires-clause-room
+declaration_behind-requires-clause-room c =
+    roomy_paid (then_paid (then_owed {m = 5} c.in_ok-specified.ensures.size
+    (stayed c.specifiers.new.cursor c.takes.new.self c.takes.ensures.nodes (c.takes.ensures.left c.if-takes.false))
+    refl)
+    c.in_ok-first.ensures.size) c.requires.room
+
+pub declaration_behind-requires-clause-specifiers : goal.declaration_behind-requires-clause-specifiers
+declaration_behind-requires-clause-specifiers c = c.in_ok-specified.ensures.low
+
+pub declaration_behind-requires-clause-low : goal.declaration_behind-requires-clause-low
+declaration_behind-requires-clause-low c = c.in_ok-first.ensures.low
+
+pub returns-then-takes-clause-size : goal.returns-then-takes-clause-size
+returns-then-takes-clause-size c = IfOk-weaker c.specifiers_only.result _ _
+    (λ p e. then_owed (then_paid c.in_ok-specified.ensures.size
+    (took c.specifiers.new.cursor c.takes.new.self c.takes.ensures.nodes (c.takes.ensures.shorter c.if-takes.true)))
+    (noded c.takes.new.self c.specifiers_only.new.cursor e c.specifiers_only.ensures.rest) refl)
+    c.specifiers_only.ensures.size
+
+pub returns-then-takes-clause-low : goal.returns-then-takes-clause-low
+returns-then-takes-clause-low c = IfOk-weaker c.specifiers_only.result _ _
+    (λ p e. omega (arith, e, c.if-budget-eq0.false)) c.specifiers_only.ensures.low
+
+pub read-requires-clause-room : goal.read-requires-clause-room
+read-requires-clause-room c =
+    roomy_paid (then_owed {m = 5} c.in_ok-specified.ensures.size
+    (stayed c.specifiers.new.cursor c.takes.new.self c.takes.ensures.nodes (c.takes.ensures.left c.if-takes.false))
+    refl) c.requires.room
+
+pub specifiers_only-requires-clause-specifiers : goal.specifiers_only-requires-clause-specifiers
+specifiers_only-requires-clause-specifiers c = c.in_ok-specified.ensures.low
+
+pub specifiers_only-requires-clause-room : goal.specifiers_only-requires-clause-room
+specifiers_only-requires-clause-room c =
+    room_within (then_paid c.in_ok-specified.ensures.size
+    (took c.specifiers.new.cursor c.takes.new.self c.takes.ensures.nodes (c.takes.ensures.shorter c.if-takes.true)))
+    c.requires.room

@@ -1,5 +1,5 @@
 use Rattle.std.proofs.Common.{◌++◌, refl, ap, sym, ◌∙◌, arith, None}
-use Rattle.std.proofs.lemmas.Result.{err_from_is_err_and}
+use Rattle.std.proofs.lemmas.Result.{err_from_is_err_and, IfOk-weaker}
 use Rattle.std.proofs.lemmas.Bool.{le-leb}
 use Rattle.c_tree.specs.declared.syntax.NodeKind.TheVariants as Kinds
 use Rattle.c_tree.specs.Syntax.{node, first_token, height}
@@ -12,6 +12,7 @@ use Rattle.c_parse.proofs.Tools.{given, shut_le}
 use Rattle.c_parse.proofs.Made.{bind_is, then_is, else_is, fails_bind, fails_same}
 use Rattle.c_parse.proofs.Parted.{made_reads}
 use Rattle.c_parse.proofs.Declared.{initialize_by, valued_begins, adds_are}
+use Rattle.c_parse.proofs.Paying.{noded, owed_owed}
 use Rattle.c_parse.proofs.declarations.initialize.Goals as goal
 
 pub returns-in_err-parts-clause-tree : goal.returns-in_err-parts-clause-tree
@@ -63,3 +64,12 @@ returns-clause-tree c = λ x m.
     ∙ bind_is _ got.reads ∙ then_is None (le-leb
     (height (node Kinds.InitDeclarator (first_token x) got.trees)) c.args.below
     (let t = got.holds.tall in let low = c.if-parts-below.false in omega arith)))
+
+pub returns-clause-size : goal.returns-clause-size
+returns-clause-size c = IfOk-weaker c.make.result _ _
+    (λ p e. owed_owed c.in_ok-parts.ensures.size (noded c.valued_declarator.new.cursor c.make.new.self e.0
+    c.make.ensures.rest)) c.make.ensures.size
+
+pub returns-clause-low : goal.returns-clause-low
+returns-clause-low c = IfOk-weaker c.make.result _ _
+    (λ p e. omega (arith, e, c.if-parts-below.false)) c.make.ensures.low

@@ -1,10 +1,12 @@
-use Rattle.std.proofs.Common.{ap, sym, ◌∙◌}
+use Rattle.std.proofs.lemmas.Result.{IfOk-weaker}
+use Rattle.std.proofs.Common.{ap, sym, ◌∙◌, arith}
 use Rattle.c_tree.specs.Syntax.{one}
 use Rattle.c_tree.specs.Grammar.{Initializer}
 use Rattle.c_parse.specs.Reading.{read}
 use Rattle.c_parse.specs.Got.{in_force}
 use Rattle.c_parse.proofs.Made.{grows_same, grows_on, grows_to, holds_on, bind_is, then_is}
 use Rattle.c_parse.proofs.Declared.{with_reads}
+use Rattle.c_parse.proofs.Paying.{took, stayed, then_paid, owes, roomy_paid}
 use Rattle.c_parse.proofs.declarations.valued_declarator.Goals as goal
 
 pub returns-clause-tree : goal.returns-clause-tree
@@ -17,3 +19,28 @@ returns-clause-tree c = λ x m.
     (then_is _ (sym c.takes.ensures.found ∙ c.if-not-takes.false)
     ∙ bind_is _ (ap (λ v. read c.args.below Initializer (in_force c.args.types.now) v)
     (sym (c.takes.ensures.taken c.if-not-takes.false)) ∙ i.reads))
+
+pub returns-clause-size : goal.returns-clause-size
+returns-clause-size c = IfOk-weaker c.with.result _ _
+    (λ p e. owes (then_paid (took c.args.cursor.now c.takes.new.self c.takes.ensures.nodes
+    (c.takes.ensures.shorter c.if-not-takes.false))
+    c.in_ok-initializer.ensures.size)) c.with.ensures.size
+
+pub returns-clause-low : goal.returns-clause-low
+returns-clause-low c = IfOk-weaker c.with.result _ _
+    (λ p e. omega (
+      arith,
+      e,
+      c.in_ok-parts.ensures.size,
+      c.in_ok-initializer.ensures.low,
+      c.requires.low,
+    )) c.with.ensures.size
+
+pub read-requires-clause-room : goal.read-requires-clause-room
+read-requires-clause-room c =
+    roomy_paid (took c.args.cursor.now c.takes.new.self c.takes.ensures.nodes
+    (c.takes.ensures.shorter c.if-not-takes.false)) c.requires.room
+
+pub returns-then-not-takes-clause-size : goal.returns-then-not-takes-clause-size
+returns-then-not-takes-clause-size c =
+    stayed c.args.cursor.now c.takes.new.self c.takes.ensures.nodes (c.takes.ensures.left c.if-not-takes.true)

@@ -1,10 +1,11 @@
-use Rattle.std.proofs.Common.{refl, ◌∙◌}
-use Rattle.std.proofs.lemmas.Result.{err_from_is_err_and}
+use Rattle.std.proofs.Common.{refl, ◌∙◌, arith}
+use Rattle.std.proofs.lemmas.Result.{err_from_is_err_and, IfOk-weaker}
 use Rattle.c_tree.specs.Syntax.{three, own_token}
 use Rattle.c_parse.specs.Got.{rest_of, in_force}
 use Rattle.c_parse.proofs.Made.{means_on, holds_more, bind_is, fails_bind, fails_same}
 use Rattle.c_parse.proofs.Parted.{made_reads}
 use Rattle.c_parse.proofs.Outer.{definition_is}
+use Rattle.c_parse.proofs.Paying.{noded, owed_owed, room_owed}
 use Rattle.c_parse.proofs.externals.definition.Goals as goal
 
 pub returns-in_err-body-clause-tree : goal.returns-in_err-body-clause-tree
@@ -25,3 +26,36 @@ returns-clause-tree c = λ s d ms md.
     c.in_ok-push-2.ensures.kids c.in_ok-push-2.ensures.size)
     b.grows
     (definition_is s d c.args.brace.now (in_force c.args.types.now) (rest_of c.args.cursor.now) ∙ bind_is _ b.reads)
+
+pub returns-clause-size : goal.returns-clause-size
+returns-clause-size c = IfOk-weaker c.make.result _ _
+    (λ p e. owed_owed c.in_ok-body.ensures.size
+    (noded c.block.new.cursor c.make.new.self e.0 c.make.ensures.rest)) c.make.ensures.size
+
+pub returns-clause-low : goal.returns-clause-low
+returns-clause-low c = IfOk-weaker c.make.result _ _
+    (λ p e. omega (
+      arith,
+      e,
+      c.in_ok-push-2.ensures.size,
+      c.in_ok-push.ensures.size,
+      c.in_ok-parts.ensures.size,
+      c.in_ok-body.ensures.low,
+      c.requires.specifiers,
+      c.requires.low,
+    )) c.make.ensures.low
+
+pub make-requires-clause-room : goal.make-requires-clause-room
+make-requires-clause-room c = room_owed c.in_ok-body.ensures.size refl c.requires.room
+
+pub make-requires-clause-height : goal.make-requires-clause-height
+make-requires-clause-height c =
+    omega (
+      arith,
+      c.in_ok-push-2.ensures.size,
+      c.in_ok-push.ensures.size,
+      c.in_ok-parts.ensures.size,
+      c.in_ok-body.ensures.low,
+      c.requires.specifiers,
+      c.requires.low,
+    )

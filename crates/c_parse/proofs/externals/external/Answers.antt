@@ -1,5 +1,5 @@
-use Rattle.std.proofs.Common.{ap, sym, ◌∙◌, Some}
-use Rattle.std.proofs.lemmas.Result.{err_from_is_err_and}
+use Rattle.std.proofs.Common.{ap, sym, ◌∙◌, Some, refl}
+use Rattle.std.proofs.lemmas.Result.{err_from_is_err_and, IfOk-weaker}
 use Rattle.c_tree.specs.declared.syntax.NodeKind.TheVariants as Kinds
 use Rattle.c_tree.specs.Syntax.{node, one, own_token}
 use Rattle.c_parse.specs.Statements.{external}
@@ -7,6 +7,7 @@ use Rattle.c_parse.specs.Got.{in_force}
 use Rattle.c_parse.specs.Blocks.{declared_externally}
 use Rattle.c_parse.proofs.Made.{bind_is, then_is, else_is, fails_bind, grows_same, grows_to, grows_on, means_on}
 use Rattle.c_parse.proofs.Declared.{specifies_of, specifies_on, naming_after, naming_alone}
+use Rattle.c_parse.proofs.Paying.{took, stayed, noded, then_paid, then_owed, pays, roomy_paid, room_within}
 use Rattle.c_parse.proofs.externals.external.Goals as goal
 
 pub returns-in_err-specified-clause-tree : goal.returns-in_err-specified-clause-tree
@@ -39,3 +40,34 @@ returns-clause-tree c =
     (sym (c.takes.ensures.left c.if-takes.false)))
     (grows_on g.part.grows grown)
     (c.external_behind.ensures.tree g.part.tree (specifies_on grown (specifies_of _ _ _ g)))
+
+pub returns-then-takes-clause-size : goal.returns-then-takes-clause-size
+returns-then-takes-clause-size c = IfOk-weaker c.specifiers_only.result _ _
+    (λ p e. then_owed (then_paid c.in_ok-specified.ensures.size
+    (took c.specifiers.new.cursor c.takes.new.self c.takes.ensures.nodes (c.takes.ensures.shorter c.if-takes.true)))
+    (noded c.takes.new.self c.specifiers_only.new.cursor e c.specifiers_only.ensures.rest) refl)
+    c.specifiers_only.ensures.size
+
+pub returns-then-takes-clause-low : goal.returns-then-takes-clause-low
+returns-then-takes-clause-low c = c.specifiers_only.ensures.low
+
+pub returns-clause-size : goal.returns-clause-size
+returns-clause-size c = IfOk-weaker c.external_behind.result _ _
+    (λ p q. pays (then_paid (then_owed {m = 5} c.in_ok-specified.ensures.size
+    (stayed c.specifiers.new.cursor c.takes.new.self c.takes.ensures.nodes (c.takes.ensures.left c.if-takes.false))
+    refl) q) refl) c.external_behind.ensures.size
+
+pub returns-clause-low : goal.returns-clause-low
+returns-clause-low c = c.external_behind.ensures.low
+
+pub specifiers_only-requires-clause-room : goal.specifiers_only-requires-clause-room
+specifiers_only-requires-clause-room c =
+    room_within (then_paid c.in_ok-specified.ensures.size
+    (took c.specifiers.new.cursor c.takes.new.self c.takes.ensures.nodes (c.takes.ensures.shorter c.if-takes.true)))
+    c.requires.room
+
+pub external_behind-requires-clause-room : goal.external_behind-requires-clause-room
+external_behind-requires-clause-room c =
+    roomy_paid (then_owed {m = 5} c.in_ok-specified.ensures.size
+    (stayed c.specifiers.new.cursor c.takes.new.self c.takes.ensures.nodes (c.takes.ensures.left c.if-takes.false))
+    refl) c.requires.room

@@ -1,4 +1,5 @@
-use Rattle.std.proofs.Common.{ap, sym, ◌∙◌, not}
+use Rattle.std.proofs.lemmas.Result.{IfOk-weaker}
+use Rattle.std.proofs.Common.{ap, sym, ◌∙◌, not, refl}
 use Rattle.std.specs.List.{list_any}
 use Rattle.ck_base.specs.Tokens.{is_among}
 use Rattle.c_tree.specs.Grammar.{Declarator}
@@ -8,6 +9,7 @@ use Rattle.c_parse.specs.Got.{rest_of, in_force, naming_of}
 use Rattle.c_parse.proofs.Made.{bind_is, then_is, else_is, grows_same, grows_to, grows_on, means_on}
 use Rattle.c_parse.proofs.Declared.{specifies_on, naming_after}
 use Rattle.c_parse.proofs.Outer.{naming_function, behind_brace, behind_other}
+use Rattle.c_parse.proofs.Paying.{took, stayed, then_paid, then_owed, pays, roomy_paid}
 use Rattle.c_parse.proofs.externals.external_behind.Goals as goal
 
 pub returns-in_default-clause-tree : goal.returns-in_default-clause-tree
@@ -52,3 +54,44 @@ returns-clause-tree c = λ s p.
     ∙ sym c.is_plain.ensures ∙ c.if-not-is_plain.false))
     (grows_on d.grows kept) c.definition.ensures.names
     (c.definition.ensures.tree s d.tree (means_on (grows_on d.grows kept) p.means) (means_on kept d.means))
+
+pub returns-clause-size : goal.returns-clause-size
+returns-clause-size c = IfOk-weaker c.definition.result _ _
+    (λ p q. then_owed (then_paid c.in_ok-declarator.ensures.size
+    (took c.read.new.cursor c.take_if.new.self c.take_if.ensures.nodes c.in-Some.ensures.size)) q refl)
+    c.definition.ensures.size
+
+pub returns-clause-low : goal.returns-clause-low
+returns-clause-low c = c.definition.ensures.low
+
+pub returns-in_default-clause-size : goal.returns-in_default-clause-size
+returns-in_default-clause-size c = IfOk-weaker c.declaration_behind.result _ _
+    (λ p q. pays (then_paid (then_owed {m = 4} c.in_ok-declarator.ensures.size
+    (stayed c.read.new.cursor c.take_if.new.self c.take_if.ensures.nodes c.in_default.ensures.left) refl) q) refl)
+    c.declaration_behind.ensures.size
+
+pub returns-in_default-clause-low : goal.returns-in_default-clause-low
+returns-in_default-clause-low c = c.declaration_behind.ensures.low
+
+pub definition-requires-clause-room : goal.definition-requires-clause-room
+definition-requires-clause-room c =
+    roomy_paid (then_paid c.in_ok-declarator.ensures.size
+    (took c.read.new.cursor c.take_if.new.self c.take_if.ensures.nodes c.in-Some.ensures.size)) c.requires.room
+
+pub definition-requires-clause-specifiers : goal.definition-requires-clause-specifiers
+definition-requires-clause-specifiers c = c.requires.specifiers
+
+pub definition-requires-clause-low : goal.definition-requires-clause-low
+definition-requires-clause-low c = c.in_ok-declarator.ensures.low
+
+pub declaration_behind-requires-clause-room : goal.declaration_behind-requires-clause-room
+declaration_behind-requires-clause-room c =
+    roomy_paid (then_owed {m = 4} c.in_ok-declarator.ensures.size
+    (stayed c.read.new.cursor c.take_if.new.self c.take_if.ensures.nodes c.in_default.ensures.left) refl)
+    c.requires.room
+
+pub declaration_behind-requires-clause-specifiers : goal.declaration_behind-requires-clause-specifiers
+declaration_behind-requires-clause-specifiers c = c.requires.specifiers
+
+pub declaration_behind-requires-clause-low : goal.declaration_behind-requires-clause-low
+declaration_behind-requires-clause-low c = c.in_ok-declarator.ensures.low

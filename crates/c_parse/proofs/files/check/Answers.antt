@@ -1,10 +1,7 @@
-use Rattle.std.proofs.Common.{◌≡◌, ◌+◌, ◌≤◌, ◌++◌, ◌∷◌, [], Some, None, length, refl, ap, sym, subst, ◌∙◌, arith}
-use Rattle.ck_base.specs.Tokens.{Lexeme}
-use Rattle.ck_base.specs.Lexes.{Reads, NextToken, NextEnd, NextRefusal}
+use Rattle.std.proofs.Common.{◌+◌, ◌≤◌, ◌++◌, ◌∷◌, [], None, length, refl, ap, sym, subst, ◌∙◌, arith}
+use Rattle.ck_base.specs.Lexes.{NextToken, NextEnd, NextRefusal}
 use Rattle.c_lex.specs.Lexemes.{lexeme_of}
-use Rattle.c_tree.specs.Brackets.{excess, excess_from}
 use Rattle.c_parse.specs.Parsed.{lexical, brackets}
-use Rattle.c_parse.specs.Turns.{gap}
 use Rattle.c_parse.specs.Checked.{Counts, first_of}
 use Rattle.c_parse.proofs.Checking.{read_more}
 use Rattle.c_parse.proofs.Deep.{whole}

@@ -1,5 +1,4 @@
 use Rattle.std.proofs.Common.{◌++◌, ◌∷◌, [], ◌<◌, length, refl, ap, sym, subst, ◌∙◌}
-use Rattle.ck_base.specs.Tokens.{Lexeme}
 use Rattle.c_parse.specs.Reading.{past}
 use Rattle.c_parse.proofs.Checking.{among_last, among_more, none_among, passed, all_passed, place_of, IsAmong}
 use Rattle.c_parse.proofs.files.stopped.Goals as goal

@@ -1,5 +1,4 @@
-use Rattle.std.proofs.Common.{◌≡◌, ◌<◌, List, length, ap, sym, subst, ◌∙◌, arith, None}
-use Rattle.ck_base.specs.Tokens.{Lexeme}
+use Rattle.std.proofs.Common.{◌≡◌, ◌<◌, length, ap, sym, subst, ◌∙◌, arith, None}
 use Rattle.c_tree.specs.Syntax.{StandsAt}
 use Rattle.c_tree.specs.File.{IsTokenPlace}
 use Rattle.c_parse.specs.Left.{Leaves}

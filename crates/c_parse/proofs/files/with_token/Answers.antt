@@ -1,4 +1,4 @@
-use Rattle.std.proofs.Common.{◌≡◌, ◌+◌, Some, ap, ◌∙◌, sym, arith}
+use Rattle.std.proofs.Common.{◌≡◌, ◌+◌, Some, ap, ◌∙◌}
 use Rattle.c_tree.specs.Symbols.{symbol}
 use Rattle.c_parse.specs.Turns.{opening, closing}
 use Rattle.c_parse.proofs.Deep.{counted}

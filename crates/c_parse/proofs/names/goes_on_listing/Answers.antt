@@ -1,4 +1,4 @@
-use Rattle.std.proofs.Common.{◌≡◌, true, ap, sym, ◌∙◌}
+use Rattle.std.proofs.Common.{ap, sym, ◌∙◌}
 use Rattle.std.specs.Prelude.{◌&&◌, not}
 use Rattle.c_parse.specs.Reading.{goes_on_listing, is_comma, is_close_brace, starts, past}
 use Rattle.c_parse.proofs.names.goes_on_listing.Goals as goal

@@ -1,10 +1,10 @@
 use Rattle.std.specs.Prelude.{IfSome}
 use Rattle.std.proofs.Common.{◌≡◌, suc, ◌+◌, ◌-◌, ◌≤◌, ◌<◌, ◌∷◌, [], refl, ap, sym, subst, ◌∙◌, arith, Some, None}
 use Rattle.std.proofs.Common.{false, length, length-append}
-use Rattle.std.proofs.lemmas.Result.{err_from_is_err_and, MatchResult-weaker}
+use Rattle.std.proofs.lemmas.Result.{err_from_is_err_and, IfOk-weaker, MatchResult-weaker}
 use Rattle.std.proofs.lemmas.Bool.{le-leb, eqb-true, eqb-false}
 use Rattle.c_tree.specs.declared.syntax.NodeKind.TheVariants as Kinds
-use Rattle.c_tree.specs.Syntax.{node, nil, one, more, then_one, own_token, first_token}
+use Rattle.c_tree.specs.Syntax.{node, nil, one, more, then_one, own_token, first_token, weight}
 use Rattle.c_tree.specs.Symbols.{symbol, tail_of, head_of}
 use Rattle.c_tree.specs.Grammar.{declared_names, Expression, Declarator, Parameter, Member, Enumerator, Initializer}
 use Rattle.c_parse.specs.Reading
@@ -43,21 +43,36 @@ use Rattle.c_parse.proofs.Specified.{fills_step, fills_end, record_tag, record_m
 use Rattle.c_parse.proofs.Specified.{gathers_begin, gathers_fail, gathers_step, gathers_end, names_has, specifiers_end}
 use Rattle.c_parse.proofs.Specified.{specifiers_none, specifiers_apart, specifiers_are, member_is, enumerator_end}
 use Rattle.c_parse.proofs.Specified.{enumerator_not, enumerator_bare, enumerator_value, too_high}
+use Rattle.c_parse.proofs.Paying.{took, took_past, stayed, noded, then_paid, then_owed, owed_paid, owed_owed, owes}
+use Rattle.c_parse.proofs.Paying.{pays}
+use Rattle.c_parse.proofs.Paying.{roomy_paid, room_paid, height_some, weight_low}
 use Rattle.c_parse.proofs.phrases.+phrases.Goals as goal
 
-pub array-returns-in_err-parts-clause-tree : goal.array-returns-in_err-parts-clause-tree
-array-returns-in_err-parts-clause-tree t c =
+pub array-returns-in_err-parts : goal.array-returns-in_err-parts
+array-returns-in_err-parts t c =
     let p = err_from_is_err_and c.from_residual.result c.from_residual.ensures.1 in
-    λ x m. rw (p.1, p.2) (array_high (Reading.read c.args.below) c.args.below x c.args.item.now
-    (in_force c.args.types.now) (rest_of c.args.cursor.now) _
-    (c.in_err-parts.ensures.tree x (option_at c.takes.ensures.nodes m)))
+    rw (p.1, p.2) (record {
+      size = tt;
+      low = tt;
+      taller = tt;
+      tree =
+          λ x m. (array_high (Reading.read c.args.below) c.args.below x c.args.item.now
+          (in_force c.args.types.now) (rest_of c.args.cursor.now) _
+          (c.in_err-parts.ensures.tree x (option_at c.takes.ensures.nodes m)));
+    })
 
-pub array-returns-in_err-parts-2-clause-tree : goal.array-returns-in_err-parts-2-clause-tree
-array-returns-in_err-parts-2-clause-tree t c =
+pub array-returns-in_err-parts-2 : goal.array-returns-in_err-parts-2
+array-returns-in_err-parts-2 t c =
     let p = err_from_is_err_and c.from_residual-in_err-parts-2.result c.from_residual-in_err-parts-2.ensures.1 in
-    λ x m. rw (p.1, p.2) (array_high (Reading.read c.args.below) c.args.below x c.args.item.now
-    (in_force c.args.types.now) (rest_of c.args.cursor.now) _
-    (c.in_err-parts-2.ensures.tree x (option_at c.takes.ensures.nodes m)))
+    rw (p.1, p.2) (record {
+      size = tt;
+      low = tt;
+      taller = tt;
+      tree =
+          λ x m. (array_high (Reading.read c.args.below) c.args.below x c.args.item.now
+          (in_force c.args.types.now) (rest_of c.args.cursor.now) _
+          (c.in_err-parts-2.ensures.tree x (option_at c.takes.ensures.nodes m)));
+    })
 
 pub array-returns-then-takes-clause-tree : goal.array-returns-then-takes-clause-tree
 array-returns-then-takes-clause-tree t c = λ x m.
@@ -72,24 +87,37 @@ array-returns-then-takes-clause-tree t c = λ x m.
     (sym (c.make.ensures.rest ∙ c.takes.ensures.taken c.if-takes.true)))))
     (λ e f. fails_memory e _ f)
 
-pub array-returns-in_err-length-clause-tree : goal.array-returns-in_err-length-clause-tree
-array-returns-in_err-length-clause-tree t c =
+pub array-returns-in_err-length : goal.array-returns-in_err-length
+array-returns-in_err-length t c =
     let p = err_from_is_err_and c.from_residual-in_err-length.result c.from_residual-in_err-length.ensures.1 in
-    λ x m. rw (p.1, p.2) (array_fails (Reading.read c.args.below) c.args.below x c.args.item.now
-    (in_force c.args.types.now) (rest_of c.args.cursor.now) _ (sym c.takes.ensures.found ∙ c.if-takes.false)
-    (fails_bind _ _ _ (fails_same _ (ap (λ v. Reading.read c.args.below (Expression 2) (in_force c.args.types.now) v)
-    (sym (c.takes.ensures.left c.if-takes.false))) c.in_err-length.ensures.tree)))
+    rw (p.1, p.2) (record {
+      size = tt;
+      low = tt;
+      taller = tt;
+      tree =
+          λ x m. (array_fails (Reading.read c.args.below) c.args.below x c.args.item.now
+          (in_force c.args.types.now) (rest_of c.args.cursor.now) _ (sym c.takes.ensures.found ∙ c.if-takes.false)
+          (fails_bind _ _ _ (fails_same _ (ap (λ v.
+          Reading.read c.args.below (Expression 2) (in_force c.args.types.now) v)
+          (sym (c.takes.ensures.left c.if-takes.false))) c.in_err-length.ensures.tree)));
+    })
 
-pub array-returns-in_err-expect-clause-tree : goal.array-returns-in_err-expect-clause-tree
-array-returns-in_err-expect-clause-tree t c =
+pub array-returns-in_err-expect : goal.array-returns-in_err-expect
+array-returns-in_err-expect t c =
     let p = err_from_is_err_and c.from_residual-in_err-expect.result c.from_residual-in_err-expect.ensures.1 in
-    λ x m. rw (p.1, p.2) (array_fails (Reading.read c.args.below) c.args.below x c.args.item.now
-    (in_force c.args.types.now) (rest_of c.args.cursor.now) _ (sym c.takes.ensures.found ∙ c.if-takes.false)
-    (bracketed_fails (Reading.read c.args.below) (Expression 2) is_close_bracket (in_force c.args.types.now)
-    (rest_of c.args.cursor.now) _ (ap (λ v.
-    Reading.read c.args.below (Expression 2) (in_force c.args.types.now) v)
-    (sym (c.takes.ensures.left c.if-takes.false)) ∙ c.in_ok-length.ensures.tree.reads)
-    c.in_err-expect.ensures.found))
+    rw (p.1, p.2) (record {
+      size = tt;
+      low = tt;
+      taller = tt;
+      tree =
+          λ x m. (array_fails (Reading.read c.args.below) c.args.below x c.args.item.now
+          (in_force c.args.types.now) (rest_of c.args.cursor.now) _ (sym c.takes.ensures.found ∙ c.if-takes.false)
+          (bracketed_fails (Reading.read c.args.below) (Expression 2) is_close_bracket (in_force c.args.types.now)
+          (rest_of c.args.cursor.now) _ (ap (λ v.
+          Reading.read c.args.below (Expression 2) (in_force c.args.types.now) v)
+          (sym (c.takes.ensures.left c.if-takes.false)) ∙ c.in_ok-length.ensures.tree.reads)
+          c.in_err-expect.ensures.found));
+    })
 
 pub array-returns-clause-tree : goal.array-returns-clause-tree
 array-returns-clause-tree t c = λ x m.
@@ -114,19 +142,29 @@ array-returns-clause-tree t c = λ x m.
     (sym c.make-2.ensures.rest))))
     (λ e f. fails_memory e _ f)
 
-pub braced-returns-in_err-parts-clause-tree : goal.braced-returns-in_err-parts-clause-tree
-braced-returns-in_err-parts-clause-tree t c =
+pub braced-returns-in_err-parts : goal.braced-returns-in_err-parts
+braced-returns-in_err-parts t c =
     let p = err_from_is_err_and c.from_residual.result c.from_residual.ensures.1 in
-    λ ys m. rw (p.1, p.2) (braced_fails (Reading.read c.args.below) (goal_of c.args.what)
-    (in_force c.args.types.now) ys _ (rest_of c.args.cursor.now) (c.in_err-parts.ensures.tree ys m))
+    rw (p.1, p.2) (record {
+      size = tt;
+      low = tt;
+      tree =
+          λ ys m. (braced_fails (Reading.read c.args.below) (goal_of c.args.what)
+          (in_force c.args.types.now) ys _ (rest_of c.args.cursor.now) (c.in_err-parts.ensures.tree ys m));
+    })
 
-pub braced-returns-in_err-expect-clause-tree : goal.braced-returns-in_err-expect-clause-tree
-braced-returns-in_err-expect-clause-tree t c =
+pub braced-returns-in_err-expect : goal.braced-returns-in_err-expect
+braced-returns-in_err-expect t c =
     let p = err_from_is_err_and c.from_residual-in_err-expect.result c.from_residual-in_err-expect.ensures.1 in
-    λ ys m. rw (p.1, p.2) (braced_open (Reading.read c.args.below) (goal_of c.args.what)
-    (in_force c.args.types.now) ys _ (rest_of c.args.cursor.now) (rest_of c.takes.new.self)
-    (c.in_ok-parts.ensures.tree ys m) (past_comma_is c.takes.result c.takes.ensures.found c.takes.ensures.taken
-    c.takes.ensures.left) c.in_err-expect.ensures.found)
+    rw (p.1, p.2) (record {
+      size = tt;
+      low = tt;
+      tree =
+          λ ys m. (braced_open (Reading.read c.args.below) (goal_of c.args.what)
+          (in_force c.args.types.now) ys _ (rest_of c.args.cursor.now) (rest_of c.takes.new.self)
+          (c.in_ok-parts.ensures.tree ys m) (past_comma_is c.takes.result c.takes.ensures.found c.takes.ensures.taken
+          c.takes.ensures.left) c.in_err-expect.ensures.found);
+    })
 
 pub braced-returns-clause-tree : goal.braced-returns-clause-tree
 braced-returns-clause-tree t c = λ ys m.
@@ -150,15 +188,20 @@ climb-loop-item-init t c =
       };
     }
 
-pub climb-returns-in_err-part-clause-tree : goal.climb-returns-in_err-part-clause-tree
-climb-returns-in_err-part-clause-tree t c =
+pub climb-returns-in_err-part : goal.climb-returns-in_err-part
+climb-returns-in_err-part t c =
     let p = err_from_is_err_and c.from_residual.result c.from_residual.ensures.1 in
-    let low = c.loop-item.invariant.low in
-    λ x m. rw (p.1, p.2) (let at = c.loop-item.invariant.climbs x m in
-    climbs_fail c.take_tail.new.cursor _ at c.in-Some.ensures.rest
-    (ap (λ v. goes_on (tail_of (symbol c.in-Some.item)) c.args.level v) (sym c.level_of.ensures)
-    ∙ c.in-Some.ensures.found) (omega arith)
-    (c.in_err-part.ensures.tree at.tree (means_at c.in-Some.ensures.nodes at.means)))
+    rw (p.1, p.2) (record {
+      size = tt;
+      low = tt;
+      tree =
+          let low = c.loop-item.invariant.low in
+          λ x m. (let at = c.loop-item.invariant.climbs x m in
+          climbs_fail c.take_tail.new.cursor _ at c.in-Some.ensures.rest
+          (ap (λ v. goes_on (tail_of (symbol c.in-Some.item)) c.args.level v) (sym c.level_of.ensures)
+          ∙ c.in-Some.ensures.found) (omega arith)
+          (c.in_err-part.ensures.tree at.tree (means_at c.in-Some.ensures.nodes at.means)));
+    })
 
 pub climb-loop-item-preserved : goal.climb-loop-item-preserved
 climb-loop-item-preserved t c = let s = c.loop-item.invariant.size in
@@ -211,36 +254,48 @@ core-returns-then-takes-clause-tree t c = record {
   grows = grows_from c.takes.ensures.nodes c.in_ok-part.ensures.tree.grows;
 }
 
-pub core-returns-in_err-inner-clause-tree : goal.core-returns-in_err-inner-clause-tree
-core-returns-in_err-inner-clause-tree t c =
+pub core-returns-in_err-inner : goal.core-returns-in_err-inner
+core-returns-in_err-inner t c =
     let p = err_from_is_err_and c.from_residual-in_err-inner.result c.from_residual-in_err-inner.ensures.1 in
-    rw (p.1, p.2) (fails_same _ (core_enclosed (Reading.read c.args.below) (suc c.args.below) (naming_of c.args.naming)
-    (in_force c.args.types.now) c.in-Some.ensures (sym c.takes.ensures.found ∙ c.if-takes.false)
-    (ap (λ v. encloses (naming_of c.args.naming) (in_force c.args.types.now) v)
-    (sym (c.rest.ensures ∙ c.takes.ensures.left c.if-takes.false)) ∙ sym c.is_enclosed.ensures
-    ∙ c.if-is_enclosed.true))
-    (fails_bind _ _ _ (enclosed_fails (Reading.read c.args.below) (suc c.args.below) (naming_of c.args.naming)
-    (in_force c.args.types.now) (past (rest_of c.args.cursor.now)) c.in-Some.item _
-    (fails_bind _ _ _ (fails_same _ (ap (λ v.
-    Reading.read c.args.below (Declarator (naming_of c.args.naming)) (in_force c.args.types.now) v)
-    (sym (c.advance.ensures.rest ∙ ap past (c.takes.ensures.left c.if-takes.false))))
-    c.in_err-inner.ensures.tree)))))
+    rw (p.1, p.2) (record {
+      size = tt;
+      none = tt;
+      low = tt;
+      tree =
+          (fails_same _ (core_enclosed (Reading.read c.args.below) (suc c.args.below) (naming_of c.args.naming)
+          (in_force c.args.types.now) c.in-Some.ensures (sym c.takes.ensures.found ∙ c.if-takes.false)
+          (ap (λ v. encloses (naming_of c.args.naming) (in_force c.args.types.now) v)
+          (sym (c.rest.ensures ∙ c.takes.ensures.left c.if-takes.false)) ∙ sym c.is_enclosed.ensures
+          ∙ c.if-is_enclosed.true))
+          (fails_bind _ _ _ (enclosed_fails (Reading.read c.args.below) (suc c.args.below) (naming_of c.args.naming)
+          (in_force c.args.types.now) (past (rest_of c.args.cursor.now)) c.in-Some.item _
+          (fails_bind _ _ _ (fails_same _ (ap (λ v.
+          Reading.read c.args.below (Declarator (naming_of c.args.naming)) (in_force c.args.types.now) v)
+          (sym (c.advance.ensures.rest ∙ ap past (c.takes.ensures.left c.if-takes.false))))
+          c.in_err-inner.ensures.tree)))));
+    })
 
-pub core-returns-in_err-expect-clause-tree : goal.core-returns-in_err-expect-clause-tree
-core-returns-in_err-expect-clause-tree t c =
+pub core-returns-in_err-expect : goal.core-returns-in_err-expect
+core-returns-in_err-expect t c =
     let p = err_from_is_err_and c.from_residual-in_err-expect.result c.from_residual-in_err-expect.ensures.1 in
-    rw (p.1, p.2) (fails_same _ (core_enclosed (Reading.read c.args.below) (suc c.args.below) (naming_of c.args.naming)
-    (in_force c.args.types.now) c.in-Some.ensures (sym c.takes.ensures.found ∙ c.if-takes.false)
-    (ap (λ v. encloses (naming_of c.args.naming) (in_force c.args.types.now) v)
-    (sym (c.rest.ensures ∙ c.takes.ensures.left c.if-takes.false)) ∙ sym c.is_enclosed.ensures
-    ∙ c.if-is_enclosed.true))
-    (fails_bind _ _ _ (enclosed_fails (Reading.read c.args.below) (suc c.args.below) (naming_of c.args.naming)
-    (in_force c.args.types.now) (past (rest_of c.args.cursor.now)) c.in-Some.item _
-    (bracketed_fails (Reading.read c.args.below) (Declarator (naming_of c.args.naming)) is_close_parenthesis
-    (in_force c.args.types.now) (past (rest_of c.args.cursor.now)) _
-    (ap (λ v. Reading.read c.args.below (Declarator (naming_of c.args.naming)) (in_force c.args.types.now) v)
-    (sym (c.advance.ensures.rest ∙ ap past (c.takes.ensures.left c.if-takes.false)))
-    ∙ c.in_ok-inner.ensures.tree.reads) c.in_err-expect.ensures.found))))
+    rw (p.1, p.2) (record {
+      size = tt;
+      none = tt;
+      low = tt;
+      tree =
+          (fails_same _ (core_enclosed (Reading.read c.args.below) (suc c.args.below) (naming_of c.args.naming)
+          (in_force c.args.types.now) c.in-Some.ensures (sym c.takes.ensures.found ∙ c.if-takes.false)
+          (ap (λ v. encloses (naming_of c.args.naming) (in_force c.args.types.now) v)
+          (sym (c.rest.ensures ∙ c.takes.ensures.left c.if-takes.false)) ∙ sym c.is_enclosed.ensures
+          ∙ c.if-is_enclosed.true))
+          (fails_bind _ _ _ (enclosed_fails (Reading.read c.args.below) (suc c.args.below) (naming_of c.args.naming)
+          (in_force c.args.types.now) (past (rest_of c.args.cursor.now)) c.in-Some.item _
+          (bracketed_fails (Reading.read c.args.below) (Declarator (naming_of c.args.naming)) is_close_parenthesis
+          (in_force c.args.types.now) (past (rest_of c.args.cursor.now)) _
+          (ap (λ v. Reading.read c.args.below (Declarator (naming_of c.args.naming)) (in_force c.args.types.now) v)
+          (sym (c.advance.ensures.rest ∙ ap past (c.takes.ensures.left c.if-takes.false)))
+          ∙ c.in_ok-inner.ensures.tree.reads) c.in_err-expect.ensures.found))));
+    })
 
 pub core-returns-then-is_enclosed-clause-tree : goal.core-returns-then-is_enclosed-clause-tree
 core-returns-then-is_enclosed-clause-tree t c = let inner = c.in_ok-inner.ensures.tree in
@@ -295,13 +350,18 @@ declarator-returns-in_default-clause-tree t c =
     declarator_empty (Reading.read c.args.below) (suc c.args.below) (naming_of c.args.naming)
     (in_force c.args.types.now) c.in_default.ensures
 
-pub declarator-returns-in_err-core-clause-tree : goal.declarator-returns-in_err-core-clause-tree
-declarator-returns-in_err-core-clause-tree t c =
+pub declarator-returns-in_err-core : goal.declarator-returns-in_err-core
+declarator-returns-in_err-core t c =
     let p = err_from_is_err_and c.from_residual.result c.from_residual.ensures.1 in
-    rw (p.1, p.2) (declarator_fails (Reading.read c.args.below) (suc c.args.below) (naming_of c.args.naming)
-    (in_force c.args.types.now) (rest_of c.args.cursor.now) _ (sym c.takes.ensures.found ∙ c.if-not-takes.true)
-    (fails_same _ (ap (λ v. Reading.core (Reading.read c.args.below) (suc c.args.below) (naming_of c.args.naming)
-    (in_force c.args.types.now) v) (sym (c.takes.ensures.left c.if-not-takes.true))) c.in_err-core.ensures.tree))
+    rw (p.1, p.2) (record {
+      size = tt;
+      low = tt;
+      tree =
+          (declarator_fails (Reading.read c.args.below) (suc c.args.below) (naming_of c.args.naming)
+          (in_force c.args.types.now) (rest_of c.args.cursor.now) _ (sym c.takes.ensures.found ∙ c.if-not-takes.true)
+          (fails_same _ (ap (λ v. Reading.core (Reading.read c.args.below) (suc c.args.below) (naming_of c.args.naming)
+          (in_force c.args.types.now) v) (sym (c.takes.ensures.left c.if-not-takes.true))) c.in_err-core.ensures.tree));
+    })
 
 pub declarator-returns-then-not-takes-clause-size : goal.declarator-returns-then-not-takes-clause-size
 declarator-returns-then-not-takes-clause-size t c =
@@ -318,21 +378,31 @@ declarator-returns-then-not-takes-clause-tree t c = let at = c.in_ok-core.ensure
     MatchResult-weaker c.suffixes.result (c.suffixes.ensures.tree at.tree at.means)
     (λ y g. got_same same (got_on (grows_from c.takes.ensures.nodes at.grows) g)) (λ e f. fails_same e same f)
 
-pub declarator-returns-in_err-inner-clause-tree : goal.declarator-returns-in_err-inner-clause-tree
-declarator-returns-in_err-inner-clause-tree t c =
+pub declarator-returns-in_err-inner : goal.declarator-returns-in_err-inner
+declarator-returns-in_err-inner t c =
     let p = err_from_is_err_and c.from_residual-in_err-inner.result c.from_residual-in_err-inner.ensures.1 in
-    rw (p.1, p.2) (fails_same _ (declarator_pointer (Reading.read c.args.below) (suc c.args.below)
-    (naming_of c.args.naming) (in_force c.args.types.now) c.in-Some.ensures
-    (sym c.takes.ensures.found ∙ c.if-not-takes.false))
-    (pointer_fails (Reading.read c.args.below) (suc c.args.below) (naming_of c.args.naming)
-    (in_force c.args.types.now) (past (rest_of c.args.cursor.now)) _
-    (ap (λ v. qualifiers_node c.in-Some.item v) (sym (c.takes.ensures.taken c.if-not-takes.false))
-    ∙ c.in_ok-qualifiers.ensures.tree.reads) c.in_err-inner.ensures.tree))
+    rw (p.1, p.2) (record {
+      size = tt;
+      low = tt;
+      tree =
+          (fails_same _ (declarator_pointer (Reading.read c.args.below) (suc c.args.below)
+          (naming_of c.args.naming) (in_force c.args.types.now) c.in-Some.ensures
+          (sym c.takes.ensures.found ∙ c.if-not-takes.false))
+          (pointer_fails (Reading.read c.args.below) (suc c.args.below) (naming_of c.args.naming)
+          (in_force c.args.types.now) (past (rest_of c.args.cursor.now)) _
+          (ap (λ v. qualifiers_node c.in-Some.item v) (sym (c.takes.ensures.taken c.if-not-takes.false))
+          ∙ c.in_ok-qualifiers.ensures.tree.reads) c.in_err-inner.ensures.tree));
+    })
 
-pub declarator-returns-in_err-parts-clause-tree : goal.declarator-returns-in_err-parts-clause-tree
-declarator-returns-in_err-parts-clause-tree t c =
+pub declarator-returns-in_err-parts : goal.declarator-returns-in_err-parts
+declarator-returns-in_err-parts t c =
     let p = err_from_is_err_and c.from_residual-in_err-parts.result c.from_residual-in_err-parts.ensures.1 in
-    rw (p.1, p.2) (fails_memory _ _ c.in_err-parts.ensures.tree)
+    rw (p.1, p.2) (record {
+      size = tt;
+      low = tt;
+      tree =
+          (fails_memory _ _ c.in_err-parts.ensures.tree);
+    })
 
 pub declarator-returns-clause-tree : goal.declarator-returns-clause-tree
 declarator-returns-clause-tree t c = let star = c.in_ok-qualifiers.ensures.tree in
@@ -368,18 +438,31 @@ enum_specifier-returns-then-not-takes-clause-tree t c = let got = c.in_ok-start.
     (λ y g. got_same same (got_on {mid = c.tag.new.cursor} got.grows (got_from c.takes.ensures.nodes g)))
     (λ e f. fails_same e same f)
 
-pub enum_specifier-returns-in_err-parts-clause-tree : goal.enum_specifier-returns-in_err-parts-clause-tree
-enum_specifier-returns-in_err-parts-clause-tree t c =
+pub enum_specifier-returns-in_err-parts : goal.enum_specifier-returns-in_err-parts
+enum_specifier-returns-in_err-parts t c =
     let p = err_from_is_err_and c.from_residual-in_err-parts.result c.from_residual-in_err-parts.ensures.1 in
-    let got = c.in_ok-start.ensures.tree in
-    let same = enum_listed (Reading.read c.args.below) c.args.keyword.now (in_force c.args.types.now) (rest_of c.args.cursor.now) got.reads (sym c.takes.ensures.found ∙ c.if-not-takes.false) ∙ ap (λ v. after got.trees (Reading.listed_in_braces (Reading.read c.args.below) Enumerator (in_force c.args.types.now) v) >>= λ a. Some (node Kinds.Enum c.args.keyword.now a.0, a.1)) (sym (c.takes.ensures.taken c.if-not-takes.false)) in
-    rw (p.1, p.2) (fails_same _ same (fails_bind _ _ _
-    (c.in_err-parts.ensures.tree got.trees (holds_at c.takes.ensures.nodes got.holds))))
+    rw (p.1, p.2) (record {
+      size = tt;
+      low = tt;
+      tree =
+          let got = c.in_ok-start.ensures.tree in
+          let same = enum_listed (Reading.read c.args.below) c.args.keyword.now (in_force c.args.types.now)
+          (rest_of c.args.cursor.now) got.reads (sym c.takes.ensures.found ∙ c.if-not-takes.false)
+          ∙ ap (λ v. after got.trees (Reading.listed_in_braces (Reading.read c.args.below) Enumerator
+          (in_force c.args.types.now) v) >>= λ a. Some (node Kinds.Enum c.args.keyword.now a.0, a.1))
+          (sym (c.takes.ensures.taken c.if-not-takes.false)) in
+          (fails_same _ same (fails_bind _ _ _
+          (c.in_err-parts.ensures.tree got.trees (holds_at c.takes.ensures.nodes got.holds))));
+    })
 
 pub enum_specifier-returns-clause-tree : goal.enum_specifier-returns-clause-tree
 enum_specifier-returns-clause-tree t c =
     let got = c.in_ok-start.ensures.tree in
-    let same = enum_listed (Reading.read c.args.below) c.args.keyword.now (in_force c.args.types.now) (rest_of c.args.cursor.now) got.reads (sym c.takes.ensures.found ∙ c.if-not-takes.false) ∙ ap (λ v. after got.trees (Reading.listed_in_braces (Reading.read c.args.below) Enumerator (in_force c.args.types.now) v) >>= λ a. Some (node Kinds.Enum c.args.keyword.now a.0, a.1)) (sym (c.takes.ensures.taken c.if-not-takes.false)) in
+    let same = enum_listed (Reading.read c.args.below) c.args.keyword.now (in_force c.args.types.now)
+    (rest_of c.args.cursor.now) got.reads (sym c.takes.ensures.found ∙ c.if-not-takes.false)
+    ∙ ap (λ v. after got.trees (Reading.listed_in_braces (Reading.read c.args.below) Enumerator
+    (in_force c.args.types.now) v) >>= λ a. Some (node Kinds.Enum c.args.keyword.now a.0, a.1))
+    (sym (c.takes.ensures.taken c.if-not-takes.false)) in
     MatchResult-weaker c.join.result c.join.ensures.tree
     (λ part made. got_same same (got_on {mid = c.tag.new.cursor} got.grows
     (got_from c.takes.ensures.nodes (got_node Kinds.Enum c.args.keyword.now
@@ -398,7 +481,10 @@ enumerator-returns-then-not-is_declared_by-clause-tree t c =
 
 pub enumerator-returns-then-not-takes-clause-tree : goal.enumerator-returns-then-not-takes-clause-tree
 enumerator-returns-then-not-takes-clause-tree t c =
-    let same = enumerator_bare (Reading.read c.args.below) (suc c.args.below) (in_force c.args.types.now) c.in-Some.ensures.rest (sym c.is_declared_by.ensures ∙ c.if-not-is_declared_by.false) (sym c.takes.ensures.found ∙ c.if-not-takes.true) in
+    let same = enumerator_bare (Reading.read c.args.below) (suc c.args.below)
+    (in_force c.args.types.now) c.in-Some.ensures.rest
+    (sym c.is_declared_by.ensures ∙ c.if-not-is_declared_by.false)
+    (sym c.takes.ensures.found ∙ c.if-not-takes.true) in
     MatchResult-weaker c.leaf.result (and_ok c.leaf.result _ _ _ c.leaf.ensures.tree c.leaf.ensures.grows)
     (λ part m. got_leaf c.takes.new.self (c.takes.ensures.nodes ∙ c.take.ensures.nodes) m.1 c.leaf.ensures.rest
     (same ∙ ap (λ v. Some (node Kinds.Enumerator c.in-Some.name nil, v))
@@ -416,11 +502,16 @@ enumerator-returns-clause-tree t c =
     (λ y g. got_same same (got_from (c.takes.ensures.nodes ∙ c.take.ensures.nodes) g))
     (λ e f. fails_same e same f)
 
-pub expression-returns-in_err-part-clause-tree : goal.expression-returns-in_err-part-clause-tree
+pub expression-returns-in_err-part : goal.expression-returns-in_err-part
 unfolding Reading.expression
-expression-returns-in_err-part-clause-tree t c =
+expression-returns-in_err-part t c =
     let p = err_from_is_err_and c.from_residual.result c.from_residual.ensures.1 in
-    rw (p.1, p.2) (fails_bind _ _ _ c.in_err-part.ensures.tree)
+    rw (p.1, p.2) (record {
+      size = tt;
+      low = tt;
+      tree =
+          (fails_bind _ _ _ c.in_err-part.ensures.tree);
+    })
 
 pub expression-returns-then-level_of-level-clause-tree : goal.expression-returns-then-level_of-level-clause-tree
 unfolding Reading.expression
@@ -436,13 +527,20 @@ expression-returns-clause-tree t c = let at = c.in_ok-part.ensures.tree in
     MatchResult-weaker c.climb.result (c.climb.ensures.tree at.tree at.means) (λ y g. got_same same (got_on at.grows g))
     (λ e f. fails_same e same f)
 
-pub follow-returns-in_err-part-in-TypeName-clause-tree : goal.follow-returns-in_err-part-in-TypeName-clause-tree
-follow-returns-in_err-part-in-TypeName-clause-tree t c =
-    let p = err_from_is_err_and c.from_residual-in_err-part-in-TypeName.result c.from_residual-in_err-part-in-TypeName.ensures.1 in
-    λ ys h. rw (p.1, p.2) (fails_bind _ _ _ (fails_same _
-    (ap (λ v. follow_from (Reading.read c.args.below) v (in_force c.args.types.now) (rest_of c.args.cursor.now))
-    c.in-TypeName.is ∙ ap alone (type_name_is (Reading.read c.args.below) (in_force c.args.types.now)
-    (rest_of c.args.cursor.now))) (fails_bind _ _ _ c.in_err-part-in-TypeName.ensures.tree)))
+pub follow-returns-in_err-part-in-TypeName : goal.follow-returns-in_err-part-in-TypeName
+follow-returns-in_err-part-in-TypeName t c =
+    let p = err_from_is_err_and c.from_residual-in_err-part-in-TypeName.result
+    c.from_residual-in_err-part-in-TypeName.ensures.1 in
+    rw (p.1, p.2) (record {
+      size = tt;
+      low = tt;
+      keeps = tt;
+      tree =
+          λ ys h. (fails_bind _ _ _ (fails_same _
+          (ap (λ v. follow_from (Reading.read c.args.below) v (in_force c.args.types.now) (rest_of c.args.cursor.now))
+          c.in-TypeName.is ∙ ap alone (type_name_is (Reading.read c.args.below) (in_force c.args.types.now)
+          (rest_of c.args.cursor.now))) (fails_bind _ _ _ c.in_err-part-in-TypeName.ensures.tree)));
+    })
 
 pub follow-returns-in_ok-part-in-Read-clause-tree : goal.follow-returns-in_ok-part-in-Read-clause-tree
 follow-returns-in_ok-part-in-Read-clause-tree t c =
@@ -492,25 +590,43 @@ follow-returns-in_ok-expect-in-Expect-clause-tree t c = λ ys h. record {
   grows = grows_to grows_same (sym c.expect.ensures.nodes);
 }
 
-pub function-returns-in_err-parts-clause-tree : goal.function-returns-in_err-parts-clause-tree
-function-returns-in_err-parts-clause-tree t c =
+pub function-returns-in_err-parts : goal.function-returns-in_err-parts
+function-returns-in_err-parts t c =
     let p = err_from_is_err_and c.from_residual.result c.from_residual.ensures.1 in
-    λ x m. rw (p.1, p.2) (function_high (Reading.read c.args.below) c.args.below x c.args.item.now
-    (in_force c.args.types.now) (rest_of c.args.cursor.now) _ (c.in_err-parts.ensures.tree x m))
+    rw (p.1, p.2) (record {
+      size = tt;
+      low = tt;
+      taller = tt;
+      tree =
+          λ x m. (function_high (Reading.read c.args.below) c.args.below x c.args.item.now
+          (in_force c.args.types.now) (rest_of c.args.cursor.now) _ (c.in_err-parts.ensures.tree x m));
+    })
 
-pub function-returns-in_err-listed-clause-tree : goal.function-returns-in_err-listed-clause-tree
-function-returns-in_err-listed-clause-tree t c =
+pub function-returns-in_err-listed : goal.function-returns-in_err-listed
+function-returns-in_err-listed t c =
     let p = err_from_is_err_and c.from_residual-in_err-listed.result c.from_residual-in_err-listed.ensures.1 in
-    λ x m. rw (p.1, p.2) (function_unlisted (Reading.read c.args.below) c.args.below x c.args.item.now
-    (in_force c.args.types.now) (rest_of c.args.cursor.now) _
-    (c.in_err-listed.ensures.tree nil c.no_parts-none.ensures.none))
+    rw (p.1, p.2) (record {
+      size = tt;
+      low = tt;
+      taller = tt;
+      tree =
+          λ x m. (function_unlisted (Reading.read c.args.below) c.args.below x c.args.item.now
+          (in_force c.args.types.now) (rest_of c.args.cursor.now) _
+          (c.in_err-listed.ensures.tree nil c.no_parts-none.ensures.none));
+    })
 
-pub function-returns-in_err-expect-clause-tree : goal.function-returns-in_err-expect-clause-tree
-function-returns-in_err-expect-clause-tree t c =
+pub function-returns-in_err-expect : goal.function-returns-in_err-expect
+function-returns-in_err-expect t c =
     let p = err_from_is_err_and c.from_residual-in_err-expect.result c.from_residual-in_err-expect.ensures.1 in
-    λ x m. rw (p.1, p.2) (let listed = c.in_ok-listed.ensures.tree nil c.no_parts-none.ensures.none in
-    function_unclosed (Reading.read c.args.below) c.args.below x c.args.item.now (in_force c.args.types.now)
-    (rest_of c.args.cursor.now) _ listed.reads c.in_err-expect.ensures.found)
+    rw (p.1, p.2) (record {
+      size = tt;
+      low = tt;
+      taller = tt;
+      tree =
+          λ x m. (let listed = c.in_ok-listed.ensures.tree nil c.no_parts-none.ensures.none in
+          function_unclosed (Reading.read c.args.below) c.args.below x c.args.item.now (in_force c.args.types.now)
+          (rest_of c.args.cursor.now) _ listed.reads c.in_err-expect.ensures.found);
+    })
 
 pub function-returns-clause-tree : goal.function-returns-clause-tree
 function-returns-clause-tree t c = λ x m.
@@ -537,7 +653,10 @@ function-returns-clause-tree t c = λ x m.
 
 pub initializer-returns-in_default-clause-tree : goal.initializer-returns-in_default-clause-tree
 initializer-returns-in_default-clause-tree t c =
-    let same = initializer_plain (Reading.read c.args.below) (suc c.args.below) (in_force c.args.types.now) (rest_of c.args.cursor.now) c.in_default.ensures.other ∙ ap (λ v. Reading.expression (Reading.read c.args.below) (suc c.args.below) 1 (in_force c.args.types.now) v) (sym c.in_default.ensures.left) in
+    let same = initializer_plain (Reading.read c.args.below) (suc c.args.below) (in_force c.args.types.now)
+    (rest_of c.args.cursor.now) c.in_default.ensures.other
+    ∙ ap (λ v. Reading.expression (Reading.read c.args.below) (suc c.args.below) 1
+    (in_force c.args.types.now) v) (sym c.in_default.ensures.left) in
     MatchResult-weaker c.expression.result c.expression.ensures.tree
     (λ y g. got_same same (got_from c.in_default.ensures.nodes g)) (λ e f. fails_same e same f)
 
@@ -557,16 +676,21 @@ initializer-returns-then-takes-clause-tree t c =
     })
     (λ e f. fails_memory e _ f)
 
-pub initializer-returns-in_err-parts-clause-tree : goal.initializer-returns-in_err-parts-clause-tree
-initializer-returns-in_err-parts-clause-tree t c =
+pub initializer-returns-in_err-parts : goal.initializer-returns-in_err-parts
+initializer-returns-in_err-parts t c =
     let p = err_from_is_err_and c.from_residual.result c.from_residual.ensures.1 in
-    rw (p.1, p.2) (fails_same _ (initializer_braces (Reading.read c.args.below) (suc c.args.below)
-    (in_force c.args.types.now) c.in-Some.ensures.rest c.in-Some.ensures.found)
-    (braces_fail (Reading.read c.args.below) (suc c.args.below) (in_force c.args.types.now)
-    (rest_of c.take_if.new.self) c.in-Some.brace _ (sym c.takes.ensures.found ∙ c.if-takes.false)
-    (fails_same _ (ap (λ v. after nil (Reading.listed_in_braces (Reading.read c.args.below) Initializer
-    (in_force c.args.types.now) v)) (sym (c.takes.ensures.left c.if-takes.false)))
-    (c.in_err-parts.ensures.tree nil c.no_parts-none.ensures.none))))
+    rw (p.1, p.2) (record {
+      size = tt;
+      low = tt;
+      tree =
+          (fails_same _ (initializer_braces (Reading.read c.args.below) (suc c.args.below)
+          (in_force c.args.types.now) c.in-Some.ensures.rest c.in-Some.ensures.found)
+          (braces_fail (Reading.read c.args.below) (suc c.args.below) (in_force c.args.types.now)
+          (rest_of c.take_if.new.self) c.in-Some.brace _ (sym c.takes.ensures.found ∙ c.if-takes.false)
+          (fails_same _ (ap (λ v. after nil (Reading.listed_in_braces (Reading.read c.args.below) Initializer
+          (in_force c.args.types.now) v)) (sym (c.takes.ensures.left c.if-takes.false)))
+          (c.in_err-parts.ensures.tree nil c.no_parts-none.ensures.none))));
+    })
 
 pub initializer-returns-clause-tree : goal.initializer-returns-clause-tree
 initializer-returns-clause-tree t c = let parts = c.in_ok-parts.ensures.tree nil c.no_parts-none.ensures.none in
@@ -667,7 +791,11 @@ longer-returns-in-Assigns-clause-tree t c = λ x m.
 pub measure-returns-then-opens_type-clause-tree : goal.measure-returns-then-opens_type-clause-tree
 unfolding Reading.measure_from
 measure-returns-then-opens_type-clause-tree t c =
-    let same = then_is _ (ap (opens_type (in_force c.args.types.now)) (sym c.rest.ensures) ∙ sym c.opens_type.ensures ∙ c.if-opens_type.true) ∙ ap (λ v. Reading.size_from (Reading.read c.args.below) (suc c.args.below) c.args.item.now (in_force c.args.types.now) v) (sym c.advance.ensures.rest) ∙ size_is (Reading.read c.args.below) (suc c.args.below) c.args.item.now (in_force c.args.types.now) (rest_of c.advance.new.self) in
+    let same = then_is _ (ap (opens_type (in_force c.args.types.now)) (sym c.rest.ensures) ∙ sym c.opens_type.ensures
+    ∙ c.if-opens_type.true) ∙ ap (λ v. Reading.size_from (Reading.read c.args.below)
+    (suc c.args.below) c.args.item.now (in_force c.args.types.now) v) (sym c.advance.ensures.rest)
+    ∙ size_is (Reading.read c.args.below) (suc c.args.below) c.args.item.now (in_force c.args.types.now)
+    (rest_of c.advance.new.self) in
     MatchResult-weaker c.node.result (c.node.ensures.tree nil (λ zs. c.place.ensures) (λ zs. refl)
     (holds_at c.advance.ensures.nodes c.no_parts-none.ensures.none))
     (λ y g. got_same same (got_from c.advance.ensures.nodes g))
@@ -676,36 +804,53 @@ measure-returns-then-opens_type-clause-tree t c =
 pub measure-returns-else-opens_type-clause-tree : goal.measure-returns-else-opens_type-clause-tree
 unfolding Reading.measure_from
 measure-returns-else-opens_type-clause-tree t c =
-    let same = else_is _ (ap (opens_type (in_force c.args.types.now)) (sym c.rest.ensures) ∙ sym c.opens_type.ensures ∙ c.if-opens_type.false) ∙ measured_is (Reading.read c.args.below) (suc c.args.below) c.args.item.now (in_force c.args.types.now) (rest_of c.args.cursor.now) in
+    let same = else_is _ (ap (opens_type (in_force c.args.types.now)) (sym c.rest.ensures) ∙ sym c.opens_type.ensures
+    ∙ c.if-opens_type.false) ∙ measured_is (Reading.read c.args.below) (suc c.args.below) c.args.item.now
+    (in_force c.args.types.now) (rest_of c.args.cursor.now) in
     MatchResult-weaker c.node-else-opens_type.result
     (c.node-else-opens_type.ensures.tree nil (λ zs. c.place-else-opens_type.ensures)
     (λ zs. refl) c.no_parts-none.ensures.none)
     (λ y g. got_same same g)
     (λ e f. fails_same e same f)
 
-pub member-returns-in_err-specifiers-clause-tree : goal.member-returns-in_err-specifiers-clause-tree
+pub member-returns-in_err-specifiers : goal.member-returns-in_err-specifiers
 unfolding Reading.member
-member-returns-in_err-specifiers-clause-tree t c =
+member-returns-in_err-specifiers t c =
     let p = err_from_is_err_and c.from_residual.result c.from_residual.ensures.1 in
-    rw (p.1, p.2) (fails_bind _ _ _ c.in_err-specifiers.ensures.tree)
+    rw (p.1, p.2) (record {
+      size = tt;
+      low = tt;
+      tree =
+          (fails_bind _ _ _ c.in_err-specifiers.ensures.tree);
+    })
 
-pub member-returns-in_err-parts-2-clause-tree : goal.member-returns-in_err-parts-2-clause-tree
-member-returns-in_err-parts-2-clause-tree t c =
+pub member-returns-in_err-parts-2 : goal.member-returns-in_err-parts-2
+member-returns-in_err-parts-2 t c =
     let p = err_from_is_err_and c.from_residual-in_err-parts-2.result c.from_residual-in_err-parts-2.ensures.1 in
-    let got = c.in_ok-specifiers.ensures.tree.part in
-    rw (p.1, p.2) (fails_same _ (member_is (Reading.read c.args.below) (suc c.args.below) (in_force c.args.types.now)
-    (rest_of c.args.cursor.now) (rest_of c.specifiers.new.cursor) got.tree got.reads)
-    (fails_bind _ _ _ (c.in_err-parts-2.ensures.tree (one got.tree)
-    (c.in_ok-parts.ensures.one got.tree got.means))))
+    rw (p.1, p.2) (record {
+      size = tt;
+      low = tt;
+      tree =
+          let got = c.in_ok-specifiers.ensures.tree.part in
+          (fails_same _ (member_is (Reading.read c.args.below) (suc c.args.below) (in_force c.args.types.now)
+          (rest_of c.args.cursor.now) (rest_of c.specifiers.new.cursor) got.tree got.reads)
+          (fails_bind _ _ _ (c.in_err-parts-2.ensures.tree (one got.tree)
+          (c.in_ok-parts.ensures.one got.tree got.means))));
+    })
 
-pub member-returns-in_err-expect-clause-tree : goal.member-returns-in_err-expect-clause-tree
-member-returns-in_err-expect-clause-tree t c =
+pub member-returns-in_err-expect : goal.member-returns-in_err-expect
+member-returns-in_err-expect t c =
     let p = err_from_is_err_and c.from_residual-in_err-expect.result c.from_residual-in_err-expect.ensures.1 in
-    let got = c.in_ok-specifiers.ensures.tree.part in
-    let sub = c.in_ok-parts-2.ensures.tree (one got.tree) (c.in_ok-parts.ensures.one got.tree got.means) in
-    rw (p.1, p.2) (fails_same _ (member_is (Reading.read c.args.below) (suc c.args.below) (in_force c.args.types.now)
-    (rest_of c.args.cursor.now) (rest_of c.specifiers.new.cursor) got.tree got.reads ∙ bind_is _ sub.reads)
-    (fails_bind _ _ _ c.in_err-expect.ensures.found))
+    rw (p.1, p.2) (record {
+      size = tt;
+      low = tt;
+      tree =
+          let got = c.in_ok-specifiers.ensures.tree.part in
+          let sub = c.in_ok-parts-2.ensures.tree (one got.tree) (c.in_ok-parts.ensures.one got.tree got.means) in
+          (fails_same _ (member_is (Reading.read c.args.below) (suc c.args.below) (in_force c.args.types.now)
+          (rest_of c.args.cursor.now) (rest_of c.specifiers.new.cursor) got.tree got.reads ∙ bind_is _ sub.reads)
+          (fails_bind _ _ _ c.in_err-expect.ensures.found));
+    })
 
 pub member-returns-clause-tree : goal.member-returns-clause-tree
 member-returns-clause-tree t c =
@@ -725,24 +870,28 @@ member-returns-clause-tree t c =
     })
     (λ e same. fails_memory e _ same)
 
-pub members-returns-in_err-part-clause-tree : goal.members-returns-in_err-part-clause-tree
-members-returns-in_err-part-clause-tree t c =
+pub members-returns-in_err-part : goal.members-returns-in_err-part
+members-returns-in_err-part t c =
     let p = err_from_is_err_and c.from_residual.result c.from_residual.ensures.1 in
-    λ ys turns much m. rw (
-      p.1,
-      p.2,
-    ) (fills_not c.args.cursor.now c.args.below
-    (in_force c.args.types.now) ys _ turns much c.in_err-part.ensures.tree)
+    rw (p.1, p.2) (record {
+      size = tt;
+      low = tt;
+      tree =
+          λ ys turns much m. (fills_not c.args.cursor.now c.args.below
+          (in_force c.args.types.now) ys _ turns much c.in_err-part.ensures.tree);
+    })
 
-pub members-returns-in_err-part-2-clause-tree : goal.members-returns-in_err-part-2-clause-tree
-members-returns-in_err-part-2-clause-tree t c =
+pub members-returns-in_err-part-2 : goal.members-returns-in_err-part-2
+members-returns-in_err-part-2 t c =
     let p = err_from_is_err_and c.from_residual-in_err-part-2.result c.from_residual-in_err-part-2.ensures.1 in
-    λ ys turns much m. rw (
-      p.1,
-      p.2,
-    ) (fills_fail _ (c.list.invariant.fills ys turns much m)
-    (ap (starts is_close_brace) (sym c.rest.ensures) ∙ sym c.starts.ensures ∙ c.list-test.true)
-    c.in_err-part-2.ensures.tree)
+    rw (p.1, p.2) (record {
+      size = tt;
+      low = tt;
+      tree =
+          λ ys turns much m. (fills_fail _ (c.list.invariant.fills ys turns much m)
+          (ap (starts is_close_brace) (sym c.rest.ensures) ∙ sym c.starts.ensures ∙ c.list-test.true)
+          c.in_err-part-2.ensures.tree);
+    })
 
 pub members-returns-clause-tree : goal.members-returns-clause-tree
 members-returns-clause-tree t c =
@@ -837,14 +986,19 @@ operand-returns-then-has-clause-tree t c =
 
 pub operand-returns-else-has-clause-tree : goal.operand-returns-else-has-clause-tree
 operand-returns-else-has-clause-tree t c =
-    let same = operand_at c.args.below (in_force c.args.types.now) (rest_of c.args.cursor.now) (rest_of c.take.new.self) c.in-Some.item _ c.in-Some.ensures.rest (ap head_of (sym c.symbol.ensures) ∙ sym c.head_of.ensures ∙ c.in-Name.is) ∙ else_is _ (sym c.has.ensures ∙ c.if-has.false) in
+    let same = operand_at c.args.below (in_force c.args.types.now) (rest_of c.args.cursor.now)
+    (rest_of c.take.new.self) c.in-Some.item _ c.in-Some.ensures.rest
+    (ap head_of (sym c.symbol.ensures) ∙ sym c.head_of.ensures ∙ c.in-Name.is)
+    ∙ else_is _ (sym c.has.ensures ∙ c.if-has.false) in
     MatchResult-weaker c.leaf.result (and_ok c.leaf.result _ _ _ c.leaf.ensures.tree c.leaf.ensures.grows)
     (λ part m. got_leaf c.take.new.self c.take.ensures.nodes m.1 c.leaf.ensures.rest same (m.0 refl))
     (λ e same. fails_memory e _ same)
 
 pub operand-returns-in-Number-clause-tree : goal.operand-returns-in-Number-clause-tree
 operand-returns-in-Number-clause-tree t c =
-    let same = operand_at c.args.below (in_force c.args.types.now) (rest_of c.args.cursor.now) (rest_of c.take.new.self) c.in-Some.item _ c.in-Some.ensures.rest (ap head_of (sym c.symbol.ensures) ∙ sym c.head_of.ensures ∙ c.in-Number.is) in
+    let same = operand_at c.args.below (in_force c.args.types.now) (rest_of c.args.cursor.now)
+    (rest_of c.take.new.self) c.in-Some.item _ c.in-Some.ensures.rest
+    (ap head_of (sym c.symbol.ensures) ∙ sym c.head_of.ensures ∙ c.in-Number.is) in
     MatchResult-weaker c.leaf-in-Number.result
     (and_ok c.leaf-in-Number.result _ _ _ c.leaf-in-Number.ensures.tree c.leaf-in-Number.ensures.grows)
     (λ part m. got_leaf c.take.new.self c.take.ensures.nodes m.1 c.leaf-in-Number.ensures.rest same (m.0 refl))
@@ -852,7 +1006,9 @@ operand-returns-in-Number-clause-tree t c =
 
 pub operand-returns-in-Character-clause-tree : goal.operand-returns-in-Character-clause-tree
 operand-returns-in-Character-clause-tree t c =
-    let same = operand_at c.args.below (in_force c.args.types.now) (rest_of c.args.cursor.now) (rest_of c.take.new.self) c.in-Some.item _ c.in-Some.ensures.rest (ap head_of (sym c.symbol.ensures) ∙ sym c.head_of.ensures ∙ c.in-Character.is) in
+    let same = operand_at c.args.below (in_force c.args.types.now) (rest_of c.args.cursor.now)
+    (rest_of c.take.new.self) c.in-Some.item _ c.in-Some.ensures.rest
+    (ap head_of (sym c.symbol.ensures) ∙ sym c.head_of.ensures ∙ c.in-Character.is) in
     MatchResult-weaker c.leaf-in-Character.result
     (and_ok c.leaf-in-Character.result _ _ _ c.leaf-in-Character.ensures.tree c.leaf-in-Character.ensures.grows)
     (λ part m. got_leaf c.take.new.self c.take.ensures.nodes m.1 c.leaf-in-Character.ensures.rest same (m.0 refl))
@@ -860,27 +1016,45 @@ operand-returns-in-Character-clause-tree t c =
 
 pub operand-returns-in-Text-clause-tree : goal.operand-returns-in-Text-clause-tree
 operand-returns-in-Text-clause-tree t c =
-    let same = operand_at c.args.below (in_force c.args.types.now) (rest_of c.args.cursor.now) (rest_of c.take.new.self) c.in-Some.item _ c.in-Some.ensures.rest (ap head_of (sym c.symbol.ensures) ∙ sym c.head_of.ensures ∙ c.in-Text.is) in
+    let same = operand_at c.args.below (in_force c.args.types.now) (rest_of c.args.cursor.now)
+    (rest_of c.take.new.self) c.in-Some.item _ c.in-Some.ensures.rest
+    (ap head_of (sym c.symbol.ensures) ∙ sym c.head_of.ensures ∙ c.in-Text.is) in
     MatchResult-weaker c.text.result c.text.ensures.tree (λ y g. got_same same (got_from c.take.ensures.nodes g))
     (λ e f. fails_same e same f)
 
 pub operand-returns-then-start-clause-tree : goal.operand-returns-then-start-clause-tree
 operand-returns-then-start-clause-tree t c =
-    let same = operand_at c.args.below (in_force c.args.types.now) (rest_of c.args.cursor.now) (rest_of c.take.new.self) c.in-Some.item _ c.in-Some.ensures.rest (ap head_of (sym c.symbol.ensures) ∙ sym c.head_of.ensures ∙ c.in-Opens.is) ∙ then_is _ (ap (starts_with (begins_type (in_force c.args.types.now))) (sym c.rest.ensures) ∙ sym c.start.ensures ∙ c.if-start.true) ∙ cast_is (Reading.read c.args.below) (suc c.args.below) c.in-Some.item (in_force c.args.types.now) (rest_of c.take.new.self) in
+    let same = operand_at c.args.below (in_force c.args.types.now) (rest_of c.args.cursor.now)
+    (rest_of c.take.new.self) c.in-Some.item _ c.in-Some.ensures.rest
+    (ap head_of (sym c.symbol.ensures) ∙ sym c.head_of.ensures ∙ c.in-Opens.is)
+    ∙ then_is _ (ap (starts_with (begins_type (in_force c.args.types.now))) (sym c.rest.ensures)
+    ∙ sym c.start.ensures ∙ c.if-start.true)
+    ∙ cast_is (Reading.read c.args.below) (suc c.args.below) c.in-Some.item (in_force c.args.types.now)
+    (rest_of c.take.new.self) in
     MatchResult-weaker c.node.result (c.node.ensures.tree nil (λ zs. c.place-own.ensures)
     (λ zs. refl) c.no_parts-none.ensures.none) (λ y g. got_same same (got_from c.take.ensures.nodes g))
     (λ e f. fails_same e same f)
 
 pub operand-returns-else-start-clause-tree : goal.operand-returns-else-start-clause-tree
 operand-returns-else-start-clause-tree t c =
-    let same = operand_at c.args.below (in_force c.args.types.now) (rest_of c.args.cursor.now) (rest_of c.take.new.self) c.in-Some.item _ c.in-Some.ensures.rest (ap head_of (sym c.symbol.ensures) ∙ sym c.head_of.ensures ∙ c.in-Opens.is) ∙ else_is _ (ap (starts_with (begins_type (in_force c.args.types.now))) (sym c.rest.ensures) ∙ sym c.start.ensures ∙ c.if-start.false) ∙ parenthesized_is (Reading.read c.args.below) (suc c.args.below) c.in-Some.item (in_force c.args.types.now) (rest_of c.take.new.self) in
+    let same = operand_at c.args.below (in_force c.args.types.now) (rest_of c.args.cursor.now)
+    (rest_of c.take.new.self) c.in-Some.item _ c.in-Some.ensures.rest
+    (ap head_of (sym c.symbol.ensures) ∙ sym c.head_of.ensures ∙ c.in-Opens.is)
+    ∙ else_is _ (ap (starts_with (begins_type (in_force c.args.types.now))) (sym c.rest.ensures)
+    ∙ sym c.start.ensures ∙ c.if-start.false)
+    ∙ parenthesized_is (Reading.read c.args.below) (suc c.args.below) c.in-Some.item (in_force c.args.types.now)
+    (rest_of c.take.new.self) in
     MatchResult-weaker c.node-else-start.result
     (c.node-else-start.ensures.tree nil (λ zs. c.place-own.ensures) (λ zs. refl) c.no_parts-none.ensures.none)
     (λ y g. got_same same (got_from c.take.ensures.nodes g)) (λ e f. fails_same e same f)
 
 pub operand-returns-in-Prefixes-clause-tree : goal.operand-returns-in-Prefixes-clause-tree
 operand-returns-in-Prefixes-clause-tree t c =
-    let same = operand_at c.args.below (in_force c.args.types.now) (rest_of c.args.cursor.now) (rest_of c.take.new.self) c.in-Some.item _ c.in-Some.ensures.rest (ap head_of (sym c.symbol.ensures) ∙ sym c.head_of.ensures ∙ c.in-Prefixes.is) ∙ prefix_is (Reading.read c.args.below) (suc c.args.below) c.in-Some.item (in_force c.args.types.now) (rest_of c.take.new.self) c.in-Prefixes.operator _ c.operand_level.ensures in
+    let same = operand_at c.args.below (in_force c.args.types.now) (rest_of c.args.cursor.now)
+    (rest_of c.take.new.self) c.in-Some.item _ c.in-Some.ensures.rest
+    (ap head_of (sym c.symbol.ensures) ∙ sym c.head_of.ensures ∙ c.in-Prefixes.is)
+    ∙ prefix_is (Reading.read c.args.below) (suc c.args.below) c.in-Some.item (in_force c.args.types.now)
+    (rest_of c.take.new.self) c.in-Prefixes.operator _ c.operand_level.ensures in
     MatchResult-weaker c.node-in-Prefixes.result
     (c.node-in-Prefixes.ensures.tree nil (λ zs. c.place-own.ensures)
     (λ zs. refl) c.no_parts-none-in-Prefixes.ensures.none)
@@ -888,7 +1062,9 @@ operand-returns-in-Prefixes-clause-tree t c =
 
 pub operand-returns-in-Measures-clause-tree : goal.operand-returns-in-Measures-clause-tree
 operand-returns-in-Measures-clause-tree t c =
-    let same = operand_at c.args.below (in_force c.args.types.now) (rest_of c.args.cursor.now) (rest_of c.take.new.self) c.in-Some.item _ c.in-Some.ensures.rest (ap head_of (sym c.symbol.ensures) ∙ sym c.head_of.ensures ∙ c.in-Measures.is) in
+    let same = operand_at c.args.below (in_force c.args.types.now) (rest_of c.args.cursor.now)
+    (rest_of c.take.new.self) c.in-Some.item _ c.in-Some.ensures.rest
+    (ap head_of (sym c.symbol.ensures) ∙ sym c.head_of.ensures ∙ c.in-Measures.is) in
     MatchResult-weaker c.measure.result c.measure.ensures.tree (λ y g. got_same same (got_from c.take.ensures.nodes g))
     (λ e f. fails_same e same f)
 
@@ -898,12 +1074,17 @@ operand-returns-in-NoHead-clause-tree t c =
     (rest_of c.take.new.self) c.in-Some.item _ c.in-Some.ensures.rest
     (ap head_of (sym c.symbol.ensures) ∙ sym c.head_of.ensures ∙ c.in-NoHead.is)
 
-pub optional_declarator-returns-in_err-part-clause-tree : goal.optional_declarator-returns-in_err-part-clause-tree
-optional_declarator-returns-in_err-part-clause-tree t c =
+pub optional_declarator-returns-in_err-part : goal.optional_declarator-returns-in_err-part
+optional_declarator-returns-in_err-part t c =
     let p = err_from_is_err_and c.from_residual.result c.from_residual.ensures.1 in
-    rw (p.1, p.2) (optional_fails (Reading.read c.args.below) (naming_of c.args.naming) (in_force c.args.types.now)
-    (rest_of c.args.cursor.now) _ (ap (λ v. starts begins_declarator v) (sym c.rest.ensures)
-    ∙ sym c.begins_declarator.ensures ∙ c.if-begins_declarator.true) c.in_err-part.ensures.tree)
+    rw (p.1, p.2) (record {
+      size = tt;
+      low = tt;
+      tree =
+          (optional_fails (Reading.read c.args.below) (naming_of c.args.naming) (in_force c.args.types.now)
+          (rest_of c.args.cursor.now) _ (ap (λ v. starts begins_declarator v) (sym c.rest.ensures)
+          ∙ sym c.begins_declarator.ensures ∙ c.if-begins_declarator.true) c.in_err-part.ensures.tree);
+    })
 
 pub optional_declarator-returns-then-begins_declarator-clause-tree :
     goal.optional_declarator-returns-then-begins_declarator-clause-tree
@@ -939,11 +1120,16 @@ optional_declarator-returns-else-may_be_nameless-clause-tree t c =
     ∙ sym c.begins_declarator.ensures ∙ c.if-begins_declarator.false)
     (sym c.may_be_nameless.ensures ∙ c.if-may_be_nameless.false)
 
-pub parameter_or_type_name-returns-in_err-parts-clause-tree :
-    goal.parameter_or_type_name-returns-in_err-parts-clause-tree
-parameter_or_type_name-returns-in_err-parts-clause-tree t c =
+pub parameter_or_type_name-returns-in_err-parts :
+    goal.parameter_or_type_name-returns-in_err-parts
+parameter_or_type_name-returns-in_err-parts t c =
     let p = err_from_is_err_and c.from_residual-in_err-parts.result c.from_residual-in_err-parts.ensures.1 in
-    rw (p.1, p.2) (fails_memory _ _ c.in_err-parts.ensures.tree)
+    rw (p.1, p.2) (record {
+      size = tt;
+      low = tt;
+      tree =
+          (fails_memory _ _ c.in_err-parts.ensures.tree);
+    })
 
 pub parameter_or_type_name-returns-clause-tree : goal.parameter_or_type_name-returns-clause-tree
 parameter_or_type_name-returns-clause-tree t c = let s = c.in_ok-specifiers.ensures.tree.part in
@@ -998,20 +1184,26 @@ record_specifier-returns-then-not-takes-clause-tree t c = let got = c.in_ok-star
     (λ y g. got_same same (got_on {mid = c.tag.new.cursor} got.grows (got_from c.takes.ensures.nodes g)))
     (λ e f. fails_same e same f)
 
-pub record_specifier-returns-in_err-parts-clause-tree : goal.record_specifier-returns-in_err-parts-clause-tree
-record_specifier-returns-in_err-parts-clause-tree t c =
+pub record_specifier-returns-in_err-parts : goal.record_specifier-returns-in_err-parts
+record_specifier-returns-in_err-parts t c =
     let p = err_from_is_err_and c.from_residual-in_err-parts.result c.from_residual-in_err-parts.ensures.1 in
-    let got = c.in_ok-start.ensures.tree in let got_size = c.in_ok-start.ensures.size in let left = got_size.shorter in
-    let taken = c.takes.ensures.shorter c.if-not-takes.false in
-    let same = record_members (Reading.read c.args.below) c.args.keyword.now (in_force c.args.types.now)
-    (rest_of c.args.cursor.now) got.reads c.args.kind (sym c.takes.ensures.found ∙ c.if-not-takes.false)
-    ∙ ap (λ v. after got.trees (members_from (Reading.read c.args.below)
-    (suc (length (rest_of c.args.cursor.now))) (in_force c.args.types.now) v)
-    >>= λ a. Some (node (Kinds.Record c.args.kind) c.args.keyword.now a.0, a.1))
-    (sym (c.takes.ensures.taken c.if-not-takes.false)) in
-    rw (p.1, p.2) (fails_same _ same (fails_bind _ _ _
-    (c.in_err-parts.ensures.tree got.trees (suc (length (rest_of c.args.cursor.now))) (omega arith)
-    (holds_at c.takes.ensures.nodes got.holds))))
+    rw (p.1, p.2) (record {
+      size = tt;
+      low = tt;
+      tree =
+          let got = c.in_ok-start.ensures.tree in let got_size = c.in_ok-start.ensures.size in
+          let left = got_size.shorter in
+          let taken = c.takes.ensures.shorter c.if-not-takes.false in
+          let same = record_members (Reading.read c.args.below) c.args.keyword.now (in_force c.args.types.now)
+          (rest_of c.args.cursor.now) got.reads c.args.kind (sym c.takes.ensures.found ∙ c.if-not-takes.false)
+          ∙ ap (λ v. after got.trees (members_from (Reading.read c.args.below)
+          (suc (length (rest_of c.args.cursor.now))) (in_force c.args.types.now) v)
+          >>= λ a. Some (node (Kinds.Record c.args.kind) c.args.keyword.now a.0, a.1))
+          (sym (c.takes.ensures.taken c.if-not-takes.false)) in
+          (fails_same _ same (fails_bind _ _ _
+          (c.in_err-parts.ensures.tree got.trees (suc (length (rest_of c.args.cursor.now))) (omega arith)
+          (holds_at c.takes.ensures.nodes got.holds))));
+    })
 
 pub record_specifier-returns-clause-tree : goal.record_specifier-returns-clause-tree
 record_specifier-returns-clause-tree t c =
@@ -1030,11 +1222,17 @@ record_specifier-returns-clause-tree t c =
     (holds_at c.takes.ensures.nodes got.holds)) made c.join.ensures.rest c.place.ensures refl))))
     (λ e same. fails_memory e _ same)
 
-pub separated-returns-in_err-part-clause-tree : goal.separated-returns-in_err-part-clause-tree
-separated-returns-in_err-part-clause-tree t c =
+pub separated-returns-in_err-part : goal.separated-returns-in_err-part
+separated-returns-in_err-part t c =
     let p = err_from_is_err_and c.from_residual.result c.from_residual.ensures.1 in
-    λ ys m. rw (p.1, p.2) (separated_fails _ (Reading.read c.args.below) (length (rest_of c.args.cursor.now))
-    (goal_of c.args.what) (in_force c.args.types.now) ys (rest_of c.args.cursor.now) c.in_err-part.ensures.tree)
+    rw (p.1, p.2) (record {
+      size = tt;
+      low = tt;
+      keeps = tt;
+      tree =
+          λ ys m. (separated_fails _ (Reading.read c.args.below) (length (rest_of c.args.cursor.now))
+          (goal_of c.args.what) (in_force c.args.types.now) ys (rest_of c.args.cursor.now) c.in_err-part.ensures.tree);
+    })
 
 pub separated-list-init : goal.separated-list-init
 separated-list-init t c =
@@ -1048,12 +1246,18 @@ separated-list-init t c =
           c.in_ok-push.ensures.size;
     }
 
-pub separated-returns-in_err-part-2-clause-tree : goal.separated-returns-in_err-part-2-clause-tree
-separated-returns-in_err-part-2-clause-tree t c =
+pub separated-returns-in_err-part-2 : goal.separated-returns-in_err-part-2
+separated-returns-in_err-part-2 t c =
     let p = err_from_is_err_and c.from_residual-in_err-part-2.result c.from_residual-in_err-part-2.ensures.1 in
-    λ ys m. rw (p.1, p.2) (lists_fail c.advance.new.self _ (c.list.invariant.lists ys m)
-    (ap goes_on_listing (sym c.rest.ensures) ∙ sym c.goes_on_listing.ensures ∙ c.list-test.true)
-    c.advance.ensures.rest c.in_err-part-2.ensures.tree)
+    rw (p.1, p.2) (record {
+      size = tt;
+      low = tt;
+      keeps = tt;
+      tree =
+          λ ys m. (lists_fail c.advance.new.self _ (c.list.invariant.lists ys m)
+          (ap goes_on_listing (sym c.rest.ensures) ∙ sym c.goes_on_listing.ensures ∙ c.list-test.true)
+          c.advance.ensures.rest c.in_err-part-2.ensures.tree);
+    })
 
 pub separated-list-preserved : goal.separated-list-preserved
 separated-list-preserved t c =
@@ -1072,11 +1276,16 @@ separated-list-preserved t c =
           c.in_ok-part-2.ensures.tree q.shorter c.in_ok-push-2.ensures.kids c.in_ok-push-2.ensures.size;
     }
 
-pub specifier_list-returns-in_err-part-clause-tree : goal.specifier_list-returns-in_err-part-clause-tree
-specifier_list-returns-in_err-part-clause-tree t c =
+pub specifier_list-returns-in_err-part : goal.specifier_list-returns-in_err-part
+specifier_list-returns-in_err-part t c =
     let p = err_from_is_err_and c.from_residual.result c.from_residual.ensures.1 in
-    rw (p.1, p.2) (gathers_fail c.take_specifier.new.cursor _ c.loop-item.invariant.gathers c.in-Some.ensures.rest
-    c.in-Some.ensures.found c.in_err-part.ensures.tree)
+    rw (p.1, p.2) (record {
+      size = tt;
+      low = tt;
+      tree =
+          (gathers_fail c.take_specifier.new.cursor _ c.loop-item.invariant.gathers c.in-Some.ensures.rest
+          c.in-Some.ensures.found c.in_err-part.ensures.tree);
+    })
 
 pub specifier_list-returns-clause-tree : goal.specifier_list-returns-clause-tree
 specifier_list-returns-clause-tree t c =
@@ -1112,11 +1321,16 @@ pub specifiers-returns-in_default-clause-tree : goal.specifiers-returns-in_defau
 specifiers-returns-in_default-clause-tree t c =
     specifiers_end (Reading.read c.args.below) (in_force c.args.types.now) c.in_default.ensures
 
-pub specifiers-returns-in_err-gathered-clause-tree : goal.specifiers-returns-in_err-gathered-clause-tree
+pub specifiers-returns-in_err-gathered : goal.specifiers-returns-in_err-gathered
 unfolding Reading.specifiers
-specifiers-returns-in_err-gathered-clause-tree t c =
+specifiers-returns-in_err-gathered t c =
     let p = err_from_is_err_and c.from_residual.result c.from_residual.ensures.1 in
-    rw (p.1, p.2) (fails_bind _ _ _ c.in_err-gathered.ensures.tree)
+    rw (p.1, p.2) (record {
+      size = tt;
+      low = tt;
+      tree =
+          (fails_bind _ _ _ c.in_err-gathered.ensures.tree);
+    })
 
 pub specifiers-returns-then-is_empty-clause-tree : goal.specifiers-returns-then-is_empty-clause-tree
 specifiers-returns-then-is_empty-clause-tree t c =
@@ -1190,3 +1404,829 @@ suffixes-returns-clause-tree t c = λ x m. let at = c.loop-part.invariant.suffix
     (next_from (Reading.read c.args.below) (suc c.args.below) at.tree (in_force c.args.types.now)
     (rest_of c.loop-part.cursor)) v) c.in_default.is (c.in_ok-part.ensures.tree at.tree at.means))
     c.ok_or.ensures.value
+
+pub core-returns-then-is_enclosed-clause-size : goal.core-returns-then-is_enclosed-clause-size
+core-returns-then-is_enclosed-clause-size t c =
+    then_owed (then_paid (owed_paid {m = 8} (stayed c.args.cursor.now c.takes.new.self c.takes.ensures.nodes
+    (c.takes.ensures.left c.if-takes.false))
+    (took_past c.takes.new.self c.advance.new.self
+    (c.takes.ensures.left c.if-takes.false ∙ c.in-Some.ensures) c.advance.ensures.nodes c.advance.ensures.rest)
+    refl) (then_paid c.in_ok-inner.ensures.size
+    (took c.read.new.cursor c.expect.new.self c.expect.ensures.nodes c.in_ok-expect.ensures.size)))
+    (noded c.expect.new.self c.make-then-is_enclosed.new.self c.in_ok-part-2.ensures.size.0
+    c.make-then-is_enclosed.ensures.rest) refl
+
+pub core-returns-then-is_enclosed-clause-low : goal.core-returns-then-is_enclosed-clause-low
+core-returns-then-is_enclosed-clause-low t c =
+    omega (arith, c.in_ok-part-2.ensures.low, c.in_ok-parts.ensures.size, c.in_ok-inner.ensures.low)
+
+pub core-make-requires-then-is_enclosed-clause-room : goal.core-make-requires-then-is_enclosed-clause-room
+core-make-requires-then-is_enclosed-clause-room t c =
+    room_paid (then_paid (owed_paid {m = 8} (stayed c.args.cursor.now c.takes.new.self c.takes.ensures.nodes
+    (c.takes.ensures.left c.if-takes.false))
+    (took_past c.takes.new.self c.advance.new.self
+    (c.takes.ensures.left c.if-takes.false ∙ c.in-Some.ensures) c.advance.ensures.nodes c.advance.ensures.rest)
+    refl) (then_paid c.in_ok-inner.ensures.size
+    (took c.read.new.cursor c.expect.new.self c.expect.ensures.nodes c.in_ok-expect.ensures.size))) c.requires.room
+
+pub core-make-requires-then-is_enclosed-clause-height : goal.core-make-requires-then-is_enclosed-clause-height
+core-make-requires-then-is_enclosed-clause-height t c =
+    omega (arith, c.in_ok-parts.ensures.size, c.in_ok-inner.ensures.low, c.requires.height)
+
+pub core-returns-then-takes-clause-size : goal.core-returns-then-takes-clause-size
+core-returns-then-takes-clause-size t c = then_owed (took c.args.cursor.now c.takes.new.self c.takes.ensures.nodes
+    (c.takes.ensures.shorter c.if-takes.true))
+    (noded c.takes.new.self c.make.new.self c.in_ok-part.ensures.size.0 c.make.ensures.rest) refl
+
+pub core-returns-then-takes-clause-low : goal.core-returns-then-takes-clause-low
+core-returns-then-takes-clause-low t c = omega (arith, c.in_ok-part.ensures.low, c.no_parts-parts.ensures.size)
+
+pub core-make-requires-clause-room : goal.core-make-requires-clause-room
+core-make-requires-clause-room t c = room_paid (took c.args.cursor.now c.takes.new.self c.takes.ensures.nodes
+    (c.takes.ensures.shorter c.if-takes.true)) c.requires.room
+
+pub core-returns-then-may_be_nameless-clause-none : goal.core-returns-then-may_be_nameless-clause-none
+core-returns-then-may_be_nameless-clause-none t c = (c.takes.ensures.left c.if-takes.false, c.takes.ensures.nodes)
+
+pub declarator-returns-clause-size : goal.declarator-returns-clause-size
+declarator-returns-clause-size t c = IfOk-weaker c.make.result _ _
+    (λ p e. then_owed (took c.args.cursor.now c.takes.new.self c.takes.ensures.nodes
+    (c.takes.ensures.shorter c.if-not-takes.false))
+    (owed_owed (owed_owed c.in_ok-qualifiers.ensures.size c.in_ok-inner.ensures.size)
+    (noded c.optional_declarator.new.cursor c.make.new.self e.0 c.make.ensures.rest)) refl) c.make.ensures.size
+
+pub declarator-make-requires-clause-room : goal.declarator-make-requires-clause-room
+declarator-make-requires-clause-room t c =
+    room_paid (then_owed {m = 0} (took c.args.cursor.now c.takes.new.self c.takes.ensures.nodes
+    (c.takes.ensures.shorter c.if-not-takes.false))
+    (owed_owed c.in_ok-qualifiers.ensures.size c.in_ok-inner.ensures.size) refl) c.requires.room
+
+pub declarator-make-requires-clause-height : goal.declarator-make-requires-clause-height
+declarator-make-requires-clause-height t c =
+    omega (
+      arith,
+      c.in_ok-parts.ensures.size,
+      c.in_ok-qualifiers.ensures.low,
+      height_some c.args.below c.in_ok-inner.inner c.in_ok-inner.ensures.low,
+      c.requires.height,
+    )
+
+pub declarator-returns-clause-low : goal.declarator-returns-clause-low
+declarator-returns-clause-low t c = IfOk-weaker c.make.result _ _
+    (λ p e. omega (
+      arith,
+      e,
+      c.in_ok-parts.ensures.size,
+      c.in_ok-qualifiers.ensures.low,
+      height_some c.args.below c.in_ok-inner.inner c.in_ok-inner.ensures.low,
+    )) c.make.ensures.low
+
+pub declarator-returns-then-not-takes-clause-low : goal.declarator-returns-then-not-takes-clause-low
+declarator-returns-then-not-takes-clause-low t c = c.suffixes.ensures.low
+
+pub declarator-qualifiers-requires : goal.declarator-qualifiers-requires
+declarator-qualifiers-requires t c = record {
+  room = roomy_paid (took c.args.cursor.now c.takes.new.self c.takes.ensures.nodes
+      (c.takes.ensures.shorter c.if-not-takes.false)) c.requires.room;
+}
+
+pub parameter_or_type_name-returns-clause-size : goal.parameter_or_type_name-returns-clause-size
+parameter_or_type_name-returns-clause-size t c = IfOk-weaker c.make.result _ _
+    (λ p e. then_owed (then_owed {m = 5} c.in_ok-specifiers.ensures.size c.in_ok-declarator.ensures.size refl)
+    (noded c.optional_declarator.new.cursor c.make.new.self e.0 c.make.ensures.rest) refl) c.make.ensures.size
+
+pub parameter_or_type_name-make-requires-clause-room : goal.parameter_or_type_name-make-requires-clause-room
+parameter_or_type_name-make-requires-clause-room t c =
+    room_paid (then_owed {m = 5} c.in_ok-specifiers.ensures.size c.in_ok-declarator.ensures.size refl) c.requires.room
+
+pub parameter_or_type_name-make-requires-clause-height : goal.parameter_or_type_name-make-requires-clause-height
+parameter_or_type_name-make-requires-clause-height t c =
+    omega (
+      arith,
+      c.in_ok-parts.ensures.size,
+      c.in_ok-specifiers.ensures.low,
+      height_some c.args.below c.in_ok-declarator.declarator c.in_ok-declarator.ensures.low,
+      c.requires.height,
+    )
+
+pub parameter_or_type_name-returns-clause-low : goal.parameter_or_type_name-returns-clause-low
+parameter_or_type_name-returns-clause-low t c = IfOk-weaker c.make.result _ _
+    (λ p e. omega (
+      arith,
+      e.1,
+      c.in_ok-parts.ensures.size,
+      c.in_ok-specifiers.ensures.low,
+      height_some c.args.below c.in_ok-declarator.declarator c.in_ok-declarator.ensures.low,
+    )) c.make.ensures.size
+
+pub function-returns-clause-size : goal.function-returns-clause-size
+function-returns-clause-size t c = IfOk-weaker c.make.result _ _
+    (λ p e. owes (then_owed {m = 6} (then_owed {m = 7} (owed_paid {m = 8} c.in_ok-listed.ensures.size
+    (took c.follow.new.cursor c.expect.new.self c.expect.ensures.nodes c.in_ok-expect.ensures.size) refl)
+    (noded c.expect.new.self c.join.new.self c.in_ok-parameters.ensures.size c.join.ensures.rest) refl)
+    (noded c.join.new.self c.make.new.self e.0 c.make.ensures.rest) refl)) c.make.ensures.size
+
+pub function-make-requires-clause-room : goal.function-make-requires-clause-room
+function-make-requires-clause-room t c =
+    room_paid (then_owed {m = 7} (owed_paid {m = 8} c.in_ok-listed.ensures.size
+    (took c.follow.new.cursor c.expect.new.self c.expect.ensures.nodes c.in_ok-expect.ensures.size) refl)
+    (noded c.expect.new.self c.join.new.self c.in_ok-parameters.ensures.size c.join.ensures.rest) refl) c.requires.room
+
+pub function-join-requires-clause-room : goal.function-join-requires-clause-room
+function-join-requires-clause-room t c =
+    room_paid (owed_paid {m = 8} c.in_ok-listed.ensures.size
+    (took c.follow.new.cursor c.expect.new.self c.expect.ensures.nodes c.in_ok-expect.ensures.size) refl)
+    c.requires.room
+
+pub function-returns-clause-low : goal.function-returns-clause-low
+function-returns-clause-low t c = IfOk-weaker c.make.result _ _
+    (λ p e. omega (
+      arith,
+      e,
+      c.in_ok-push.ensures.size,
+      c.in_ok-parts.ensures.low,
+      c.in_ok-parameters.ensures.low,
+      c.in_ok-listed.ensures.low,
+    )) c.make.ensures.low
+
+pub function-make-requires-clause-height : goal.function-make-requires-clause-height
+function-make-requires-clause-height t c =
+    omega (
+      arith,
+      c.in_ok-push.ensures.size,
+      c.in_ok-parts.ensures.low,
+      c.in_ok-parameters.ensures.low,
+      c.in_ok-listed.ensures.low,
+      c.requires.height,
+    )
+
+pub function-join-requires-clause-height : goal.function-join-requires-clause-height
+function-join-requires-clause-height t c = omega (arith, c.in_ok-listed.ensures.low, c.requires.height)
+
+pub function-returns-clause-taller : goal.function-returns-clause-taller
+function-returns-clause-taller t c = IfOk-weaker c.make.result _ _
+    (λ p e. omega (
+      arith,
+      e.1,
+      c.in_ok-push.ensures.size,
+      c.in_ok-parts.ensures.size,
+      ap weight c.in_ok-parts.ensures.kind,
+    )) c.make.ensures.size
+
+pub array-returns-clause-size : goal.array-returns-clause-size
+array-returns-clause-size t c = IfOk-weaker c.make-2.result _ _
+    (λ p e. owes (then_owed {m = 0} (then_paid
+    (owed_paid {m = 4} (stayed c.args.cursor.now c.takes.new.self c.takes.ensures.nodes
+    (c.takes.ensures.left c.if-takes.false)) c.in_ok-length.ensures.size refl)
+    (took c.read.new.cursor c.expect.new.self c.expect.ensures.nodes c.in_ok-expect.ensures.size))
+    (noded c.expect.new.self c.make-2.new.self e.0 c.make-2.ensures.rest) refl)) c.make-2.ensures.size
+
+pub array-make-requires-2-clause-room : goal.array-make-requires-2-clause-room
+array-make-requires-2-clause-room t c =
+    room_paid (then_paid (owed_paid {m = 4} (stayed c.args.cursor.now c.takes.new.self c.takes.ensures.nodes
+    (c.takes.ensures.left c.if-takes.false)) c.in_ok-length.ensures.size refl)
+    (took c.read.new.cursor c.expect.new.self c.expect.ensures.nodes c.in_ok-expect.ensures.size)) c.requires.room
+
+pub array-make-requires-2-clause-height : goal.array-make-requires-2-clause-height
+array-make-requires-2-clause-height t c = omega (
+  arith,
+  c.in_ok-push.ensures.size,
+  c.in_ok-parts-2.ensures.low,
+  c.in_ok-length.ensures.low,
+  c.requires.height,
+)
+
+pub array-returns-clause-low : goal.array-returns-clause-low
+array-returns-clause-low t c = IfOk-weaker c.make-2.result _ _
+    (λ p e. omega (arith, e, c.in_ok-push.ensures.size, c.in_ok-parts-2.ensures.low, c.in_ok-length.ensures.low))
+    c.make-2.ensures.low
+
+pub array-returns-clause-taller : goal.array-returns-clause-taller
+array-returns-clause-taller t c = IfOk-weaker c.make-2.result _ _
+    (λ p e. omega (
+      arith,
+      e.1,
+      c.in_ok-push.ensures.size,
+      c.in_ok-parts-2.ensures.size,
+      ap weight c.in_ok-parts-2.ensures.kind,
+    )) c.make-2.ensures.size
+
+pub array-returns-then-takes-clause-size : goal.array-returns-then-takes-clause-size
+array-returns-then-takes-clause-size t c = IfOk-weaker c.make.result _ _
+    (λ p e. owes (then_owed {m = 0} (took c.args.cursor.now c.takes.new.self c.takes.ensures.nodes
+    (c.takes.ensures.shorter c.if-takes.true))
+    (noded c.takes.new.self c.make.new.self e.0 c.make.ensures.rest) refl)) c.make.ensures.size
+
+pub array-returns-then-takes-clause-taller : goal.array-returns-then-takes-clause-taller
+array-returns-then-takes-clause-taller t c = IfOk-weaker c.make.result _ _
+    (λ p e. omega (arith, e.1, c.in_ok-parts.ensures.size, ap weight c.in_ok-parts.ensures.kind)) c.make.ensures.size
+
+pub array-returns-then-takes-clause-low : goal.array-returns-then-takes-clause-low
+array-returns-then-takes-clause-low t c = IfOk-weaker c.make.result _ _
+    (λ p e. omega (arith, e, c.in_ok-parts.ensures.low)) c.make.ensures.low
+
+pub array-make-requires-clause-room : goal.array-make-requires-clause-room
+array-make-requires-clause-room t c = room_paid (took c.args.cursor.now c.takes.new.self c.takes.ensures.nodes
+    (c.takes.ensures.shorter c.if-takes.true)) c.requires.room
+
+pub array-make-requires-clause-height : goal.array-make-requires-clause-height
+array-make-requires-clause-height t c = omega (arith, c.in_ok-parts.ensures.low, c.requires.height)
+
+pub member-returns-clause-size : goal.member-returns-clause-size
+member-returns-clause-size t c = IfOk-weaker c.make.result _ _
+    (λ p e. then_owed (then_paid (then_paid c.in_ok-specifiers.ensures.size c.in_ok-parts-2.ensures.size)
+    (took c.separated.new.cursor c.expect.new.self c.expect.ensures.nodes c.in_ok-expect.ensures.size))
+    (noded c.expect.new.self c.make.new.self e.0 c.make.ensures.rest) refl) c.make.ensures.size
+
+pub member-make-requires-clause-room : goal.member-make-requires-clause-room
+member-make-requires-clause-room t c =
+    room_paid (then_paid (then_paid c.in_ok-specifiers.ensures.size c.in_ok-parts-2.ensures.size)
+    (took c.separated.new.cursor c.expect.new.self c.expect.ensures.nodes c.in_ok-expect.ensures.size)) c.requires.room
+
+pub member-make-requires-clause-height : goal.member-make-requires-clause-height
+member-make-requires-clause-height t c = omega (arith, c.in_ok-parts-2.ensures.low, c.requires.height)
+
+pub member-returns-clause-low : goal.member-returns-clause-low
+member-returns-clause-low t c = IfOk-weaker c.make.result _ _
+    (λ p e. omega (arith, e, c.in_ok-parts-2.ensures.low)) c.make.ensures.low
+
+pub node-returns-clause-low : goal.node-returns-clause-low
+node-returns-clause-low t c = IfOk-weaker c.join.result _ _
+    (λ p e. omega (arith, e, c.in_ok-parts.ensures.low, weight_low c.args.kind)) c.join.ensures.low
+
+pub node-returns-clause-taller : goal.node-returns-clause-taller
+node-returns-clause-taller t c = IfOk-weaker c.join.result _ _
+    (λ p e. omega (arith, e, c.in_ok-parts.ensures.keeps)) c.join.ensures.low
+
+pub node-returns-clause-size : goal.node-returns-clause-size
+node-returns-clause-size t c = IfOk-weaker c.join.result _ _
+    (λ p e. owed_owed c.in_ok-parts.ensures.size (noded c.production.new.cursor c.join.new.self e c.join.ensures.rest))
+    c.join.ensures.size
+
+pub next_suffix-returns-then-takes-2-clause-size : goal.next_suffix-returns-then-takes-2-clause-size
+next_suffix-returns-then-takes-2-clause-size t c =
+    then_owed (took c.args.cursor.now c.takes-2.new.self (c.takes-2.ensures.nodes ∙ c.takes.ensures.nodes)
+    (ap length (sym (c.takes.ensures.left c.if-takes.false))
+    ∙ c.takes-2.ensures.shorter c.if-takes-2.true)) c.in_ok-part-2.ensures.size refl
+
+pub next_suffix-returns-then-takes-2-clause-low : goal.next_suffix-returns-then-takes-2-clause-low
+next_suffix-returns-then-takes-2-clause-low t c = c.in_ok-part-2.ensures.low
+
+pub next_suffix-returns-then-takes-2-clause-taller : goal.next_suffix-returns-then-takes-2-clause-taller
+next_suffix-returns-then-takes-2-clause-taller t c = c.in_ok-part-2.ensures.taller
+
+pub next_suffix-returns-then-takes-clause-size : goal.next_suffix-returns-then-takes-clause-size
+next_suffix-returns-then-takes-clause-size t c =
+    then_owed (took c.args.cursor.now c.takes.new.self c.takes.ensures.nodes
+    (c.takes.ensures.shorter c.if-takes.true)) c.in_ok-part.ensures.size refl
+
+pub next_suffix-returns-then-takes-clause-low : goal.next_suffix-returns-then-takes-clause-low
+next_suffix-returns-then-takes-clause-low t c = c.in_ok-part.ensures.low
+
+pub next_suffix-returns-then-takes-clause-taller : goal.next_suffix-returns-then-takes-clause-taller
+next_suffix-returns-then-takes-clause-taller t c = c.in_ok-part.ensures.taller
+
+pub next_suffix-returns-clause-none : goal.next_suffix-returns-clause-none
+next_suffix-returns-clause-none t c = (
+  c.takes-2.ensures.left c.if-takes-2.false ∙ c.takes.ensures.left c.if-takes.false,
+  c.takes-2.ensures.nodes ∙ c.takes.ensures.nodes,
+)
+
+pub separated-returns-clause-low : goal.separated-returns-clause-low
+separated-returns-clause-low t c = c.list.invariant.low
+
+pub separated-returns-clause-keeps : goal.separated-returns-clause-keeps
+separated-returns-clause-keeps t c = c.list.invariant.keeps
+
+pub separated-returns-clause-size : goal.separated-returns-clause-size
+separated-returns-clause-size t c = c.list.invariant.size
+
+pub members-returns-clause-low : goal.members-returns-clause-low
+members-returns-clause-low t c = c.list.invariant.low
+
+pub members-returns-clause-size : goal.members-returns-clause-size
+members-returns-clause-size t c = pays (then_paid c.list.invariant.size
+    (took c.list.cursor c.expect.new.self c.expect.ensures.nodes c.in_ok-expect.ensures.size)) refl
+
+pub braced-returns-clause-low : goal.braced-returns-clause-low
+braced-returns-clause-low t c = c.in_ok-parts.ensures.low
+
+pub operand-returns-else-start-clause-size : goal.operand-returns-else-start-clause-size
+operand-returns-else-start-clause-size t c = IfOk-weaker c.node-else-start.result _ _
+    (λ p q. then_owed (took c.args.cursor.now c.take.new.self c.take.ensures.nodes c.in-Some.ensures.size) q refl)
+    c.node-else-start.ensures.size
+
+pub operand-returns-else-start-clause-low : goal.operand-returns-else-start-clause-low
+operand-returns-else-start-clause-low t c = c.node-else-start.ensures.low
+
+pub operand-returns-then-start-clause-size : goal.operand-returns-then-start-clause-size
+operand-returns-then-start-clause-size t c = IfOk-weaker c.node.result _ _
+    (λ p q. then_owed (took c.args.cursor.now c.take.new.self c.take.ensures.nodes c.in-Some.ensures.size) q refl)
+    c.node.ensures.size
+
+pub operand-returns-then-start-clause-low : goal.operand-returns-then-start-clause-low
+operand-returns-then-start-clause-low t c = c.node.ensures.low
+
+pub operand-returns-in-Prefixes-clause-size : goal.operand-returns-in-Prefixes-clause-size
+operand-returns-in-Prefixes-clause-size t c = IfOk-weaker c.node-in-Prefixes.result _ _
+    (λ p q. then_owed (took c.args.cursor.now c.take.new.self c.take.ensures.nodes c.in-Some.ensures.size) q refl)
+    c.node-in-Prefixes.ensures.size
+
+pub operand-returns-in-Prefixes-clause-low : goal.operand-returns-in-Prefixes-clause-low
+operand-returns-in-Prefixes-clause-low t c = c.node-in-Prefixes.ensures.low
+
+pub operand-returns-in-Measures-clause-size : goal.operand-returns-in-Measures-clause-size
+operand-returns-in-Measures-clause-size t c = IfOk-weaker c.measure.result _ _
+    (λ p q. then_owed (took c.args.cursor.now c.take.new.self c.take.ensures.nodes c.in-Some.ensures.size) q refl)
+    c.measure.ensures.size
+
+pub operand-returns-in-Measures-clause-low : goal.operand-returns-in-Measures-clause-low
+operand-returns-in-Measures-clause-low t c = c.measure.ensures.low
+
+pub operand-returns-in-Text-clause-size : goal.operand-returns-in-Text-clause-size
+operand-returns-in-Text-clause-size t c = IfOk-weaker c.text.result _ _
+    (λ p q. then_owed (took c.args.cursor.now c.take.new.self c.take.ensures.nodes c.in-Some.ensures.size) q refl)
+    c.text.ensures.size
+
+pub operand-returns-in-Text-clause-low : goal.operand-returns-in-Text-clause-low
+operand-returns-in-Text-clause-low t c = c.text.ensures.low
+
+pub operand-returns-else-has-clause-size : goal.operand-returns-else-has-clause-size
+operand-returns-else-has-clause-size t c = IfOk-weaker c.leaf.result _ _
+    (λ p e. then_owed (took c.args.cursor.now c.take.new.self c.take.ensures.nodes c.in-Some.ensures.size)
+    (noded c.take.new.self c.leaf.new.self e c.leaf.ensures.rest) refl) c.leaf.ensures.size
+
+pub operand-returns-else-has-clause-low : goal.operand-returns-else-has-clause-low
+operand-returns-else-has-clause-low t c = IfOk-weaker c.leaf.result _ _
+    (λ p e. omega (arith, e)) c.leaf.ensures.low
+
+pub operand-returns-in-Character-clause-size : goal.operand-returns-in-Character-clause-size
+operand-returns-in-Character-clause-size t c = IfOk-weaker c.leaf-in-Character.result _ _
+    (λ p e. then_owed (took c.args.cursor.now c.take.new.self c.take.ensures.nodes c.in-Some.ensures.size)
+    (noded c.take.new.self c.leaf-in-Character.new.self e c.leaf-in-Character.ensures.rest) refl)
+    c.leaf-in-Character.ensures.size
+
+pub operand-returns-in-Character-clause-low : goal.operand-returns-in-Character-clause-low
+operand-returns-in-Character-clause-low t c = IfOk-weaker c.leaf-in-Character.result _ _
+    (λ p e. omega (arith, e)) c.leaf-in-Character.ensures.low
+
+pub operand-returns-in-Number-clause-size : goal.operand-returns-in-Number-clause-size
+operand-returns-in-Number-clause-size t c = IfOk-weaker c.leaf-in-Number.result _ _
+    (λ p e. then_owed (took c.args.cursor.now c.take.new.self c.take.ensures.nodes c.in-Some.ensures.size)
+    (noded c.take.new.self c.leaf-in-Number.new.self e c.leaf-in-Number.ensures.rest) refl)
+    c.leaf-in-Number.ensures.size
+
+pub operand-returns-in-Number-clause-low : goal.operand-returns-in-Number-clause-low
+operand-returns-in-Number-clause-low t c = IfOk-weaker c.leaf-in-Number.result _ _
+    (λ p e. omega (arith, e)) c.leaf-in-Number.ensures.low
+
+pub operand-leaf-requires : goal.operand-leaf-requires
+operand-leaf-requires t c =
+    record {
+      room = room_paid (took c.args.cursor.now c.take.new.self c.take.ensures.nodes c.in-Some.ensures.size)
+          c.requires.room;
+    }
+
+pub operand-leaf-requires-in-Character : goal.operand-leaf-requires-in-Character
+operand-leaf-requires-in-Character t c =
+    record {
+      room = room_paid (took c.args.cursor.now c.take.new.self c.take.ensures.nodes c.in-Some.ensures.size)
+          c.requires.room;
+    }
+
+pub operand-leaf-requires-in-Number : goal.operand-leaf-requires-in-Number
+operand-leaf-requires-in-Number t c =
+    record {
+      room = room_paid (took c.args.cursor.now c.take.new.self c.take.ensures.nodes c.in-Some.ensures.size)
+          c.requires.room;
+    }
+
+pub operand-text-requires-clause-room : goal.operand-text-requires-clause-room
+operand-text-requires-clause-room t c =
+    roomy_paid (took c.args.cursor.now c.take.new.self c.take.ensures.nodes c.in-Some.ensures.size) c.requires.room
+
+pub expression-returns-clause-size : goal.expression-returns-clause-size
+expression-returns-clause-size t c = IfOk-weaker c.climb.result _ _
+    (λ p q. then_owed c.in_ok-part.ensures.size q refl) c.climb.ensures.size
+
+pub expression-returns-clause-low : goal.expression-returns-clause-low
+expression-returns-clause-low t c = c.climb.ensures.low
+
+pub follow-returns-in_ok-part-in-TypeName-clause-low : goal.follow-returns-in_ok-part-in-TypeName-clause-low
+follow-returns-in_ok-part-in-TypeName-clause-low t c = IfOk-weaker c.with-in-TypeName.result _ _
+    (λ p e. omega (arith, e, c.in_ok-part-in-TypeName.ensures.low, c.requires.start)) c.with-in-TypeName.ensures.size
+
+pub follow-returns-in_ok-part-in-TypeName-clause-keeps : goal.follow-returns-in_ok-part-in-TypeName-clause-keeps
+follow-returns-in_ok-part-in-TypeName-clause-keeps t c = IfOk-weaker c.with-in-TypeName.result _ _
+    (λ p e. omega (arith, e)) c.with-in-TypeName.ensures.size
+
+pub follow-returns-in_ok-part-in-TypeName-clause-size : goal.follow-returns-in_ok-part-in-TypeName-clause-size
+follow-returns-in_ok-part-in-TypeName-clause-size t c = IfOk-weaker c.with-in-TypeName.result _ _
+    (λ p e. owes c.in_ok-part-in-TypeName.ensures.size) c.with-in-TypeName.ensures.size
+
+pub follow-returns-in_ok-part-in-Read-clause-low : goal.follow-returns-in_ok-part-in-Read-clause-low
+follow-returns-in_ok-part-in-Read-clause-low t c = IfOk-weaker c.with.result _ _
+    (λ p e. omega (arith, e, c.in_ok-part-in-Read.ensures.low, c.requires.start)) c.with.ensures.size
+
+pub follow-returns-in_ok-part-in-Read-clause-keeps : goal.follow-returns-in_ok-part-in-Read-clause-keeps
+follow-returns-in_ok-part-in-Read-clause-keeps t c = IfOk-weaker c.with.result _ _
+    (λ p e. omega (arith, e)) c.with.ensures.size
+
+pub follow-returns-in_ok-part-in-Read-clause-size : goal.follow-returns-in_ok-part-in-Read-clause-size
+follow-returns-in_ok-part-in-Read-clause-size t c = IfOk-weaker c.with.result _ _
+    (λ p e. owes c.in_ok-part-in-Read.ensures.size) c.with.ensures.size
+
+pub follow-returns-else-starts-clause-size : goal.follow-returns-else-starts-clause-size
+follow-returns-else-starts-clause-size t c = IfOk-weaker c.separated.result _ _
+    (λ p q. owes q) c.separated.ensures.size
+
+pub longer-returns-in-Joins-clause-taller : goal.longer-returns-in-Joins-clause-taller
+longer-returns-in-Joins-clause-taller t c = IfOk-weaker c.node-in-Joins.result _ _
+    (λ p e. omega (arith, e, c.in_ok-start.ensures.size)) c.node-in-Joins.ensures.taller
+
+pub longer-returns-in-Joins-clause-low : goal.longer-returns-in-Joins-clause-low
+longer-returns-in-Joins-clause-low t c = c.node-in-Joins.ensures.low
+
+pub longer-returns-in-Joins-clause-size : goal.longer-returns-in-Joins-clause-size
+longer-returns-in-Joins-clause-size t c = c.node-in-Joins.ensures.size
+
+pub longer-returns-in-Asks-clause-taller : goal.longer-returns-in-Asks-clause-taller
+longer-returns-in-Asks-clause-taller t c = IfOk-weaker c.node-in-Asks.result _ _
+    (λ p e. omega (arith, e, c.in_ok-start.ensures.size)) c.node-in-Asks.ensures.taller
+
+pub longer-returns-in-Asks-clause-low : goal.longer-returns-in-Asks-clause-low
+longer-returns-in-Asks-clause-low t c = c.node-in-Asks.ensures.low
+
+pub longer-returns-in-Asks-clause-size : goal.longer-returns-in-Asks-clause-size
+longer-returns-in-Asks-clause-size t c = c.node-in-Asks.ensures.size
+
+pub longer-returns-in-Assigns-clause-taller : goal.longer-returns-in-Assigns-clause-taller
+longer-returns-in-Assigns-clause-taller t c = IfOk-weaker c.node-in-Assigns.result _ _
+    (λ p e. omega (arith, e, c.in_ok-start.ensures.size)) c.node-in-Assigns.ensures.taller
+
+pub longer-returns-in-Assigns-clause-low : goal.longer-returns-in-Assigns-clause-low
+longer-returns-in-Assigns-clause-low t c = c.node-in-Assigns.ensures.low
+
+pub longer-returns-in-Assigns-clause-size : goal.longer-returns-in-Assigns-clause-size
+longer-returns-in-Assigns-clause-size t c = c.node-in-Assigns.ensures.size
+
+pub longer-returns-in-Calls-clause-taller : goal.longer-returns-in-Calls-clause-taller
+longer-returns-in-Calls-clause-taller t c = IfOk-weaker c.node-in-Calls.result _ _
+    (λ p e. omega (arith, e, c.in_ok-start.ensures.size)) c.node-in-Calls.ensures.taller
+
+pub longer-returns-in-Calls-clause-low : goal.longer-returns-in-Calls-clause-low
+longer-returns-in-Calls-clause-low t c = c.node-in-Calls.ensures.low
+
+pub longer-returns-in-Calls-clause-size : goal.longer-returns-in-Calls-clause-size
+longer-returns-in-Calls-clause-size t c = c.node-in-Calls.ensures.size
+
+pub longer-returns-in-Indexes-clause-taller : goal.longer-returns-in-Indexes-clause-taller
+longer-returns-in-Indexes-clause-taller t c = IfOk-weaker c.node.result _ _
+    (λ p e. omega (arith, e, c.in_ok-start.ensures.size)) c.node.ensures.taller
+
+pub longer-returns-in-Indexes-clause-low : goal.longer-returns-in-Indexes-clause-low
+longer-returns-in-Indexes-clause-low t c = c.node.ensures.low
+
+pub longer-returns-in-Indexes-clause-size : goal.longer-returns-in-Indexes-clause-size
+longer-returns-in-Indexes-clause-size t c = c.node.ensures.size
+
+pub longer-returns-in-Selects-clause-taller : goal.longer-returns-in-Selects-clause-taller
+longer-returns-in-Selects-clause-taller t c = IfOk-weaker c.select.result _ _
+    (λ p e. omega (arith, e, c.in_ok-start.ensures.size)) c.select.ensures.taller
+
+pub longer-returns-in-Selects-clause-low : goal.longer-returns-in-Selects-clause-low
+longer-returns-in-Selects-clause-low t c = c.select.ensures.low
+
+pub longer-returns-in-Selects-clause-size : goal.longer-returns-in-Selects-clause-size
+longer-returns-in-Selects-clause-size t c = c.select.ensures.size
+
+pub longer-returns-in-Steps-clause-size : goal.longer-returns-in-Steps-clause-size
+longer-returns-in-Steps-clause-size t c = IfOk-weaker c.join.result _ _
+    (λ p e. noded c.args.cursor.now c.join.new.self e c.join.ensures.rest) c.join.ensures.size
+
+pub longer-returns-in-Steps-clause-low : goal.longer-returns-in-Steps-clause-low
+longer-returns-in-Steps-clause-low t c = IfOk-weaker c.join.result _ _
+    (λ p e. omega (arith, e, c.in_ok-start.ensures.size, c.if-left-below.false)) c.join.ensures.low
+
+pub longer-returns-in-Steps-clause-taller : goal.longer-returns-in-Steps-clause-taller
+longer-returns-in-Steps-clause-taller t c = IfOk-weaker c.join.result _ _
+    (λ p e. omega (arith, e, c.in_ok-start.ensures.size)) c.join.ensures.low
+
+pub initializer-returns-clause-size : goal.initializer-returns-clause-size
+initializer-returns-clause-size t c = IfOk-weaker c.join.result _ _
+    (λ p e. then_owed (then_paid (then_owed {m = 8}
+    (took c.args.cursor.now c.take_if.new.self c.take_if.ensures.nodes c.in-Some.ensures.size)
+    (stayed c.take_if.new.self c.takes.new.self c.takes.ensures.nodes
+    (c.takes.ensures.left c.if-takes.false)) refl) c.in_ok-parts.ensures.size)
+    (noded c.braced.new.cursor c.join.new.self e c.join.ensures.rest) refl) c.join.ensures.size
+
+pub initializer-join-requires-clause-room : goal.initializer-join-requires-clause-room
+initializer-join-requires-clause-room t c =
+    room_paid (then_paid (then_owed {m = 8} (took c.args.cursor.now c.take_if.new.self c.take_if.ensures.nodes
+    c.in-Some.ensures.size)
+    (stayed c.take_if.new.self c.takes.new.self c.takes.ensures.nodes
+    (c.takes.ensures.left c.if-takes.false)) refl) c.in_ok-parts.ensures.size) c.requires.room
+
+pub initializer-join-requires-clause-height : goal.initializer-join-requires-clause-height
+initializer-join-requires-clause-height t c = omega (arith, c.in_ok-parts.ensures.low, c.requires.height)
+
+pub initializer-returns-clause-low : goal.initializer-returns-clause-low
+initializer-returns-clause-low t c = IfOk-weaker c.join.result _ _
+    (λ p e. omega (arith, e, c.in_ok-parts.ensures.low)) c.join.ensures.low
+
+pub initializer-returns-then-takes-clause-size : goal.initializer-returns-then-takes-clause-size
+initializer-returns-then-takes-clause-size t c = IfOk-weaker c.leaf.result _ _
+    (λ p e. then_owed (then_paid (took c.args.cursor.now c.take_if.new.self c.take_if.ensures.nodes
+    c.in-Some.ensures.size)
+    (took c.take_if.new.self c.takes.new.self c.takes.ensures.nodes
+    (c.takes.ensures.shorter c.if-takes.true)))
+    (noded c.takes.new.self c.leaf.new.self e c.leaf.ensures.rest) refl) c.leaf.ensures.size
+
+pub initializer-returns-then-takes-clause-low : goal.initializer-returns-then-takes-clause-low
+initializer-returns-then-takes-clause-low t c = IfOk-weaker c.leaf.result _ _
+    (λ p e. omega (arith, e)) c.leaf.ensures.low
+
+pub initializer-leaf-requires : goal.initializer-leaf-requires
+initializer-leaf-requires t c = record {
+  room = room_paid (then_paid (took c.args.cursor.now c.take_if.new.self c.take_if.ensures.nodes c.in-Some.ensures.size)
+      (took c.take_if.new.self c.takes.new.self c.takes.ensures.nodes
+      (c.takes.ensures.shorter c.if-takes.true))) c.requires.room;
+}
+
+pub enum_specifier-returns-clause-size : goal.enum_specifier-returns-clause-size
+enum_specifier-returns-clause-size t c = IfOk-weaker c.join.result _ _
+    (λ p e. owes (then_owed {m = 0} (then_paid
+    (owed_paid {m = 8} c.in_ok-start.ensures.size
+    (took c.tag.new.cursor c.takes.new.self c.takes.ensures.nodes
+    (c.takes.ensures.shorter c.if-not-takes.false)) refl)
+    c.in_ok-parts.ensures.size)
+    (noded c.braced.new.cursor c.join.new.self e c.join.ensures.rest) refl)) c.join.ensures.size
+
+pub enum_specifier-returns-clause-low : goal.enum_specifier-returns-clause-low
+enum_specifier-returns-clause-low t c = IfOk-weaker c.join.result _ _
+    (λ p e. omega (arith, e, c.in_ok-parts.ensures.low)) c.join.ensures.low
+
+pub enum_specifier-join-requires-clause-room : goal.enum_specifier-join-requires-clause-room
+enum_specifier-join-requires-clause-room t c =
+    room_paid (then_paid (owed_paid {m = 8} c.in_ok-start.ensures.size
+    (took c.tag.new.cursor c.takes.new.self c.takes.ensures.nodes
+    (c.takes.ensures.shorter c.if-not-takes.false)) refl)
+    c.in_ok-parts.ensures.size) c.requires.room
+
+pub enum_specifier-join-requires-clause-height : goal.enum_specifier-join-requires-clause-height
+enum_specifier-join-requires-clause-height t c = omega (arith, c.in_ok-parts.ensures.low, c.requires.height)
+
+pub enum_specifier-returns-then-not-takes-clause-size : goal.enum_specifier-returns-then-not-takes-clause-size
+enum_specifier-returns-then-not-takes-clause-size t c = IfOk-weaker c.tag_alone.result _ _
+    (λ p e. owed_owed (owed_owed c.in_ok-start.ensures.size
+    (stayed c.tag.new.cursor c.takes.new.self c.takes.ensures.nodes (c.takes.ensures.left c.if-not-takes.true)))
+    (noded c.takes.new.self c.tag_alone.new.cursor e c.tag_alone.ensures.rest)) c.tag_alone.ensures.size
+
+pub enum_specifier-returns-then-not-takes-clause-low : goal.enum_specifier-returns-then-not-takes-clause-low
+enum_specifier-returns-then-not-takes-clause-low t c = IfOk-weaker c.tag_alone.result _ _
+    (λ p e. omega (arith, e)) c.tag_alone.ensures.low
+
+pub record_specifier-returns-clause-size : goal.record_specifier-returns-clause-size
+record_specifier-returns-clause-size t c = IfOk-weaker c.join.result _ _
+    (λ p e. owes (then_owed {m = 0} (then_paid
+    (owed_paid {m = 8} c.in_ok-start.ensures.size
+    (took c.tag.new.cursor c.takes.new.self c.takes.ensures.nodes
+    (c.takes.ensures.shorter c.if-not-takes.false)) refl)
+    c.in_ok-parts.ensures.size)
+    (noded c.members.new.cursor c.join.new.self e c.join.ensures.rest) refl)) c.join.ensures.size
+
+pub record_specifier-returns-clause-low : goal.record_specifier-returns-clause-low
+record_specifier-returns-clause-low t c = IfOk-weaker c.join.result _ _
+    (λ p e. omega (arith, e, c.in_ok-parts.ensures.low)) c.join.ensures.low
+
+pub record_specifier-join-requires-clause-room : goal.record_specifier-join-requires-clause-room
+record_specifier-join-requires-clause-room t c =
+    room_paid (then_paid (owed_paid {m = 8} c.in_ok-start.ensures.size
+    (took c.tag.new.cursor c.takes.new.self c.takes.ensures.nodes
+    (c.takes.ensures.shorter c.if-not-takes.false)) refl)
+    c.in_ok-parts.ensures.size) c.requires.room
+
+pub record_specifier-join-requires-clause-height : goal.record_specifier-join-requires-clause-height
+record_specifier-join-requires-clause-height t c = omega (arith, c.in_ok-parts.ensures.low, c.requires.height)
+
+pub record_specifier-returns-then-not-takes-clause-size : goal.record_specifier-returns-then-not-takes-clause-size
+record_specifier-returns-then-not-takes-clause-size t c = IfOk-weaker c.tag_alone.result _ _
+    (λ p e. owed_owed (owed_owed c.in_ok-start.ensures.size
+    (stayed c.tag.new.cursor c.takes.new.self c.takes.ensures.nodes (c.takes.ensures.left c.if-not-takes.true)))
+    (noded c.takes.new.self c.tag_alone.new.cursor e c.tag_alone.ensures.rest)) c.tag_alone.ensures.size
+
+pub record_specifier-returns-then-not-takes-clause-low : goal.record_specifier-returns-then-not-takes-clause-low
+record_specifier-returns-then-not-takes-clause-low t c = IfOk-weaker c.tag_alone.result _ _
+    (λ p e. omega (arith, e)) c.tag_alone.ensures.low
+
+pub enumerator-returns-then-not-takes-clause-size : goal.enumerator-returns-then-not-takes-clause-size
+enumerator-returns-then-not-takes-clause-size t c = IfOk-weaker c.leaf.result _ _
+    (λ p e. then_owed (then_owed {m = 8} (took c.args.cursor.now c.take.new.self c.take.ensures.nodes
+    c.in-Some.ensures.size)
+    (stayed c.take.new.self c.takes.new.self c.takes.ensures.nodes (c.takes.ensures.left c.if-not-takes.true)) refl)
+    (noded c.takes.new.self c.leaf.new.self e c.leaf.ensures.rest) refl) c.leaf.ensures.size
+
+pub enumerator-returns-then-not-takes-clause-low : goal.enumerator-returns-then-not-takes-clause-low
+enumerator-returns-then-not-takes-clause-low t c = IfOk-weaker c.leaf.result _ _
+    (λ p e. omega (arith, e)) c.leaf.ensures.low
+
+pub enumerator-returns-clause-size : goal.enumerator-returns-clause-size
+enumerator-returns-clause-size t c = IfOk-weaker c.node.result _ _
+    (λ p q. then_owed (then_paid (took c.args.cursor.now c.take.new.self c.take.ensures.nodes c.in-Some.ensures.size)
+    (took c.take.new.self c.takes.new.self c.takes.ensures.nodes
+    (c.takes.ensures.shorter c.if-not-takes.false))) q refl) c.node.ensures.size
+
+pub enumerator-returns-clause-low : goal.enumerator-returns-clause-low
+enumerator-returns-clause-low t c = c.node.ensures.low
+
+pub measure-returns-then-opens_type-clause-low : goal.measure-returns-then-opens_type-clause-low
+measure-returns-then-opens_type-clause-low t c = c.node.ensures.low
+
+pub measure-returns-else-opens_type-clause-low : goal.measure-returns-else-opens_type-clause-low
+measure-returns-else-opens_type-clause-low t c = c.node-else-opens_type.ensures.low
+
+pub measure-returns-else-opens_type-clause-size : goal.measure-returns-else-opens_type-clause-size
+measure-returns-else-opens_type-clause-size t c = c.node-else-opens_type.ensures.size
+
+pub climb-returns-clause-low : goal.climb-returns-clause-low
+climb-returns-clause-low t c = c.loop-item.invariant.low
+
+pub climb-returns-clause-size : goal.climb-returns-clause-size
+climb-returns-clause-size t c =
+    owed_owed c.loop-item.invariant.size (stayed c.loop-item.cursor c.take_tail.new.cursor c.take_tail.ensures.nodes
+    c.in_default.ensures.left)
+
+pub specifier_list-returns-clause-low : goal.specifier_list-returns-clause-low
+specifier_list-returns-clause-low t c = c.loop-item.invariant.low
+
+pub specifiers-returns-clause-low : goal.specifiers-returns-clause-low
+specifiers-returns-clause-low t c = omega (arith, c.in_ok-part.ensures.low, c.in_ok-gathered.ensures.low)
+
+pub specifiers-join-requires-clause-height : goal.specifiers-join-requires-clause-height
+specifiers-join-requires-clause-height t c = omega (arith, c.in_ok-gathered.ensures.low, c.requires.height)
+
+pub optional_declarator-returns-then-begins_declarator-clause-size :
+    goal.optional_declarator-returns-then-begins_declarator-clause-size
+optional_declarator-returns-then-begins_declarator-clause-size t c = owes c.in_ok-part.ensures.size
+
+pub optional_declarator-returns-then-begins_declarator-clause-low :
+    goal.optional_declarator-returns-then-begins_declarator-clause-low
+optional_declarator-returns-then-begins_declarator-clause-low t c = c.in_ok-part.ensures.low
+
+pub specifier-returns-in-Specifier-clause-size : goal.specifier-returns-in-Specifier-clause-size
+specifier-returns-in-Specifier-clause-size t c = IfOk-weaker c.leaf.result _ _
+    (λ p e. noded c.args.cursor.now c.leaf.new.self e c.leaf.ensures.rest) c.leaf.ensures.size
+
+pub specifier-returns-in-Word-clause-size : goal.specifier-returns-in-Word-clause-size
+specifier-returns-in-Word-clause-size t c = IfOk-weaker c.leaf-in-Word.result _ _
+    (λ p e. noded c.args.cursor.now c.leaf-in-Word.new.self e c.leaf-in-Word.ensures.rest) c.leaf-in-Word.ensures.size
+
+pub specifier-returns-in-Specifier-clause-low : goal.specifier-returns-in-Specifier-clause-low
+specifier-returns-in-Specifier-clause-low t c = IfOk-weaker c.leaf.result _ _
+    (λ p e. omega (arith, e)) c.leaf.ensures.low
+
+pub specifier-returns-in-Word-clause-low : goal.specifier-returns-in-Word-clause-low
+specifier-returns-in-Word-clause-low t c = IfOk-weaker c.leaf-in-Word.result _ _
+    (λ p e. omega (arith, e)) c.leaf-in-Word.ensures.low
+
+pub read-returns-in-Expression-clause-low : goal.read-returns-in-Expression-clause-low
+read-returns-in-Expression-clause-low t c = IfOk-weaker c.expression.result _ _
+    (λ p e. omega (arith, e, c.if-budget-eq0.false)) c.expression.ensures.low
+
+pub read-returns-in-Declarator-clause-low : goal.read-returns-in-Declarator-clause-low
+read-returns-in-Declarator-clause-low t c = IfOk-weaker c.declarator.result _ _
+    (λ p e. omega (arith, e, c.if-budget-eq0.false)) c.declarator.ensures.low
+
+pub read-returns-in-Initializer-clause-low : goal.read-returns-in-Initializer-clause-low
+read-returns-in-Initializer-clause-low t c = IfOk-weaker c.initializer.result _ _
+    (λ p e. omega (arith, e, c.if-budget-eq0.false)) c.initializer.ensures.low
+
+pub read-returns-in-Enumerator-clause-low : goal.read-returns-in-Enumerator-clause-low
+read-returns-in-Enumerator-clause-low t c = IfOk-weaker c.enumerator.result _ _
+    (λ p e. omega (arith, e, c.if-budget-eq0.false)) c.enumerator.ensures.low
+
+pub read-returns-in-Member-clause-low : goal.read-returns-in-Member-clause-low
+read-returns-in-Member-clause-low t c = IfOk-weaker c.member.result _ _
+    (λ p e. omega (arith, e, c.if-budget-eq0.false)) c.member.ensures.low
+
+pub read-returns-in-Parameter-clause-low : goal.read-returns-in-Parameter-clause-low
+read-returns-in-Parameter-clause-low t c = IfOk-weaker c.parameter_or_type_name.result _ _
+    (λ p e. omega (arith, e, c.if-budget-eq0.false)) c.parameter_or_type_name.ensures.low
+
+pub function-returns-in_err-push : goal.function-returns-in_err-push
+function-returns-in_err-push t c =
+    let p = err_from_is_err_and c.from_residual-in_err-push.result c.from_residual-in_err-push.ensures.1 in
+    rw (p.1, p.2) (record {
+      size = tt;
+      low = tt;
+      taller = tt;
+      tree = λ x m. fails_memory _ _ c.in_err-push.ensures.full;
+    })
+
+pub function-returns-in_err-parameters : goal.function-returns-in_err-parameters
+function-returns-in_err-parameters t c =
+    let p = err_from_is_err_and c.from_residual-in_err-parameters.result c.from_residual-in_err-parameters.ensures.1 in
+    rw (p.1, p.2) (record {
+      size = tt;
+      low = tt;
+      taller = tt;
+      tree = λ x m. fails_memory _ _ c.in_err-parameters.ensures.tree;
+    })
+
+pub array-returns-in_err-push : goal.array-returns-in_err-push
+array-returns-in_err-push t c =
+    let p = err_from_is_err_and c.from_residual-in_err-push.result c.from_residual-in_err-push.ensures.1 in
+    rw (p.1, p.2) (record {
+      size = tt;
+      low = tt;
+      taller = tt;
+      tree = λ x m. fails_memory _ _ c.in_err-push.ensures.full;
+    })
+
+pub core-returns-in_err-part : goal.core-returns-in_err-part
+core-returns-in_err-part t c =
+    let p = err_from_is_err_and c.from_residual.result c.from_residual.ensures.1 in
+    rw (p.1, p.2) (record { size = tt; none = tt; low = tt; tree = fails_memory _ _ c.in_err-part.ensures.tree })
+
+pub core-returns-in_err-part-2 : goal.core-returns-in_err-part-2
+core-returns-in_err-part-2 t c =
+    let p = err_from_is_err_and c.from_residual-in_err-part-2.result c.from_residual-in_err-part-2.ensures.1 in
+    rw (p.1, p.2) (record { size = tt; none = tt; low = tt; tree = fails_memory _ _ c.in_err-part-2.ensures.tree })
+
+pub core-returns-in_err-parts : goal.core-returns-in_err-parts
+core-returns-in_err-parts t c =
+    let p = err_from_is_err_and c.from_residual-in_err-parts.result c.from_residual-in_err-parts.ensures.1 in
+    rw (p.1, p.2) (record { size = tt; none = tt; low = tt; tree = fails_memory _ _ c.in_err-parts.ensures.one })
+
+pub members-returns-in_err-push : goal.members-returns-in_err-push
+members-returns-in_err-push t c =
+    let p = err_from_is_err_and c.from_residual-in_err-push.result c.from_residual-in_err-push.ensures.1 in
+    rw (p.1, p.2) (record {
+      size = tt;
+      low = tt;
+      tree = λ ys turns much m. fails_memory _ _ c.in_err-push.ensures.full;
+    })
+
+pub separated-returns-in_err-push : goal.separated-returns-in_err-push
+separated-returns-in_err-push t c =
+    let p = err_from_is_err_and c.from_residual-in_err-push.result c.from_residual-in_err-push.ensures.1 in
+    rw (p.1, p.2) (record {
+      size = tt;
+      low = tt;
+      keeps = tt;
+      tree = λ ys m. fails_memory _ _ c.in_err-push.ensures.full;
+    })
+
+pub members-returns-in_err-push-2 : goal.members-returns-in_err-push-2
+members-returns-in_err-push-2 t c =
+    let p = err_from_is_err_and c.from_residual-in_err-push-2.result c.from_residual-in_err-push-2.ensures.1 in
+    rw (p.1, p.2) (record {
+      size = tt;
+      low = tt;
+      tree = λ ys turns much m. fails_memory _ _ c.in_err-push-2.ensures.full;
+    })
+
+pub separated-returns-in_err-push-2 : goal.separated-returns-in_err-push-2
+separated-returns-in_err-push-2 t c =
+    let p = err_from_is_err_and c.from_residual-in_err-push-2.result c.from_residual-in_err-push-2.ensures.1 in
+    rw (p.1, p.2) (record {
+      size = tt;
+      low = tt;
+      keeps = tt;
+      tree = λ ys m. fails_memory _ _ c.in_err-push-2.ensures.full;
+    })
+
+pub specifiers-returns-in_err-part : goal.specifiers-returns-in_err-part
+specifiers-returns-in_err-part t c =
+    let p = err_from_is_err_and c.from_residual-in_err-part.result c.from_residual-in_err-part.ensures.1 in
+    rw (p.1, p.2) (record { size = tt; low = tt; tree = fails_memory _ _ c.in_err-part.ensures.tree })
+
+pub longer-returns-in_err-start : goal.longer-returns-in_err-start
+longer-returns-in_err-start t c =
+    let p = err_from_is_err_and c.from_residual.result c.from_residual.ensures.1 in
+    rw (p.1, p.2) (record {
+      size = tt;
+      low = tt;
+      taller = tt;
+      tree = λ x m. fails_memory _ _ c.in_err-start.ensures.one;
+    })
+
+pub node-returns-in_err-parts : goal.node-returns-in_err-parts
+node-returns-in_err-parts t c =
+    let p = err_from_is_err_and c.from_residual.result c.from_residual.ensures.1 in
+    rw (p.1, p.2) (record {
+      size = tt;
+      low = tt;
+      taller = tt;
+      tree = λ ys first named h. fails_bind _ _ _ (c.in_err-parts.ensures.tree ys h);
+    })
+
+pub member-returns-in_err-parts : goal.member-returns-in_err-parts
+member-returns-in_err-parts t c =
+    let p = err_from_is_err_and c.from_residual-in_err-parts.result c.from_residual-in_err-parts.ensures.1 in
+    rw (p.1, p.2) (record { size = tt; low = tt; tree = fails_memory _ _ c.in_err-parts.ensures.one })
+
+pub specifier_list-returns-in_err-gathered : goal.specifier_list-returns-in_err-gathered
+specifier_list-returns-in_err-gathered t c =
+    let p = err_from_is_err_and c.from_residual-in_err-gathered.result c.from_residual-in_err-gathered.ensures.1 in
+    rw (p.1, p.2) (record { size = tt; low = tt; tree = fails_memory _ _ c.in_err-gathered.ensures.full })

@@ -1,5 +1,5 @@
 use Rattle.std.proofs.Common.{suc, refl, ap, sym, ◌∙◌, Some, arith}
-use Rattle.std.proofs.lemmas.Result.{MatchResult-weaker}
+use Rattle.std.proofs.lemmas.Result.{MatchResult-weaker, IfOk-weaker, err_from_is_err_and}
 use Rattle.c_tree.specs.declared.syntax.NodeKind.TheVariants.{MemberName, Select}
 use Rattle.c_tree.specs.Syntax.{node, nil, more, one}
 use Rattle.c_parse.specs.Reading
@@ -7,6 +7,7 @@ use Rattle.c_parse.specs.Got.{rest_of}
 use Rattle.c_parse.proofs.Made.{fails_memory, holds_more, holds_on, grows_on}
 use Rattle.c_parse.proofs.Climbing.{grows_from}
 use Rattle.c_parse.proofs.Specified.{select_low, select_not, select_is}
+use Rattle.c_parse.proofs.Paying.{took, noded, then_owed, owed_owed, owes}
 use Rattle.c_parse.proofs.phrases.select.Goals as goal
 
 pub returns-then-below-eq0-clause-tree : goal.returns-then-below-eq0-clause-tree
@@ -39,3 +40,56 @@ returns-clause-tree c = λ x first h. MatchResult-weaker c.join.result c.join.en
       grows = grows_on grown made.grows;
     })
     (λ e same. fails_memory e _ same)
+
+pub returns-in_err-member : goal.returns-in_err-member
+returns-in_err-member c =
+    let p = err_from_is_err_and c.from_residual.result c.from_residual.ensures.1 in
+    rw (p.1, p.2) (record {
+      size = tt;
+      low = tt;
+      taller = tt;
+      tree =
+          λ x first h. fails_memory _ _ c.in_err-member.ensures.tree;
+    })
+
+pub returns-in_err-parts : goal.returns-in_err-parts
+returns-in_err-parts c =
+    let p = err_from_is_err_and c.from_residual-in_err-parts.result c.from_residual-in_err-parts.ensures.1 in
+    rw (p.1, p.2) (record {
+      size = tt;
+      low = tt;
+      taller = tt;
+      tree =
+          λ x first h. fails_memory _ _ c.in_err-parts.ensures.full;
+    })
+
+pub returns-clause-size : goal.returns-clause-size
+returns-clause-size c = IfOk-weaker c.join.result _ _
+    (λ p e. owes (then_owed {m = 0} (took c.args.cursor.now c.take_if.new.self c.in-Some.ensures.nodes
+    c.in-Some.ensures.size)
+    (owed_owed (noded c.take_if.new.self c.leaf.new.self c.in_ok-member.ensures.size c.in_ok-member.ensures.rest)
+    (noded c.leaf.new.self c.join.new.self e c.join.ensures.rest)) refl)) c.join.ensures.size
+
+pub returns-clause-low : goal.returns-clause-low
+returns-clause-low c = IfOk-weaker c.join.result _ _
+    (λ p e. omega (
+      arith,
+      c.in_ok-parts.ensures.size,
+      c.in_ok-member.ensures.low,
+      c.requires.start,
+      c.if-below-eq0.false,
+    ))
+    c.join.ensures.low
+
+pub returns-clause-taller : goal.returns-clause-taller
+returns-clause-taller c = IfOk-weaker c.join.result _ _ (λ p e. omega (arith, c.in_ok-parts.ensures.size))
+    c.join.ensures.low
+
+pub join-requires-clause-height : goal.join-requires-clause-height
+join-requires-clause-height c = omega (
+  arith,
+  c.in_ok-parts.ensures.size,
+  c.in_ok-member.ensures.low,
+  c.requires.start,
+  c.requires.height,
+)

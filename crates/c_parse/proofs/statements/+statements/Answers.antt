@@ -1,5 +1,5 @@
 use Rattle.std.proofs.Common.{◌-◌, ◌∷◌, Ok, List, length, subst, refl, arith, ap, sym, ◌∙◌, Some}
-use Rattle.std.proofs.lemmas.Result.{err_from_is_err_and}
+use Rattle.std.proofs.lemmas.Result.{err_from_is_err_and, IfOk-weaker}
 use Rattle.ck_base.specs.Tokens.{Lexeme}
 use Rattle.c_tree.specs.declared.syntax.NodeKind.TheVariants as Kinds
 use Rattle.c_tree.specs.Syntax.{Syn, node, nil, one, two}
@@ -16,27 +16,39 @@ use Rattle.c_parse.proofs.Parted.{joined_reads, reads_same, reads_after}
 use Rattle.c_parse.proofs.Declared.{unafter, fails_unafter}
 use Rattle.c_parse.proofs.Entered.{labelled_is, state_none, state_end, state_opens, state_expression, after_nil}
 use Rattle.c_parse.proofs.Entered.{extends_on, enters_step, enters_fail, enters_end, enters_none}
+use Rattle.c_parse.proofs.Paying.{took, took_past, stayed, noded, then_paid, then_owed, owed_owed, owes, room_paid}
+use Rattle.c_parse.proofs.Paying.{room_owed}
 use Rattle.c_parse.proofs.statements.+statements.Goals as goal
 
-pub while_statement-returns-in_err-test-clause-tree : goal.while_statement-returns-in_err-test-clause-tree
+pub while_statement-returns-in_err-test : goal.while_statement-returns-in_err-test
 unfolding while_from
-while_statement-returns-in_err-test-clause-tree t c =
-    let p = err_from_is_err_and c.from_residual.result c.from_residual.ensures.1 in rw (p.1, p.2)
-    (fails_bind _ _ _ c.in_err-test.ensures.tree)
+while_statement-returns-in_err-test t c =
+    let p = err_from_is_err_and c.from_residual.result c.from_residual.ensures.1 in
+    rw (p.1, p.2) (record { size = tt; low = tt; names = tt; tree = (fails_bind _ _ _ c.in_err-test.ensures.tree) })
 
-pub while_statement-returns-in_err-body-clause-tree : goal.while_statement-returns-in_err-body-clause-tree
+pub while_statement-returns-in_err-body : goal.while_statement-returns-in_err-body
 unfolding while_from
-while_statement-returns-in_err-body-clause-tree t c =
+while_statement-returns-in_err-body t c =
     let p = err_from_is_err_and c.from_residual-in_err-body.result c.from_residual-in_err-body.ensures.1 in
-    rw (p.1, p.2)
-    (fails_after _ _ _ _ c.in_ok-test.ensures.tree.reads (fails_bind _ _ _ c.in_err-body.ensures.tree))
+    rw (p.1, p.2) (record {
+      size = tt;
+      low = tt;
+      names = tt;
+      tree =
+          (fails_after _ _ _ _ c.in_ok-test.ensures.tree.reads (fails_bind _ _ _ c.in_err-body.ensures.tree));
+    })
 
-pub while_statement-returns-in_err-push-clause-tree : goal.while_statement-returns-in_err-push-clause-tree
+pub while_statement-returns-in_err-push : goal.while_statement-returns-in_err-push
 unfolding while_from
-while_statement-returns-in_err-push-clause-tree t c =
+while_statement-returns-in_err-push t c =
     let p = err_from_is_err_and c.from_residual-in_err-push.result c.from_residual-in_err-push.ensures.1 in
-    rw (p.1, p.2)
-    (fails_memory _ _ c.in_err-push.ensures.full)
+    rw (p.1, p.2) (record {
+      size = tt;
+      low = tt;
+      names = tt;
+      tree =
+          (fails_memory _ _ c.in_err-push.ensures.full);
+    })
 
 pub while_statement-returns-clause-tree : goal.while_statement-returns-clause-tree
 unfolding while_from
@@ -50,40 +62,55 @@ while_statement-returns-clause-tree t c =
     (bind_is _ a.reads ∙ bind_is _ b.reads)
     c.place.ensures refl
 
-pub do_statement-returns-in_err-body-clause-tree : goal.do_statement-returns-in_err-body-clause-tree
+pub do_statement-returns-in_err-body : goal.do_statement-returns-in_err-body
 unfolding do_from
-do_statement-returns-in_err-body-clause-tree t c =
-    let p = err_from_is_err_and c.from_residual.result c.from_residual.ensures.1 in rw (p.1, p.2)
-    (fails_bind _ _ _ c.in_err-body.ensures.tree)
+do_statement-returns-in_err-body t c =
+    let p = err_from_is_err_and c.from_residual.result c.from_residual.ensures.1 in
+    rw (p.1, p.2) (record { size = tt; low = tt; names = tt; tree = (fails_bind _ _ _ c.in_err-body.ensures.tree) })
 
-pub do_statement-returns-in_err-expect-clause-tree : goal.do_statement-returns-in_err-expect-clause-tree
+pub do_statement-returns-in_err-expect : goal.do_statement-returns-in_err-expect
 unfolding do_from
-do_statement-returns-in_err-expect-clause-tree t c =
+do_statement-returns-in_err-expect t c =
     let p = err_from_is_err_and c.from_residual-in_err-expect.result c.from_residual-in_err-expect.ensures.1 in
-    rw (p.1, p.2)
-    (fails_after _ _ _ _ c.in_ok-body.ensures.tree.reads (fails_bind _ _ _ c.in_err-expect.ensures.found))
+    rw (p.1, p.2) (record {
+      size = tt;
+      low = tt;
+      names = tt;
+      tree =
+          (fails_after _ _ _ _ c.in_ok-body.ensures.tree.reads (fails_bind _ _ _ c.in_err-expect.ensures.found));
+    })
 
-pub do_statement-returns-in_err-test-clause-tree : goal.do_statement-returns-in_err-test-clause-tree
+pub do_statement-returns-in_err-test : goal.do_statement-returns-in_err-test
 unfolding do_from
-do_statement-returns-in_err-test-clause-tree t c =
+do_statement-returns-in_err-test t c =
     let p = err_from_is_err_and c.from_residual-in_err-test.result c.from_residual-in_err-test.ensures.1 in
-    rw (p.1, p.2)
-    (fails_after _ _ _ _ c.in_ok-body.ensures.tree.reads
-    (fails_after _ _ _ _ c.in_ok-expect.ensures.found
-    (fails_bind _ _ _ (fails_same _ (ap (λ v.
-    condition (read c.args.below) (declare c.args.below) (state c.args.below) v (rest_of c.expect.new.self))
-    (sym c.in_ok-body.ensures.names)) c.in_err-test.ensures.tree))))
+    rw (p.1, p.2) (record {
+      size = tt;
+      low = tt;
+      names = tt;
+      tree =
+          (fails_after _ _ _ _ c.in_ok-body.ensures.tree.reads
+          (fails_after _ _ _ _ c.in_ok-expect.ensures.found
+          (fails_bind _ _ _ (fails_same _ (ap (λ v.
+          condition (read c.args.below) (declare c.args.below) (state c.args.below) v (rest_of c.expect.new.self))
+          (sym c.in_ok-body.ensures.names)) c.in_err-test.ensures.tree))));
+    })
 
-pub do_statement-returns-in_err-expect-2-clause-tree : goal.do_statement-returns-in_err-expect-2-clause-tree
+pub do_statement-returns-in_err-expect-2 : goal.do_statement-returns-in_err-expect-2
 unfolding do_from
-do_statement-returns-in_err-expect-2-clause-tree t c =
+do_statement-returns-in_err-expect-2 t c =
     let p = err_from_is_err_and c.from_residual-in_err-expect-2.result c.from_residual-in_err-expect-2.ensures.1 in
-    rw (p.1, p.2)
-    (fails_after _ _ _ _ c.in_ok-body.ensures.tree.reads
-    (fails_after _ _ _ _ c.in_ok-expect.ensures.found
-    (fails_after _ _ _ _ ((ap (λ v. condition (read c.args.below) (declare c.args.below) (state c.args.below) v
-    (rest_of c.expect.new.self)) (sym c.in_ok-body.ensures.names)) ∙ c.in_ok-test.ensures.tree.reads)
-    (fails_bind _ _ _ c.in_err-expect-2.ensures.found))))
+    rw (p.1, p.2) (record {
+      size = tt;
+      low = tt;
+      names = tt;
+      tree =
+          (fails_after _ _ _ _ c.in_ok-body.ensures.tree.reads
+          (fails_after _ _ _ _ c.in_ok-expect.ensures.found
+          (fails_after _ _ _ _ ((ap (λ v. condition (read c.args.below) (declare c.args.below) (state c.args.below) v
+          (rest_of c.expect.new.self)) (sym c.in_ok-body.ensures.names)) ∙ c.in_ok-test.ensures.tree.reads)
+          (fails_bind _ _ _ c.in_err-expect-2.ensures.found))));
+    })
 
 pub do_statement-returns-clause-tree : goal.do_statement-returns-clause-tree
 unfolding do_from
@@ -103,29 +130,39 @@ do_statement-returns-clause-tree t c =
     ∙ bind_is _ c.in_ok-expect-2.ensures.found)
     c.place.ensures refl
 
-pub if_statement-returns-in_err-test-clause-tree : goal.if_statement-returns-in_err-test-clause-tree
+pub if_statement-returns-in_err-test : goal.if_statement-returns-in_err-test
 unfolding if_from
-if_statement-returns-in_err-test-clause-tree t c =
-    let p = err_from_is_err_and c.from_residual.result c.from_residual.ensures.1 in rw (p.1, p.2)
-    (fails_bind _ _ _ c.in_err-test.ensures.tree)
+if_statement-returns-in_err-test t c =
+    let p = err_from_is_err_and c.from_residual.result c.from_residual.ensures.1 in
+    rw (p.1, p.2) (record { size = tt; low = tt; names = tt; tree = (fails_bind _ _ _ c.in_err-test.ensures.tree) })
 
-pub if_statement-returns-in_err-yes-clause-tree : goal.if_statement-returns-in_err-yes-clause-tree
+pub if_statement-returns-in_err-yes : goal.if_statement-returns-in_err-yes
 unfolding if_from
-if_statement-returns-in_err-yes-clause-tree t c =
-    let p = err_from_is_err_and c.from_residual-in_err-yes.result c.from_residual-in_err-yes.ensures.1 in rw (p.1, p.2)
-    (fails_after _ _ _ _ c.in_ok-test.ensures.tree.reads (fails_bind _ _ _ c.in_err-yes.ensures.tree))
+if_statement-returns-in_err-yes t c =
+    let p = err_from_is_err_and c.from_residual-in_err-yes.result c.from_residual-in_err-yes.ensures.1 in
+    rw (p.1, p.2) (record {
+      size = tt;
+      low = tt;
+      names = tt;
+      tree = (fails_after _ _ _ _ c.in_ok-test.ensures.tree.reads (fails_bind _ _ _ c.in_err-yes.ensures.tree));
+    })
 
-pub if_statement-returns-in_err-no-clause-tree : goal.if_statement-returns-in_err-no-clause-tree
+pub if_statement-returns-in_err-no : goal.if_statement-returns-in_err-no
 unfolding if_from
-if_statement-returns-in_err-no-clause-tree t c =
-    let p = err_from_is_err_and c.from_residual-in_err-no.result c.from_residual-in_err-no.ensures.1 in rw (p.1, p.2)
-    (fails_after _ _ _ _ c.in_ok-test.ensures.tree.reads
-    (fails_after _ _ _ _ c.in_ok-yes.ensures.tree.reads
-    (fails_same _ (then_is _ (sym c.takes.ensures.found ∙ c.if-takes.true))
-    (fails_bind _ _ _ (fails_same _ (ap (λ v. state c.args.below (in_force c.args.types.now) v)
-    (sym (c.takes.ensures.taken c.if-takes.true))
-    ∙ ap (λ v. state c.args.below v (rest_of c.takes.new.self)) (sym c.in_ok-yes.ensures.names))
-    c.in_err-no.ensures.tree)))))
+if_statement-returns-in_err-no t c =
+    let p = err_from_is_err_and c.from_residual-in_err-no.result c.from_residual-in_err-no.ensures.1 in
+    rw (p.1, p.2) (record {
+      size = tt;
+      low = tt;
+      names = tt;
+      tree = (fails_after _ _ _ _ c.in_ok-test.ensures.tree.reads
+          (fails_after _ _ _ _ c.in_ok-yes.ensures.tree.reads
+          (fails_same _ (then_is _ (sym c.takes.ensures.found ∙ c.if-takes.true))
+          (fails_bind _ _ _ (fails_same _ (ap (λ v. state c.args.below (in_force c.args.types.now) v)
+          (sym (c.takes.ensures.taken c.if-takes.true))
+          ∙ ap (λ v. state c.args.below v (rest_of c.takes.new.self)) (sym c.in_ok-yes.ensures.names))
+          c.in_err-no.ensures.tree)))));
+    })
 
 pub if_statement-returns-then-takes-clause-tree : goal.if_statement-returns-then-takes-clause-tree
 unfolding if_from
@@ -164,54 +201,84 @@ if_statement-returns-clause-tree t c =
     (sym (c.takes.ensures.left c.if-takes.false)))
     c.place-2.ensures refl
 
-pub for_behind-returns-in_err-second-clause-tree : goal.for_behind-returns-in_err-second-clause-tree
+pub for_behind-returns-in_err-second : goal.for_behind-returns-in_err-second
 unfolding for_behind
-for_behind-returns-in_err-second-clause-tree t c =
-    λ x m. let p = err_from_is_err_and c.from_residual.result c.from_residual.ensures.1 in rw (p.1, p.2)
-    (fails_bind _ _ _ c.in_err-second.ensures.tree)
+for_behind-returns-in_err-second t c =
+    let p = err_from_is_err_and c.from_residual.result c.from_residual.ensures.1 in
+    rw (p.1, p.2) (record {
+      size = tt;
+      low = tt;
+      names = tt;
+      tree = λ x m. (fails_bind _ _ _ c.in_err-second.ensures.tree);
+    })
 
-pub for_behind-returns-in_err-third-clause-tree : goal.for_behind-returns-in_err-third-clause-tree
+pub for_behind-returns-in_err-third : goal.for_behind-returns-in_err-third
 unfolding for_behind
-for_behind-returns-in_err-third-clause-tree t c =
-    λ x m. let p = err_from_is_err_and c.from_residual-in_err-third.result c.from_residual-in_err-third.ensures.1 in
-    rw (p.1, p.2)
-    (fails_after _ _ _ _ c.in_ok-second.ensures.tree.reads (fails_bind _ _ _ c.in_err-third.ensures.tree))
+for_behind-returns-in_err-third t c =
+    let p = err_from_is_err_and c.from_residual-in_err-third.result c.from_residual-in_err-third.ensures.1 in
+    rw (p.1, p.2) (record {
+      size = tt;
+      low = tt;
+      names = tt;
+      tree = λ x m. (fails_after _ _ _ _ c.in_ok-second.ensures.tree.reads
+          (fails_bind _ _ _ c.in_err-third.ensures.tree));
+    })
 
-pub for_behind-returns-in_err-body-clause-tree : goal.for_behind-returns-in_err-body-clause-tree
+pub for_behind-returns-in_err-body : goal.for_behind-returns-in_err-body
 unfolding for_behind
-for_behind-returns-in_err-body-clause-tree t c =
-    λ x m. let p = err_from_is_err_and c.from_residual-in_err-body.result c.from_residual-in_err-body.ensures.1 in
-    rw (p.1, p.2)
-    (fails_after _ _ _ _ c.in_ok-second.ensures.tree.reads
-    (fails_after _ _ _ _ c.in_ok-third.ensures.tree.reads (fails_bind _ _ _ c.in_err-body.ensures.tree)))
+for_behind-returns-in_err-body t c =
+    let p = err_from_is_err_and c.from_residual-in_err-body.result c.from_residual-in_err-body.ensures.1 in
+    rw (p.1, p.2) (record {
+      size = tt;
+      low = tt;
+      names = tt;
+      tree = λ x m. (fails_after _ _ _ _ c.in_ok-second.ensures.tree.reads
+          (fails_after _ _ _ _ c.in_ok-third.ensures.tree.reads (fails_bind _ _ _ c.in_err-body.ensures.tree)));
+    })
 
-pub for_behind-returns-in_err-parts-clause-tree : goal.for_behind-returns-in_err-parts-clause-tree
+pub for_behind-returns-in_err-parts : goal.for_behind-returns-in_err-parts
 unfolding for_behind
-for_behind-returns-in_err-parts-clause-tree t c =
-    λ x m. let p = err_from_is_err_and c.from_residual-in_err-parts.result c.from_residual-in_err-parts.ensures.1 in
-    rw (p.1, p.2)
-    (fails_memory _ _ c.in_err-parts.ensures.one)
+for_behind-returns-in_err-parts t c =
+    let p = err_from_is_err_and c.from_residual-in_err-parts.result c.from_residual-in_err-parts.ensures.1 in
+    rw (p.1, p.2) (record {
+      size = tt;
+      low = tt;
+      names = tt;
+      tree = λ x m. (fails_memory _ _ c.in_err-parts.ensures.one);
+    })
 
-pub for_behind-returns-in_err-push-clause-tree : goal.for_behind-returns-in_err-push-clause-tree
+pub for_behind-returns-in_err-push : goal.for_behind-returns-in_err-push
 unfolding for_behind
-for_behind-returns-in_err-push-clause-tree t c =
-    λ x m. let p = err_from_is_err_and c.from_residual-in_err-push.result c.from_residual-in_err-push.ensures.1 in
-    rw (p.1, p.2)
-    (fails_memory _ _ c.in_err-push.ensures.full)
+for_behind-returns-in_err-push t c =
+    let p = err_from_is_err_and c.from_residual-in_err-push.result c.from_residual-in_err-push.ensures.1 in
+    rw (p.1, p.2) (record {
+      size = tt;
+      low = tt;
+      names = tt;
+      tree = λ x m. (fails_memory _ _ c.in_err-push.ensures.full);
+    })
 
-pub for_behind-returns-in_err-push-2-clause-tree : goal.for_behind-returns-in_err-push-2-clause-tree
+pub for_behind-returns-in_err-push-2 : goal.for_behind-returns-in_err-push-2
 unfolding for_behind
-for_behind-returns-in_err-push-2-clause-tree t c =
-    λ x m. let p = err_from_is_err_and c.from_residual-in_err-push-2.result c.from_residual-in_err-push-2.ensures.1 in
-    rw (p.1, p.2)
-    (fails_memory _ _ c.in_err-push-2.ensures.full)
+for_behind-returns-in_err-push-2 t c =
+    let p = err_from_is_err_and c.from_residual-in_err-push-2.result c.from_residual-in_err-push-2.ensures.1 in
+    rw (p.1, p.2) (record {
+      size = tt;
+      low = tt;
+      names = tt;
+      tree = λ x m. (fails_memory _ _ c.in_err-push-2.ensures.full);
+    })
 
-pub for_behind-returns-in_err-push-3-clause-tree : goal.for_behind-returns-in_err-push-3-clause-tree
+pub for_behind-returns-in_err-push-3 : goal.for_behind-returns-in_err-push-3
 unfolding for_behind
-for_behind-returns-in_err-push-3-clause-tree t c =
-    λ x m. let p = err_from_is_err_and c.from_residual-in_err-push-3.result c.from_residual-in_err-push-3.ensures.1 in
-    rw (p.1, p.2)
-    (fails_memory _ _ c.in_err-push-3.ensures.full)
+for_behind-returns-in_err-push-3 t c =
+    let p = err_from_is_err_and c.from_residual-in_err-push-3.result c.from_residual-in_err-push-3.ensures.1 in
+    rw (p.1, p.2) (record {
+      size = tt;
+      low = tt;
+      names = tt;
+      tree = λ x m. (fails_memory _ _ c.in_err-push-3.ensures.full);
+    })
 
 pub for_behind-returns-clause-tree : goal.for_behind-returns-clause-tree
 unfolding for_behind
@@ -232,21 +299,26 @@ for_behind-returns-clause-tree t c = λ x m.
     (bind_is _ a.reads ∙ bind_is _ b.reads ∙ bind_is _ d.reads)
     c.place.ensures refl
 
-pub for_statement-returns-in_err-expect-clause-tree : goal.for_statement-returns-in_err-expect-clause-tree
+pub for_statement-returns-in_err-expect : goal.for_statement-returns-in_err-expect
 unfolding for_from
-for_statement-returns-in_err-expect-clause-tree t c =
-    let p = err_from_is_err_and c.from_residual.result c.from_residual.ensures.1 in rw (p.1, p.2)
-    (fails_bind _ _ _ c.in_err-expect.ensures.found)
+for_statement-returns-in_err-expect t c =
+    let p = err_from_is_err_and c.from_residual.result c.from_residual.ensures.1 in
+    rw (p.1, p.2) (record { size = tt; low = tt; names = tt; tree = (fails_bind _ _ _ c.in_err-expect.ensures.found) })
 
-pub for_statement-returns-in_err-first-clause-tree : goal.for_statement-returns-in_err-first-clause-tree
+pub for_statement-returns-in_err-first : goal.for_statement-returns-in_err-first
 unfolding for_from
-for_statement-returns-in_err-first-clause-tree t c =
+for_statement-returns-in_err-first t c =
     let p = err_from_is_err_and c.from_residual-in_err-first.result c.from_residual-in_err-first.ensures.1 in
-    rw (p.1, p.2)
-    (fails_after _ _ _ _ c.in_ok-expect.ensures.found
-    (fails_same _ (else_is _ (ap (λ v. starts_with (begins_type (in_force c.args.types.now)) v)
-    (sym c.rest.ensures) ∙ sym c.start.ensures ∙ c.if-not-start.true))
-    (fails_bind _ _ _ c.in_err-first.ensures.tree)))
+    rw (p.1, p.2) (record {
+      size = tt;
+      low = tt;
+      names = tt;
+      tree =
+          (fails_after _ _ _ _ c.in_ok-expect.ensures.found
+          (fails_same _ (else_is _ (ap (λ v. starts_with (begins_type (in_force c.args.types.now)) v)
+          (sym c.rest.ensures) ∙ sym c.start.ensures ∙ c.if-not-start.true))
+          (fails_bind _ _ _ c.in_err-first.ensures.tree)));
+    })
 
 pub for_statement-returns-then-not-start-clause-tree : goal.for_statement-returns-then-not-start-clause-tree
 unfolding for_from
@@ -269,18 +341,24 @@ for_statement-returns-in_err-declaration-clause-tree t c =
     (sym c.rest.ensures) ∙ sym c.start.ensures ∙ c.if-not-start.false))
     (fails_bind _ _ _ c.in_err-declaration.ensures.tree)))
 
-pub for_statement-returns-in_err-part-clause-tree : goal.for_statement-returns-in_err-part-clause-tree
+pub for_statement-returns-in_err-part : goal.for_statement-returns-in_err-part
 unfolding for_from
-for_statement-returns-in_err-part-clause-tree t c =
+for_statement-returns-in_err-part t c =
     let p = err_from_is_err_and c.from_residual-in_err-part.result c.from_residual-in_err-part.ensures.1 in
-    rw (p.1, p.2)
-    (let d = c.in_ok-declaration.ensures.tree in
-    fails_after _ _ _ _ c.in_ok-expect.ensures.found
-    (fails_same _ (then_is _ (ap (λ v. starts_with (begins_type (in_force c.args.types.now)) v) (sym c.rest.ensures)
-    ∙ sym c.start.ensures ∙ c.if-not-start.false))
-    (fails_after _ _ _ _ d.reads (fails_same _
-    (ap (λ v. for_behind (read c.args.below) (declare c.args.below) (state c.args.below) c.args.own.now d.tree v
-    (rest_of c.declare.new.cursor)) (sym d.names)) (c.in_err-part.ensures.tree d.tree d.means)))))
+    rw (p.1, p.2) (record {
+      size = tt;
+      low = tt;
+      names = tt;
+      tree =
+          (let d = c.in_ok-declaration.ensures.tree in
+          fails_after _ _ _ _ c.in_ok-expect.ensures.found
+          (fails_same _ (then_is _ (ap (λ v. starts_with (begins_type (in_force c.args.types.now)) v)
+          (sym c.rest.ensures)
+          ∙ sym c.start.ensures ∙ c.if-not-start.false))
+          (fails_after _ _ _ _ d.reads (fails_same _
+          (ap (λ v. for_behind (read c.args.below) (declare c.args.below) (state c.args.below) c.args.own.now d.tree v
+          (rest_of c.declare.new.cursor)) (sym d.names)) (c.in_err-part.ensures.tree d.tree d.means)))));
+    })
 
 pub for_statement-returns-clause-tree : goal.for_statement-returns-clause-tree
 unfolding for_from
@@ -326,12 +404,17 @@ items-returns-then-takes-clause-tree t c =
     λ ys h. enters_end c.takes.new.self (c.loop-item.invariant.enters ys h)
     (sym c.takes.ensures.found ∙ c.if-takes.true) c.takes.ensures.nodes (c.takes.ensures.taken c.if-takes.true)
 
-pub items-returns-in_err-part-clause-tree : goal.items-returns-in_err-part-clause-tree
-items-returns-in_err-part-clause-tree t c =
-    let p = err_from_is_err_and c.from_residual.result c.from_residual.ensures.1 in λ ys h. rw (p.1, p.2)
-    (enters_fail c.takes.new.self _ (c.loop-item.invariant.enters ys h) c.in-Some.ensures
-    (sym c.takes.ensures.found ∙ c.if-takes.false)
-    (c.takes.ensures.left c.if-takes.false) c.in_err-part.ensures.tree)
+pub items-returns-in_err-part : goal.items-returns-in_err-part
+items-returns-in_err-part t c =
+    let p = err_from_is_err_and c.from_residual.result c.from_residual.ensures.1 in
+    rw (p.1, p.2) (record {
+      size = tt;
+      low = tt;
+      names = tt;
+      tree = λ ys h. (enters_fail c.takes.new.self _ (c.loop-item.invariant.enters ys h) c.in-Some.ensures
+          (sym c.takes.ensures.found ∙ c.if-takes.false)
+          (c.takes.ensures.left c.if-takes.false) c.in_err-part.ensures.tree);
+    })
 
 pub items-loop-item-preserved : goal.items-loop-item-preserved
 items-loop-item-preserved t c =
@@ -354,11 +437,17 @@ items-loop-item-preserved t c =
 pub items-returns-clause-tree : goal.items-returns-clause-tree
 items-returns-clause-tree t c = λ ys h. enters_none (c.loop-item.invariant.enters ys h) c.in_default.ensures
 
-pub block-returns-in_err-parts-clause-tree : goal.block-returns-in_err-parts-clause-tree
+pub block-returns-in_err-parts : goal.block-returns-in_err-parts
 unfolding block_from
-block-returns-in_err-parts-clause-tree t c =
-    let p = err_from_is_err_and c.from_residual.result c.from_residual.ensures.1 in rw (p.1, p.2)
-    (fails_bind _ _ _ (fails_unafter _ nil _ (c.in_err-parts.ensures.tree nil c.no_parts-none.ensures.none)))
+block-returns-in_err-parts t c =
+    let p = err_from_is_err_and c.from_residual.result c.from_residual.ensures.1 in
+    rw (p.1, p.2) (record {
+      size = tt;
+      low = tt;
+      names = tt;
+      tree = (fails_bind _ _ _ (fails_unafter _ nil _
+          (c.in_err-parts.ensures.tree nil c.no_parts-none.ensures.none)));
+    })
 
 pub block-returns-clause-tree : goal.block-returns-clause-tree
 unfolding block_from
@@ -367,30 +456,40 @@ block-returns-clause-tree t c =
     joined_reads _ c.items.new.cursor _ c.join.result c.join.ensures.tree c.join.ensures.grows c.join.ensures.rest
     g.holds g.grows (bind_is _ (sym (after_nil _) ∙ g.reads)) c.place.ensures refl
 
-pub switch_statement-returns-in_err-value-clause-tree : goal.switch_statement-returns-in_err-value-clause-tree
+pub switch_statement-returns-in_err-value : goal.switch_statement-returns-in_err-value
 unfolding switch_from
-switch_statement-returns-in_err-value-clause-tree t c =
-    let p = err_from_is_err_and c.from_residual.result c.from_residual.ensures.1 in rw (p.1, p.2)
-    (fails_bind _ _ _ c.in_err-value.ensures.tree)
+switch_statement-returns-in_err-value t c =
+    let p = err_from_is_err_and c.from_residual.result c.from_residual.ensures.1 in
+    rw (p.1, p.2) (record { size = tt; low = tt; names = tt; tree = (fails_bind _ _ _ c.in_err-value.ensures.tree) })
 
-pub switch_statement-returns-in_err-expect-clause-tree : goal.switch_statement-returns-in_err-expect-clause-tree
+pub switch_statement-returns-in_err-expect : goal.switch_statement-returns-in_err-expect
 unfolding switch_from
-switch_statement-returns-in_err-expect-clause-tree t c =
+switch_statement-returns-in_err-expect t c =
     let p = err_from_is_err_and c.from_residual-in_err-expect.result c.from_residual-in_err-expect.ensures.1 in
-    rw (p.1, p.2)
-    (fails_after _ _ _ _ c.in_ok-value.ensures.tree.reads (fails_bind _ _ _ c.in_err-expect.ensures.found))
+    rw (p.1, p.2) (record {
+      size = tt;
+      low = tt;
+      names = tt;
+      tree =
+          (fails_after _ _ _ _ c.in_ok-value.ensures.tree.reads (fails_bind _ _ _ c.in_err-expect.ensures.found));
+    })
 
-pub switch_statement-returns-in_err-parts-clause-tree : goal.switch_statement-returns-in_err-parts-clause-tree
+pub switch_statement-returns-in_err-parts : goal.switch_statement-returns-in_err-parts
 unfolding switch_from
-switch_statement-returns-in_err-parts-clause-tree t c =
+switch_statement-returns-in_err-parts t c =
     let p = err_from_is_err_and c.from_residual-in_err-parts.result c.from_residual-in_err-parts.ensures.1 in
-    rw (p.1, p.2)
-    (let a = c.in_ok-value.ensures.tree in
-    fails_after _ _ _ _ a.reads (fails_after _ _ _ _ c.in_ok-expect.ensures.found
-    (fails_bind _ _ _ (fails_unafter _ (one a.tree) _
-    (c.in_err-parts.ensures.tree (one a.tree)
-    (c.in_ok-start.ensures.one a.tree (means_on
-    (grows_to grows_same (sym c.in_ok-expect.ensures.nodes)) a.means)))))))
+    rw (p.1, p.2) (record {
+      size = tt;
+      low = tt;
+      names = tt;
+      tree =
+          (let a = c.in_ok-value.ensures.tree in
+          fails_after _ _ _ _ a.reads (fails_after _ _ _ _ c.in_ok-expect.ensures.found
+          (fails_bind _ _ _ (fails_unafter _ (one a.tree) _
+          (c.in_err-parts.ensures.tree (one a.tree)
+          (c.in_ok-start.ensures.one a.tree (means_on
+          (grows_to grows_same (sym c.in_ok-expect.ensures.nodes)) a.means)))))));
+    })
 
 pub switch_statement-returns-clause-tree : goal.switch_statement-returns-clause-tree
 unfolding switch_from
@@ -428,3 +527,406 @@ statement-returns-in-None-clause-tree t c =
     (rest_of c.args.cursor.now) _ c.in-Some.item (let n = c.if-budget-eq0.false in omega arith) c.in-Some.ensures
     (ap opening_of (sym c.symbol.ensures) ∙ sym c.in-None.ensures))
     c.expression_statement.ensures.tree
+
+pub while_statement-returns-clause-size : goal.while_statement-returns-clause-size
+while_statement-returns-clause-size t c = IfOk-weaker c.join.result _ _
+    (λ p e. owes (then_owed {m = 0} (then_paid c.in_ok-test.ensures.size c.in_ok-body.ensures.size)
+    (noded c.statement.new.cursor c.join.new.self e c.join.ensures.rest) refl)) c.join.ensures.size
+
+pub while_statement-returns-clause-low : goal.while_statement-returns-clause-low
+while_statement-returns-clause-low t c = IfOk-weaker c.join.result _ _
+    (λ p e. omega (
+      arith,
+      e,
+      c.in_ok-push.ensures.size,
+      c.in_ok-parts.ensures.size,
+      c.in_ok-test.ensures.low,
+      c.in_ok-body.ensures.low,
+    )) c.join.ensures.low
+
+pub while_statement-returns-clause-names : goal.while_statement-returns-clause-names
+while_statement-returns-clause-names t c = IfOk-weaker c.join.result _ _
+    (λ p e. c.in_ok-body.ensures.names) c.join.ensures.size
+
+pub while_statement-join-requires-clause-room : goal.while_statement-join-requires-clause-room
+while_statement-join-requires-clause-room t c =
+    room_paid (then_paid c.in_ok-test.ensures.size c.in_ok-body.ensures.size) c.requires.room
+
+pub while_statement-join-requires-clause-height : goal.while_statement-join-requires-clause-height
+while_statement-join-requires-clause-height t c =
+    omega (
+      arith,
+      c.in_ok-push.ensures.size,
+      c.in_ok-parts.ensures.size,
+      c.in_ok-test.ensures.low,
+      c.in_ok-body.ensures.low,
+      c.requires.height,
+    )
+
+pub do_statement-returns-clause-size : goal.do_statement-returns-clause-size
+do_statement-returns-clause-size t c = IfOk-weaker c.join.result _ _
+    (λ p e. owes (then_owed {m = 0} (then_paid (then_paid (then_paid c.in_ok-body.ensures.size
+    (took c.statement.new.cursor c.expect.new.self c.expect.ensures.nodes c.in_ok-expect.ensures.size))
+    c.in_ok-test.ensures.size) (took c.condition.new.cursor c.expect-2.new.self c.expect-2.ensures.nodes
+    c.in_ok-expect-2.ensures.size))
+    (noded c.expect-2.new.self c.join.new.self e c.join.ensures.rest) refl)) c.join.ensures.size
+
+pub do_statement-returns-clause-low : goal.do_statement-returns-clause-low
+do_statement-returns-clause-low t c = IfOk-weaker c.join.result _ _
+    (λ p e. omega (
+      arith,
+      e,
+      c.in_ok-push.ensures.size,
+      c.in_ok-parts.ensures.size,
+      c.in_ok-test.ensures.low,
+      c.in_ok-body.ensures.low,
+    )) c.join.ensures.low
+
+pub do_statement-returns-clause-names : goal.do_statement-returns-clause-names
+do_statement-returns-clause-names t c = IfOk-weaker c.join.result _ _
+    (λ p e. c.in_ok-body.ensures.names) c.join.ensures.size
+
+pub do_statement-join-requires-clause-room : goal.do_statement-join-requires-clause-room
+do_statement-join-requires-clause-room t c =
+    room_paid (then_paid (then_paid (then_paid c.in_ok-body.ensures.size
+    (took c.statement.new.cursor c.expect.new.self c.expect.ensures.nodes c.in_ok-expect.ensures.size))
+    c.in_ok-test.ensures.size) (took c.condition.new.cursor c.expect-2.new.self c.expect-2.ensures.nodes
+    c.in_ok-expect-2.ensures.size)) c.requires.room
+
+pub do_statement-join-requires-clause-height : goal.do_statement-join-requires-clause-height
+do_statement-join-requires-clause-height t c =
+    omega (
+      arith,
+      c.in_ok-push.ensures.size,
+      c.in_ok-parts.ensures.size,
+      c.in_ok-test.ensures.low,
+      c.in_ok-body.ensures.low,
+      c.requires.height,
+    )
+
+pub if_statement-returns-then-takes-clause-size : goal.if_statement-returns-then-takes-clause-size
+if_statement-returns-then-takes-clause-size t c = IfOk-weaker c.join.result _ _
+    (λ p e. owes (then_owed {m = 0} (then_paid (then_paid (then_paid c.in_ok-test.ensures.size c.in_ok-yes.ensures.size)
+    (took c.statement.new.cursor c.takes.new.self c.takes.ensures.nodes
+    (c.takes.ensures.shorter c.if-takes.true))) c.in_ok-no.ensures.size)
+    (noded c.statement-then-takes.new.cursor c.join.new.self e c.join.ensures.rest) refl)) c.join.ensures.size
+
+pub if_statement-returns-then-takes-clause-low : goal.if_statement-returns-then-takes-clause-low
+if_statement-returns-then-takes-clause-low t c = IfOk-weaker c.join.result _ _
+    (λ p e. omega (
+      arith,
+      e,
+      c.in_ok-push-2.ensures.size,
+      c.in_ok-push.ensures.size,
+      c.in_ok-parts.ensures.size,
+      c.in_ok-test.ensures.low,
+      c.in_ok-yes.ensures.low,
+      c.in_ok-no.ensures.low,
+    )) c.join.ensures.low
+
+pub if_statement-returns-then-takes-clause-names : goal.if_statement-returns-then-takes-clause-names
+if_statement-returns-then-takes-clause-names t c = IfOk-weaker c.join.result _ _
+    (λ p e. c.in_ok-no.ensures.names ∙ c.in_ok-yes.ensures.names) c.join.ensures.size
+
+pub if_statement-join-requires-clause-room : goal.if_statement-join-requires-clause-room
+if_statement-join-requires-clause-room t c =
+    room_paid (then_paid (then_paid (then_paid c.in_ok-test.ensures.size c.in_ok-yes.ensures.size)
+    (took c.statement.new.cursor c.takes.new.self c.takes.ensures.nodes
+    (c.takes.ensures.shorter c.if-takes.true))) c.in_ok-no.ensures.size) c.requires.room
+
+pub if_statement-join-requires-clause-height : goal.if_statement-join-requires-clause-height
+if_statement-join-requires-clause-height t c =
+    omega (
+      arith,
+      c.in_ok-push-2.ensures.size,
+      c.in_ok-push.ensures.size,
+      c.in_ok-parts.ensures.size,
+      c.in_ok-test.ensures.low,
+      c.in_ok-yes.ensures.low,
+      c.in_ok-no.ensures.low,
+      c.requires.height,
+    )
+
+pub if_statement-returns-clause-size : goal.if_statement-returns-clause-size
+if_statement-returns-clause-size t c = IfOk-weaker c.join-2.result _ _
+    (λ p e. owes (then_owed {m = 0} (then_owed {m = 16} (then_paid c.in_ok-test.ensures.size c.in_ok-yes.ensures.size)
+    (stayed c.statement.new.cursor c.takes.new.self c.takes.ensures.nodes
+    (c.takes.ensures.left c.if-takes.false)) refl)
+    (noded c.takes.new.self c.join-2.new.self e c.join-2.ensures.rest) refl)) c.join-2.ensures.size
+
+pub if_statement-returns-clause-low : goal.if_statement-returns-clause-low
+if_statement-returns-clause-low t c = IfOk-weaker c.join-2.result _ _
+    (λ p e. omega (
+      arith,
+      e,
+      c.in_ok-push.ensures.size,
+      c.in_ok-parts.ensures.size,
+      c.in_ok-test.ensures.low,
+      c.in_ok-yes.ensures.low,
+    )) c.join-2.ensures.low
+
+pub if_statement-returns-clause-names : goal.if_statement-returns-clause-names
+if_statement-returns-clause-names t c = IfOk-weaker c.join-2.result _ _
+    (λ p e. c.in_ok-yes.ensures.names) c.join-2.ensures.size
+
+pub if_statement-join-requires-2-clause-room : goal.if_statement-join-requires-2-clause-room
+if_statement-join-requires-2-clause-room t c =
+    room_paid (then_owed {m = 16} (then_paid c.in_ok-test.ensures.size c.in_ok-yes.ensures.size)
+    (stayed c.statement.new.cursor c.takes.new.self c.takes.ensures.nodes
+    (c.takes.ensures.left c.if-takes.false)) refl) c.requires.room
+
+pub if_statement-join-requires-2-clause-height : goal.if_statement-join-requires-2-clause-height
+if_statement-join-requires-2-clause-height t c =
+    omega (
+      arith,
+      c.in_ok-push.ensures.size,
+      c.in_ok-parts.ensures.size,
+      c.in_ok-test.ensures.low,
+      c.in_ok-yes.ensures.low,
+      c.requires.height,
+    )
+
+pub for_behind-returns-clause-size : goal.for_behind-returns-clause-size
+for_behind-returns-clause-size t c = IfOk-weaker c.join.result _ _
+    (λ p e. owes (then_owed {m = 0} (then_paid (then_paid c.in_ok-second.ensures.size c.in_ok-third.ensures.size)
+    c.in_ok-body.ensures.size)
+    (noded c.statement.new.cursor c.join.new.self e c.join.ensures.rest) refl)) c.join.ensures.size
+
+pub for_behind-returns-clause-low : goal.for_behind-returns-clause-low
+for_behind-returns-clause-low t c = IfOk-weaker c.join.result _ _
+    (λ p e. omega (
+      arith,
+      e,
+      c.in_ok-push-3.ensures.size,
+      c.in_ok-push-2.ensures.size,
+      c.in_ok-push.ensures.size,
+      c.in_ok-parts.ensures.size,
+      c.in_ok-second.ensures.low,
+      c.in_ok-third.ensures.low,
+      c.in_ok-body.ensures.low,
+      c.requires.low,
+    )) c.join.ensures.low
+
+pub for_behind-returns-clause-names : goal.for_behind-returns-clause-names
+for_behind-returns-clause-names t c = IfOk-weaker c.join.result _ _
+    (λ p e. c.in_ok-body.ensures.names) c.join.ensures.size
+
+pub for_behind-join-requires-clause-room : goal.for_behind-join-requires-clause-room
+for_behind-join-requires-clause-room t c =
+    room_paid (then_paid (then_paid c.in_ok-second.ensures.size c.in_ok-third.ensures.size)
+    c.in_ok-body.ensures.size) c.requires.room
+
+pub for_behind-join-requires-clause-height : goal.for_behind-join-requires-clause-height
+for_behind-join-requires-clause-height t c =
+    omega (
+      arith,
+      c.in_ok-push-3.ensures.size,
+      c.in_ok-push-2.ensures.size,
+      c.in_ok-push.ensures.size,
+      c.in_ok-parts.ensures.size,
+      c.in_ok-second.ensures.low,
+      c.in_ok-third.ensures.low,
+      c.in_ok-body.ensures.low,
+      c.requires.low,
+      c.requires.height,
+    )
+
+pub switch_statement-returns-clause-size : goal.switch_statement-returns-clause-size
+switch_statement-returns-clause-size t c = IfOk-weaker c.join.result _ _
+    (λ p e. owes (then_owed {m = 0} (then_owed {m = 24} (then_paid c.in_ok-value.ensures.size
+    (took c.condition.new.cursor c.expect.new.self c.expect.ensures.nodes c.in_ok-expect.ensures.size))
+    c.in_ok-parts.ensures.size refl)
+    (noded c.items.new.cursor c.join.new.self e c.join.ensures.rest) refl)) c.join.ensures.size
+
+pub switch_statement-returns-clause-low : goal.switch_statement-returns-clause-low
+switch_statement-returns-clause-low t c = IfOk-weaker c.join.result _ _
+    (λ p e. omega (arith, e, c.in_ok-parts.ensures.low)) c.join.ensures.low
+
+pub switch_statement-returns-clause-names : goal.switch_statement-returns-clause-names
+switch_statement-returns-clause-names t c = IfOk-weaker c.join.result _ _
+    (λ p e. c.in_ok-parts.ensures.names) c.join.ensures.size
+
+pub switch_statement-join-requires-clause-room : goal.switch_statement-join-requires-clause-room
+switch_statement-join-requires-clause-room t c =
+    room_paid (then_owed {m = 24} (then_paid c.in_ok-value.ensures.size
+    (took c.condition.new.cursor c.expect.new.self c.expect.ensures.nodes c.in_ok-expect.ensures.size))
+    c.in_ok-parts.ensures.size refl) c.requires.room
+
+pub switch_statement-join-requires-clause-height : goal.switch_statement-join-requires-clause-height
+switch_statement-join-requires-clause-height t c =
+    omega (arith, c.in_ok-parts.ensures.low, c.requires.height)
+
+pub block-returns-clause-size : goal.block-returns-clause-size
+block-returns-clause-size t c = IfOk-weaker c.join.result _ _
+    (λ p e. owed_owed c.in_ok-parts.ensures.size (noded c.items.new.cursor c.join.new.self e c.join.ensures.rest))
+    c.join.ensures.size
+
+pub block-returns-clause-low : goal.block-returns-clause-low
+block-returns-clause-low t c = IfOk-weaker c.join.result _ _
+    (λ p e. omega (arith, e, c.in_ok-parts.ensures.low)) c.join.ensures.low
+
+pub block-returns-clause-names : goal.block-returns-clause-names
+block-returns-clause-names t c = IfOk-weaker c.join.result _ _
+    (λ p e. c.in_ok-parts.ensures.names) c.join.ensures.size
+
+pub block-join-requires-clause-room : goal.block-join-requires-clause-room
+block-join-requires-clause-room t c = room_owed c.in_ok-parts.ensures.size refl c.requires.room
+
+pub block-join-requires-clause-height : goal.block-join-requires-clause-height
+block-join-requires-clause-height t c = omega (arith, c.in_ok-parts.ensures.low, c.requires.height)
+
+pub for_statement-returns-then-not-start-clause-size : goal.for_statement-returns-then-not-start-clause-size
+for_statement-returns-then-not-start-clause-size t c = IfOk-weaker c.for_behind.result _ _
+    (λ p q. owes (then_owed {m = 0} (then_paid
+    (took c.args.cursor.now c.expect.new.self c.expect.ensures.nodes c.in_ok-expect.ensures.size)
+    c.in_ok-first.ensures.size) q refl)) c.for_behind.ensures.size
+
+pub for_statement-returns-then-not-start-clause-low : goal.for_statement-returns-then-not-start-clause-low
+for_statement-returns-then-not-start-clause-low t c = c.for_behind.ensures.low
+
+pub for_statement-returns-then-not-start-clause-names : goal.for_statement-returns-then-not-start-clause-names
+for_statement-returns-then-not-start-clause-names t c = c.for_behind.ensures.names
+
+pub labelled-returns-in-Case-clause-size : goal.labelled-returns-in-Case-clause-size
+labelled-returns-in-Case-clause-size t c = IfOk-weaker c.case_label.result _ _
+    (λ p q. then_owed (took_past c.args.cursor.now c.advance.new.self c.requires.first
+    c.advance.ensures.nodes c.advance.ensures.rest) q refl) c.case_label.ensures.size
+
+pub labelled-returns-in-Case-clause-low : goal.labelled-returns-in-Case-clause-low
+labelled-returns-in-Case-clause-low t c = c.case_label.ensures.low
+
+pub labelled-returns-in-Default-clause-size : goal.labelled-returns-in-Default-clause-size
+labelled-returns-in-Default-clause-size t c = IfOk-weaker c.default_label.result _ _
+    (λ p q. then_owed
+    (took_past c.args.cursor.now c.advance-in-Default.new.self c.requires.first c.advance-in-Default.ensures.nodes
+    c.advance-in-Default.ensures.rest) q refl) c.default_label.ensures.size
+
+pub labelled-returns-in-Default-clause-low : goal.labelled-returns-in-Default-clause-low
+labelled-returns-in-Default-clause-low t c = IfOk-weaker c.default_label.result _ _
+    (λ p e. omega (arith, e)) c.default_label.ensures.low
+
+pub labelled-returns-in-Unlabelled-clause-size : goal.labelled-returns-in-Unlabelled-clause-size
+labelled-returns-in-Unlabelled-clause-size t c = c.statement.ensures.size
+
+pub labelled-returns-in-Unlabelled-clause-low : goal.labelled-returns-in-Unlabelled-clause-low
+labelled-returns-in-Unlabelled-clause-low t c = c.statement.ensures.low
+
+pub labelled-returns-in-Unlabelled-clause-names : goal.labelled-returns-in-Unlabelled-clause-names
+labelled-returns-in-Unlabelled-clause-names t c = c.statement.ensures.names
+
+pub items-returns-then-takes-clause-size : goal.items-returns-then-takes-clause-size
+items-returns-then-takes-clause-size t c = owed_owed c.loop-item.invariant.size
+    (owes {d = 0} (took c.loop-item.cursor c.takes.new.self c.takes.ensures.nodes
+    (c.takes.ensures.shorter c.if-takes.true)))
+
+pub items-returns-then-takes-clause-low : goal.items-returns-then-takes-clause-low
+items-returns-then-takes-clause-low t c = c.loop-item.invariant.low
+
+pub open-returns-in-Block-clause-size : goal.open-returns-in-Block-clause-size
+open-returns-in-Block-clause-size t c = c.block.ensures.size
+
+pub open-returns-in-Block-clause-low : goal.open-returns-in-Block-clause-low
+open-returns-in-Block-clause-low t c = c.block.ensures.low
+
+pub open-returns-in-Block-clause-names : goal.open-returns-in-Block-clause-names
+open-returns-in-Block-clause-names t c = c.block.ensures.names
+
+pub open-returns-in-If-clause-size : goal.open-returns-in-If-clause-size
+open-returns-in-If-clause-size t c = c.if_statement.ensures.size
+
+pub open-returns-in-If-clause-low : goal.open-returns-in-If-clause-low
+open-returns-in-If-clause-low t c = c.if_statement.ensures.low
+
+pub open-returns-in-If-clause-names : goal.open-returns-in-If-clause-names
+open-returns-in-If-clause-names t c = c.if_statement.ensures.names
+
+pub open-returns-in-Switch-clause-size : goal.open-returns-in-Switch-clause-size
+open-returns-in-Switch-clause-size t c = c.switch_statement.ensures.size
+
+pub open-returns-in-Switch-clause-low : goal.open-returns-in-Switch-clause-low
+open-returns-in-Switch-clause-low t c = c.switch_statement.ensures.low
+
+pub open-returns-in-Switch-clause-names : goal.open-returns-in-Switch-clause-names
+open-returns-in-Switch-clause-names t c = c.switch_statement.ensures.names
+
+pub open-returns-in-While-clause-size : goal.open-returns-in-While-clause-size
+open-returns-in-While-clause-size t c = c.while_statement.ensures.size
+
+pub open-returns-in-While-clause-low : goal.open-returns-in-While-clause-low
+open-returns-in-While-clause-low t c = c.while_statement.ensures.low
+
+pub open-returns-in-While-clause-names : goal.open-returns-in-While-clause-names
+open-returns-in-While-clause-names t c = c.while_statement.ensures.names
+
+pub open-returns-in-Do-clause-size : goal.open-returns-in-Do-clause-size
+open-returns-in-Do-clause-size t c = c.do_statement.ensures.size
+
+pub open-returns-in-Do-clause-low : goal.open-returns-in-Do-clause-low
+open-returns-in-Do-clause-low t c = c.do_statement.ensures.low
+
+pub open-returns-in-Do-clause-names : goal.open-returns-in-Do-clause-names
+open-returns-in-Do-clause-names t c = c.do_statement.ensures.names
+
+pub open-returns-in-For-clause-size : goal.open-returns-in-For-clause-size
+open-returns-in-For-clause-size t c = c.for_statement.ensures.size
+
+pub open-returns-in-For-clause-low : goal.open-returns-in-For-clause-low
+open-returns-in-For-clause-low t c = c.for_statement.ensures.low
+
+pub open-returns-in-For-clause-names : goal.open-returns-in-For-clause-names
+open-returns-in-For-clause-names t c = c.for_statement.ensures.names
+
+pub open-returns-in-Return-clause-size : goal.open-returns-in-Return-clause-size
+open-returns-in-Return-clause-size t c = c.return_statement.ensures.size
+
+pub open-returns-in-Return-clause-low : goal.open-returns-in-Return-clause-low
+open-returns-in-Return-clause-low t c = c.return_statement.ensures.low
+
+pub open-returns-in-Empty-clause-size : goal.open-returns-in-Empty-clause-size
+open-returns-in-Empty-clause-size t c = IfOk-weaker c.leaf.result _ _
+    (λ p e. noded c.args.cursor.now c.leaf.new.self e c.leaf.ensures.rest) c.leaf.ensures.size
+
+pub open-returns-in-Empty-clause-low : goal.open-returns-in-Empty-clause-low
+open-returns-in-Empty-clause-low t c = IfOk-weaker c.leaf.result _ _
+    (λ p e. omega (arith, e)) c.leaf.ensures.low
+
+pub open-returns-in-Break-clause-size : goal.open-returns-in-Break-clause-size
+open-returns-in-Break-clause-size t c = c.jump.ensures.size
+
+pub open-returns-in-Break-clause-low : goal.open-returns-in-Break-clause-low
+open-returns-in-Break-clause-low t c = IfOk-weaker c.jump.result _ _
+    (λ p e. omega (arith, e)) c.jump.ensures.low
+
+pub open-returns-in-Continue-clause-size : goal.open-returns-in-Continue-clause-size
+open-returns-in-Continue-clause-size t c = c.jump-in-Continue.ensures.size
+
+pub open-returns-in-Continue-clause-low : goal.open-returns-in-Continue-clause-low
+open-returns-in-Continue-clause-low t c = IfOk-weaker c.jump-in-Continue.result _ _
+    (λ p e. omega (arith, e)) c.jump-in-Continue.ensures.low
+
+pub statement-returns-in-Some-opening_of-clause-size : goal.statement-returns-in-Some-opening_of-clause-size
+statement-returns-in-Some-opening_of-clause-size t c = IfOk-weaker c.open.result _ _
+    (λ p q. then_owed (took_past c.args.cursor.now c.advance.new.self c.in-Some.ensures
+    c.advance.ensures.nodes c.advance.ensures.rest) q refl) c.open.ensures.size
+
+pub statement-returns-in-Some-opening_of-clause-low : goal.statement-returns-in-Some-opening_of-clause-low
+statement-returns-in-Some-opening_of-clause-low t c = IfOk-weaker c.open.result _ _
+    (λ p e. omega (arith, e, c.if-budget-eq0.false)) c.open.ensures.low
+
+pub statement-returns-in-Some-opening_of-clause-names : goal.statement-returns-in-Some-opening_of-clause-names
+statement-returns-in-Some-opening_of-clause-names t c = c.open.ensures.names
+
+pub statement-returns-in-None-clause-size : goal.statement-returns-in-None-clause-size
+statement-returns-in-None-clause-size t c = c.expression_statement.ensures.size
+
+pub statement-returns-in-None-clause-low : goal.statement-returns-in-None-clause-low
+statement-returns-in-None-clause-low t c = IfOk-weaker c.expression_statement.result _ _
+    (λ p e. omega (arith, e, c.if-budget-eq0.false)) c.expression_statement.ensures.low
+
+pub for_statement-returns-clause-size : goal.for_statement-returns-clause-size
+for_statement-returns-clause-size t c = owes (then_owed {m = 0}
+    (then_paid (took c.args.cursor.now c.expect.new.self c.expect.ensures.nodes c.in_ok-expect.ensures.size)
+    c.in_ok-declaration.ensures.size) c.in_ok-part.ensures.size refl)
+
+pub for_statement-returns-clause-low : goal.for_statement-returns-clause-low
+for_statement-returns-clause-low t c = c.in_ok-part.ensures.low

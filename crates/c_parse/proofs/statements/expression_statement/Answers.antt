@@ -1,9 +1,10 @@
-use Rattle.std.proofs.Common.{refl}
-use Rattle.std.proofs.lemmas.Result.{err_from_is_err_and}
+use Rattle.std.proofs.Common.{refl, arith}
+use Rattle.std.proofs.lemmas.Result.{err_from_is_err_and, IfOk-weaker}
 use Rattle.c_tree.specs.Syntax.{one, first_token}
 use Rattle.c_parse.specs.Statements.{expression_from}
 use Rattle.c_parse.proofs.Made.{bind_is, fails_bind}
 use Rattle.c_parse.proofs.Parted.{made_reads}
+use Rattle.c_parse.proofs.Paying.{noded, then_owed, room_paid}
 use Rattle.c_parse.proofs.statements.expression_statement.Goals as goal
 
 pub returns-in_err-whole-clause-tree : goal.returns-in_err-whole-clause-tree
@@ -22,3 +23,18 @@ returns-clause-tree c =
     (c.in_ok-parts.ensures.one a.tree a.means)
     a.grows
     (bind_is _ a.reads)
+
+pub returns-clause-size : goal.returns-clause-size
+returns-clause-size c = IfOk-weaker c.make.result _ _
+    (λ p e. then_owed c.in_ok-whole.ensures.size
+    (noded c.bracketed.new.cursor c.make.new.self e.0 c.make.ensures.rest) refl) c.make.ensures.size
+
+pub returns-clause-low : goal.returns-clause-low
+returns-clause-low c = IfOk-weaker c.make.result _ _
+    (λ p e. omega (arith, e, c.in_ok-parts.ensures.size, c.in_ok-whole.ensures.low)) c.make.ensures.low
+
+pub make-requires-clause-room : goal.make-requires-clause-room
+make-requires-clause-room c = room_paid c.in_ok-whole.ensures.size c.requires.room
+
+pub make-requires-clause-height : goal.make-requires-clause-height
+make-requires-clause-height c = omega (arith, c.in_ok-parts.ensures.size, c.in_ok-whole.ensures.low, c.requires.height)

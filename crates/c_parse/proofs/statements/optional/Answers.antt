@@ -1,4 +1,5 @@
-use Rattle.std.proofs.Common.{List, refl, ap, sym, ◌∙◌, Some}
+use Rattle.std.proofs.lemmas.Result.{IfOk-weaker}
+use Rattle.std.proofs.Common.{List, refl, ap, sym, ◌∙◌, Some, arith}
 use Rattle.ck_base.specs.Tokens.{Lexeme}
 use Rattle.c_tree.specs.declared.syntax.NodeKind.TheVariants as Kinds
 use Rattle.c_tree.specs.Syntax.{Syn, node, nil}
@@ -8,6 +9,7 @@ use Rattle.c_parse.specs.Statements.{declare, state, optional}
 use Rattle.c_parse.specs.Got.{in_force, is_mark}
 use Rattle.c_parse.proofs.Made.{grows_same, grows_to, then_is, else_is}
 use Rattle.c_parse.proofs.Parted.{leaf_reads, reads_same}
+use Rattle.c_parse.proofs.Paying.{took_past, noded, then_owed}
 use Rattle.c_parse.proofs.statements.optional.Goals as goal
 
 pub returns-in_default-clause-tree : goal.returns-in_default-clause-tree
@@ -36,3 +38,13 @@ returns-clause-tree c =
     ∙ else_is _ (ap (λ v. is_mark c.args.closing v) (sym c.symbol.ensures) ∙ sym c.is_marked.ensures
     ∙ c.if-is_marked.false) ∙ ap (λ v. bracketed (read c.args.below) (Expression 0) (is_mark c.args.closing)
     (in_force c.args.types.now) v) (sym c.in-Some.ensures)) c.bracketed.ensures.tree
+
+pub returns-then-is_marked-clause-size : goal.returns-then-is_marked-clause-size
+returns-then-is_marked-clause-size c = IfOk-weaker c.leaf.result _ _
+    (λ p e. then_owed (took_past c.args.cursor.now c.advance.new.self c.in-Some.ensures
+    c.advance.ensures.nodes c.advance.ensures.rest)
+    (noded c.advance.new.self c.leaf.new.self e c.leaf.ensures.rest) refl) c.leaf.ensures.size
+
+pub returns-then-is_marked-clause-low : goal.returns-then-is_marked-clause-low
+returns-then-is_marked-clause-low c = IfOk-weaker c.leaf.result _ _
+    (λ p e. omega (arith, e)) c.leaf.ensures.low

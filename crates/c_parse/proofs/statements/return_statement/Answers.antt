@@ -1,5 +1,5 @@
-use Rattle.std.proofs.Common.{List, refl, ap, sym, ◌∙◌, Some}
-use Rattle.std.proofs.lemmas.Result.{err_from_is_err_and}
+use Rattle.std.proofs.Common.{List, refl, ap, sym, ◌∙◌, Some, arith}
+use Rattle.std.proofs.lemmas.Result.{err_from_is_err_and, IfOk-weaker}
 use Rattle.ck_base.specs.Tokens.{Lexeme}
 use Rattle.c_tree.specs.declared.syntax.NodeKind.TheVariants as Kinds
 use Rattle.c_tree.specs.Syntax.{Syn, node, nil}
@@ -9,6 +9,7 @@ use Rattle.c_parse.specs.Statements.{return_from}
 use Rattle.c_parse.specs.Got.{in_force}
 use Rattle.c_parse.proofs.Made.{grows_same, grows_on, grows_to, bind_is, then_is, else_is, fails_bind, fails_same}
 use Rattle.c_parse.proofs.Parted.{joined_reads, leaf_reads}
+use Rattle.c_parse.proofs.Paying.{took, stayed, noded, then_owed, owed_paid, owes, room_paid}
 use Rattle.c_parse.proofs.statements.return_statement.Goals as goal
 
 pub returns-then-takes-clause-tree : goal.returns-then-takes-clause-tree
@@ -40,3 +41,31 @@ returns-clause-tree c =
     ∙ bind_is _ ((ap (λ v. bracketed (read c.args.below) (Expression 0) is_semicolon
     (in_force c.args.types.now) v) (sym (c.takes.ensures.left c.if-takes.false))) ∙ a.reads))
     c.place.ensures refl
+
+pub returns-then-takes-clause-size : goal.returns-then-takes-clause-size
+returns-then-takes-clause-size c = IfOk-weaker c.leaf.result _ _
+    (λ p e. owes (then_owed {m = 0} (took c.args.cursor.now c.takes.new.self c.takes.ensures.nodes
+    (c.takes.ensures.shorter c.if-takes.true))
+    (noded c.takes.new.self c.leaf.new.self e c.leaf.ensures.rest) refl)) c.leaf.ensures.size
+
+pub returns-then-takes-clause-low : goal.returns-then-takes-clause-low
+returns-then-takes-clause-low c = IfOk-weaker c.leaf.result _ _
+    (λ p e. omega (arith, e)) c.leaf.ensures.low
+
+pub returns-clause-size : goal.returns-clause-size
+returns-clause-size c = IfOk-weaker c.join.result _ _
+    (λ p e. owes (then_owed {m = 0} (owed_paid {m = 8} (stayed c.args.cursor.now c.takes.new.self c.takes.ensures.nodes
+    (c.takes.ensures.left c.if-takes.false)) c.in_ok-value.ensures.size refl)
+    (noded c.bracketed.new.cursor c.join.new.self e c.join.ensures.rest) refl)) c.join.ensures.size
+
+pub returns-clause-low : goal.returns-clause-low
+returns-clause-low c = IfOk-weaker c.join.result _ _
+    (λ p e. omega (arith, e, c.in_ok-parts.ensures.size, c.in_ok-value.ensures.low)) c.join.ensures.low
+
+pub join-requires-clause-room : goal.join-requires-clause-room
+join-requires-clause-room c =
+    room_paid (owed_paid {m = 8} (stayed c.args.cursor.now c.takes.new.self c.takes.ensures.nodes
+    (c.takes.ensures.left c.if-takes.false)) c.in_ok-value.ensures.size refl) c.requires.room
+
+pub join-requires-clause-height : goal.join-requires-clause-height
+join-requires-clause-height c = omega (arith, c.in_ok-parts.ensures.size, c.in_ok-value.ensures.low, c.requires.height)

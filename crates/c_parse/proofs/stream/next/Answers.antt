@@ -1,5 +1,5 @@
-use Rattle.std.proofs.Common.{◌≡◌, [], ◌∷◌, ap, sym, subst, ◌∙◌}
-use Rattle.ck_base.specs.Lexes.{NextToken, NextRefusal}
+use Rattle.std.proofs.Common.{◌∷◌, ap, sym, subst, ◌∙◌}
+use Rattle.ck_base.specs.Lexes.{NextToken}
 use Rattle.c_lex.specs.Lexemes.{lexeme_of}
 use Rattle.c_lex.specs.Reader.{Reader}
 use Rattle.c_parse.specs.Left.{Leaves}
