@@ -15,3 +15,4 @@ pub mod Extending
 pub mod Seeing
 pub mod Objects
 pub mod Routines
+pub mod Starting

@@ -10,7 +10,8 @@ use Rattle.ck_base.specs.declared.positions.Pos.{Pos}
 use Rattle.ck_base.specs.declared.positions.Span.{Span}
 use Rattle.c_tree.specs.declared.syntax.RecordKind.{RecordKind}
 use Rattle.c_tree.specs.declared.syntax.RecordKind.TheVariants as records
-use Rattle.c_tree.specs.Layout.{Extent, size_limit, with_extent, members, no_members, whole}
+use Rattle.c_tree.specs.Layout.{Extent, size_limit, with_extent, members, no_members, whole, times, member_offset}
+use Rattle.c_tree.specs.Layout.{behind}
 use Rattle.cap_layout.specs.declared.answers.Layout.{Layout}
 use Rattle.cap_layout.specs.declared.answers.LayoutFault.{LayoutFault}
 use Rattle.cap_layout.specs.Answers.{Fits, Exceeds, IsLayout, extent_is}
@@ -18,7 +19,7 @@ use Rattle.cap_layout.specs.Walks.{placing}
 use Rattle.cap_layout.proofs.Steps.{whole_fault, fault_at}
 use Rattle.cap_layout.proofs.Rows.{layout_at}
 use Rattle.std.proofs.lemmas.Bool.{false≢true, le-leb, leb-true, eqb-true, eq-eqb}
-use Rattle.c_types.specs.Sizes.{is_union, completed_type, numbered_extent, room_extent}
+use Rattle.c_types.specs.Sizes.{is_union, completed_type, numbered_extent, room_extent, AreStarts}
 use Rattle.c_tree.specs.declared.typed.CType.{CType}
 use Rattle.c_tree.specs.declared.typed.CType.TheVariants as ctypes
 use Rattle.c_tree.specs.declared.typed.Member.{Member}
@@ -26,19 +27,22 @@ use Rattle.c_tree.specs.declared.typed.Typed.{Typed}
 use Rattle.c_tree.specs.Types as types
 use Rattle.c_tree.specs.Types.{Ty, Tagged}
 use Rattle.c_tree.specs.Views.{grow, type_from, type_at, types_of}
-use Rattle.c_tree.specs.Scopes.{State, TagState, Part, changed_at, with_changed, type_extent, extent_size}
+use Rattle.c_tree.specs.Scopes.{State, TagState, Part, changed_at, with_changed, type_extent, tag_extent, extent_size}
 use Rattle.c_tree.specs.Declarators.{is_begun, begin_tag, complete_tag, completed, members_extent, record_extent}
 use Rattle.c_tree.specs.Declarators.{kind_at, has_kind, same_record}
 use Rattle.c_types.specs.declared.rooms.Room.{Room}
 use Rattle.c_types.specs.declared.scopes.TagInfo.{TagInfo}
+use Rattle.c_types.specs.declared.scopes.MemberTable.{MemberTable}
+use Rattle.c_tree.specs.Initializers.{or_none, struct_places, record_places, known_places}
+use Rattle.std.specs.Map.{lookup}
 use Rattle.c_types.specs.declared.scopes.Scopes.{Scopes}
 use Rattle.c_interner.specs.Numbers.{AddsTypes}
 use Rattle.c_types.specs.Stands.{Stands, SeenTag, ShowScopes, tag_seen, tag_kept, part_seen, member_kept, members_kept}
-use Rattle.c_types.specs.Stands.{named, first_named, first_part, member_number}
+use Rattle.c_types.specs.Stands.{named, first_named, first_part, number_among, offset_among, starts_in, ShowsMembers}
 use Rattle.c_types.specs.Members.{parts_of}
 use Rattle.c_types.specs.Calls.{Given, Fails, HasParts}
 use Rattle.c_interner.proofs.Growing.{types_of-push, length-types_of, type_at-level}
-use Rattle.c_types.proofs.Growth.{scopes_more, stands_more}
+use Rattle.c_types.proofs.Growth.{scopes_more, stands_more, slice_get-longer}
 use Rattle.c_types.proofs.Looking.{seen_at}
 
 -- ---- lists
@@ -78,7 +82,160 @@ set_cases (a ∷ xs) (suc n) x y (suc k) e =
       | inr h ↦ inr (ap suc h.0, h.1)
     ]
 
+-- ---- sizes and offsets stay
+
+abbrev pub no_tag : RecordKind → TagState
+no_tag k = record { kind = k; begun = false; members = None; extent = None }
+
+-- a tag has its members and its size
+pub record IsSameTag (t u : TagState) : Type 0 where
+  pub kind : u.kind ≡ t.kind
+  pub members : u.members ≡ t.members
+  pub extent : u.extent ≡ t.extent
+
+-- each tag stays, and those beside them have no members
+pub record TagsStay (ts us : List TagState) : Type 0 where
+  pub old : (n : ℕ) (t : TagState) → slice_get ts n ≡ Some t →
+      (u : TagState) × (slice_get us n ≡ Some u) × IsSameTag t u
+  pub new : (n : ℕ) (u : TagState) → slice_get ts n ≡ None → slice_get us n ≡ Some u →
+      (u.members ≡ None) × (u.extent ≡ None)
+
+-- sizes that are known stay
+abbrev pub ExtentsStay : List TagState → List TagState → Type 0
+ExtentsStay ts us = (n : ℕ) (x : Extent) → tag_extent (slice_get ts n) ≡ Some x → tag_extent (slice_get us n) ≡ Some x
+
+with_known : (o r : Option Extent) (f : Extent → Option Extent) (x : Extent) →
+    ((y : Extent) → o ≡ Some y → r ≡ Some y) → with_extent o f ≡ Some x → with_extent r f ≡ Some x
+with_known None r f x h e = absurd (none-some x e)
+with_known (Some y) r f x h e = rw (h y refl) e
+
+extent_stays : (ts us : List TagState) → ExtentsStay ts us → (t : Ty) (x : Extent) → type_extent ts t ≡ Some x →
+    type_extent us t ≡ Some x
+extent_stays ts us g types.Void x e = e
+extent_stays ts us g (types.Int k n) x e = e
+extent_stays ts us g (types.Cap s) x e = e
+extent_stays ts us g (types.Pointer t) x e = e
+extent_stays ts us g (types.Array t n) x e =
+    with_known (type_extent ts t) (type_extent us t) (times n) x (λ y h. extent_stays ts us g t y h) e
+extent_stays ts us g (Tagged n) x e = g n x e
+extent_stays ts us g (types.Function r ps) x e = e
+extent_stays ts us g (types.Const t) x e = extent_stays ts us g t x e
+
+struct_stays : (ts us : List TagState) → ExtentsStay ts us → (ms : List Part) (x : Extent) (k z : ℕ) →
+    slice_get (map (λ (y : ℕ × Ty). y.0) (struct_places ts ms x)) k ≡ Some z →
+    slice_get (map (λ (y : ℕ × Ty). y.0) (struct_places us ms x)) k ≡ Some z
+struct_stays ts us g [] x k z e = e
+struct_stays ts us g (m ∷ ms) x k z e =
+    by_extent (λ y j i. struct_stays ts us g ms (behind y x) j z i) (type_extent ts m.of) refl e
+  where
+    by_extent : ((y : Extent) (j : ℕ) →
+        slice_get (map (λ (q : ℕ × Ty). q.0) (struct_places ts ms (behind y x))) j ≡ Some z →
+        slice_get (map (λ (q : ℕ × Ty). q.0) (struct_places us ms (behind y x))) j ≡ Some z) → (o : Option Extent) →
+        type_extent ts m.of ≡ o →
+        slice_get (map (λ (y : ℕ × Ty). y.0)
+        (or_none o (λ y. (member_offset y x, m.of) ∷ struct_places ts ms (behind y x)))) k ≡ Some z →
+        slice_get (map (λ (y : ℕ × Ty). y.0)
+        (or_none (type_extent us m.of) (λ y. (member_offset y x, m.of) ∷ struct_places us ms (behind y x)))) k ≡ Some z
+    by_extent others None f i = absurd (none-some z i)
+    by_extent others (Some y) f i = rw (extent_stays ts us g m.of y f) (by_number k i)
+      where
+        by_number : (j : ℕ) →
+            slice_get (member_offset y x ∷ map (λ (q : ℕ × Ty). q.0) (struct_places ts ms (behind y x))) j ≡ Some z →
+            slice_get (member_offset y x ∷ map (λ (q : ℕ × Ty). q.0) (struct_places us ms (behind y x))) j ≡ Some z
+        by_number zero i = i
+        by_number (suc j) i = others y j i
+
+record_stays : (ts us : List TagState) → ExtentsStay ts us → (kind : RecordKind) (ms : List Part) (k z : ℕ) →
+    slice_get (map (λ (y : ℕ × Ty). y.0) (record_places ts kind ms)) k ≡ Some z →
+    slice_get (map (λ (y : ℕ × Ty). y.0) (record_places us kind ms)) k ≡ Some z
+record_stays ts us g records.Struct ms k z e = struct_stays ts us g ms no_members k z e
+record_stays ts us g records.Union ms k z e = e
+
+known_stays : (ts us : List TagState) → ExtentsStay ts us → (kind : RecordKind) (ms : Option (List Part)) (k z : ℕ) →
+    slice_get (map (λ (y : ℕ × Ty). y.0) (known_places ts kind ms)) k ≡ Some z →
+    slice_get (map (λ (y : ℕ × Ty). y.0) (known_places us kind ms)) k ≡ Some z
+known_stays ts us g kind None k z e = e
+known_stays ts us g kind (Some ms) k z e = record_stays ts us g kind ms k z e
+
+starts_stay : (ts us : List TagState) → ExtentsStay ts us → (t u : TagState) → u.kind ≡ t.kind →
+    u.members ≡ t.members → (k z : ℕ) → slice_get (starts_in ts (Some t)) k ≡ Some z →
+    slice_get (starts_in us (Some u)) k ≡ Some z
+starts_stay ts us g t u i m k z e = rw (i, m) (known_stays ts us g t.kind t.members k z e)
+
 -- ---- other tags
+
+extents_stay : (ts us : List TagState) → TagsStay ts us → ExtentsStay ts us
+extents_stay ts us g n x e = by_tag (slice_get ts n) refl e
+  where
+    by_tag : (o : Option TagState) → slice_get ts n ≡ o → tag_extent o ≡ Some x →
+        tag_extent (slice_get us n) ≡ Some x
+    by_tag None f i = absurd (none-some x i)
+    by_tag (Some t) f i = let u = g.old n t f in rw u.1 (u.2.extent ∙ i)
+
+members_stay : (file : List ℕ) (tables : List (ℕ × MemberTable)) (ts us : List TagState) → TagsStay ts us →
+    ShowsMembers file tables ts → ShowsMembers file tables us
+members_stay file tables ts us g h = record {
+  numbers = λ n name. h.numbers n name ∙ ap (λ o. first_part file o name) (by_parts n (slice_get ts n) refl);
+  offsets = λ n k z e. by_starts n k z (slice_get ts n) refl (h.offsets n k z e);
+  sizes = λ n u e m. by_open n u (slice_get ts n) refl e m;
+}
+  where
+    none_before : (o : Option TagState) → (u : TagState) → o ≡ Some u → u.members ≡ None → parts_of o ≡ None
+    none_before o u e m = rw e m
+
+    by_new : (n : ℕ) (o : Option TagState) → slice_get us n ≡ o → slice_get ts n ≡ None → None ≡ parts_of o
+    by_new n None e f = refl
+    by_new n (Some u) e f = sym (g.new n u f e).0
+
+    by_parts : (n : ℕ) (o : Option TagState) → slice_get ts n ≡ o → parts_of o ≡ parts_of (slice_get us n)
+    by_parts n None e = by_new n (slice_get us n) refl e
+    by_parts n (Some t) e = let u = g.old n t e in rw u.1 (sym u.2.members)
+
+    by_starts : (n k z : ℕ) (o : Option TagState) → slice_get ts n ≡ o → slice_get (starts_in ts o) k ≡ Some z →
+        slice_get (starts_in us (slice_get us n)) k ≡ Some z
+    by_starts n k z None e f = absurd (none-some z f)
+    by_starts n k z (Some t) e f =
+        let u = g.old n t e in
+        rw u.1 (starts_stay ts us (extents_stay ts us g) t u.0 u.2.kind u.2.members k z f)
+
+    by_open : (n : ℕ) (u : TagState) (o : Option TagState) → slice_get ts n ≡ o → slice_get us n ≡ Some u →
+        u.members ≡ None → u.extent ≡ None
+    by_open n u None e f m = (g.new n u e f).1
+    by_open n u (Some t) e f m =
+        let v = g.old n t e in
+        let w : v.0 ≡ u = same_Some v.0 u (sym v.1 ∙ f) in
+        ap (λ (x : TagState). x.extent) (sym w) ∙ v.2.extent
+        ∙ h.sizes n t e (sym v.2.members ∙ ap (λ (x : TagState). x.members) w ∙ m)
+
+tags_pushed : (ts : List TagState) (k : RecordKind) → TagsStay ts (ts ++ no_tag k ∷ [])
+tags_pushed ts k = record {
+  old = λ n t e. (t, slice_get-longer ts (no_tag k ∷ []) n t e, record { kind = refl; members = refl; extent = refl });
+  new = λ n u e f. elim (push_cases ts (no_tag k) u n f) as (λ _. (u.members ≡ None) × (u.extent ≡ None)) [
+    | inl g ↦ absurd (none-some u (sym e ∙ g))
+    | inr g ↦ (ap (λ (x : TagState). x.members) (sym g.1), ap (λ (x : TagState). x.extent) (sym g.1))
+  ];
+}
+
+tags_set : (ts : List TagState) (n : ℕ) (t u : TagState) → slice_get ts n ≡ Some t → IsSameTag t u →
+    TagsStay ts (set ts n u)
+tags_set ts n t u e q = record { old = λ m w f. old ts n m w e f; new = λ m w f i. new m w f i }
+  where
+    old : (xs : List TagState) (n m : ℕ) (w : TagState) → slice_get xs n ≡ Some t → slice_get xs m ≡ Some w →
+        (v : TagState) × (slice_get (set xs n u) m ≡ Some v) × IsSameTag w v
+    old [] n m w e f = absurd (none-some w f)
+    old (x ∷ xs) zero zero w e f =
+        let z : t ≡ w = same_Some t w (sym e ∙ f) in
+        (u, refl, subst (λ y. IsSameTag y u) z q)
+    old (x ∷ xs) zero (suc m) w e f = (w, f, record { kind = refl; members = refl; extent = refl })
+    old (x ∷ xs) (suc n) zero w e f = (w, f, record { kind = refl; members = refl; extent = refl })
+    old (x ∷ xs) (suc n) (suc m) w e f = old xs n m w e f
+
+    new : (m : ℕ) (w : TagState) → slice_get ts m ≡ None → slice_get (set ts n u) m ≡ Some w →
+        (w.members ≡ None) × (w.extent ≡ None)
+    new m w f i = elim (set_cases ts n u w m i) as (λ _. (w.members ≡ None) × (w.extent ≡ None)) [
+      | inl g ↦ absurd (none-some w (sym f ∙ g))
+      | inr g ↦ absurd (none-some t (sym f ∙ ap (slice_get ts) g.0 ∙ e))
+    ]
 
 -- the tags of a list have the types with their numbers
 abbrev pub HaveTypes : List Ty → List TagInfo → Type 0
@@ -86,7 +243,7 @@ HaveTypes ts is = (n : ℕ) (i : TagInfo) → slice_get is n ≡ Some i → name
 
 pub stands_tags : (sc : Scopes) (v : Vec TagInfo) (p : Typed) (s : State) (ms : List TagState) → Stands sc p s →
     length sc.tags.items ≤ length v.items → map (tag_kept p.types (types_of p.types)) v.items ≡ map tag_seen ms →
-    HaveTypes (types_of p.types) v.items → ((n : ℕ) → parts_of (slice_get ms n) ≡ parts_of (slice_get s.tags n)) →
+    HaveTypes (types_of p.types) v.items → TagsStay s.tags ms →
     Stands (record sc { tags = v }) p (record s { tags = ms })
 stands_tags sc v p s ms h le e t m = record {
   scopes = subst (λ x. ShowScopes x (length v.items) (reverse sc.scopes.items) s.scopes) (append-nil (types_of p.types))
@@ -94,7 +251,7 @@ stands_tags sc v p s ms h le e t m = record {
       (reverse sc.scopes.items) s.scopes le h.scopes);
   tags = e;
   tag_types = t;
-  members = λ n name. h.members n name ∙ ap (λ o. first_part sc.file.now o name) (sym (m n));
+  members = members_stay sc.file.now sc.named.entries s.tags ms m h.members;
   objects = h.objects;
   globals = h.globals;
   begun = h.begun;
@@ -105,9 +262,6 @@ stands_tags sc v p s ms h le e t m = record {
 }
 
 -- ---- a new one
-
-abbrev pub no_tag : RecordKind → TagState
-no_tag k = record { kind = k; begun = false; members = None; extent = None }
 
 pub stands_new_tag : (sc : Scopes) (v : Vec TagInfo) (p q : Typed) (s : State) (k : RecordKind) (n of : ℕ) →
     Stands sc p s → AddsTypes p q → q.types ≡ p.types ++ ctypes.Incomplete n ∷ [] → of ≡ length p.types →
@@ -133,15 +287,8 @@ stands_new_tag sc v p q s k n of h a e o m g =
       | inl y ↦ h1.tag_types j x y
       | inr y ↦ rw (← y.1, y.0, ← m) t
     ])
-    (parts_pushed s.tags k)
+    (tags_pushed s.tags k)
   where
-    parts_pushed : (tags : List TagState) (k : RecordKind) (n : ℕ) →
-        parts_of (slice_get (tags ++ no_tag k ∷ []) n) ≡ parts_of (slice_get tags n)
-    parts_pushed [] k zero = refl
-    parts_pushed [] k (suc n) = refl
-    parts_pushed (t ∷ tags) k zero = refl
-    parts_pushed (t ∷ tags) k (suc n) = parts_pushed tags k n
-
     tag_kept_with : RecordKind → Option (List (Span × Option Ty)) → SeenTag
     tag_kept_with k ms = record { kind = k; begun = false; members = ms; extent = None }
 
@@ -175,11 +322,11 @@ begun_nothing sc p s n place h e =
     opened : TagState → TagState
     opened t = record t { begun = true }
 
-pub with_tag : (sc : Scopes) (p : Typed) (s : State) (n : ℕ) (i j : TagInfo) (t : TagState) (v : Vec TagInfo) →
+pub with_tag : (sc : Scopes) (p : Typed) (s : State) (n : ℕ) (i j : TagInfo) (u t : TagState) (v : Vec TagInfo) →
     Stands sc p s → slice_get sc.tags.items n ≡ Some i → j.of ≡ i.of → v.items ≡ set sc.tags.items n j →
-    tag_kept p.types (types_of p.types) j ≡ tag_seen t → parts_of (slice_get s.tags n) ≡ t.members →
+    tag_kept p.types (types_of p.types) j ≡ tag_seen t → slice_get s.tags n ≡ Some u → IsSameTag u t →
     Stands (record sc { tags = v }) p (record s { tags = set s.tags n t })
-with_tag sc p s n i j t v h e o g k l =
+with_tag sc p s n i j u t v h e o g k l q =
     let le : length sc.tags.items ≤ length v.items = rw g (omega (arith, length-set sc.tags.items n j)) in
     let kept = tag_kept p.types (types_of p.types) in
     stands_tags sc v p s (set s.tags n t) h le
@@ -189,16 +336,8 @@ with_tag sc p s n i j t v h e o g k l =
       | inl y ↦ h.tag_types m x y
       | inr y ↦ rw (← y.1, y.0, o) (h.tag_types n i e)
     ])
-    (parts_set s.tags n t l)
+    (tags_set s.tags n u t l q)
   where
-    parts_set : (tags : List TagState) (n : ℕ) (t : TagState) → parts_of (slice_get tags n) ≡ t.members → (m : ℕ) →
-        parts_of (slice_get (set tags n t) m) ≡ parts_of (slice_get tags m)
-    parts_set [] n t e m = refl
-    parts_set (u ∷ tags) zero t e zero = sym e
-    parts_set (u ∷ tags) zero t e (suc m) = refl
-    parts_set (u ∷ tags) (suc n) t e zero = refl
-    parts_set (u ∷ tags) (suc n) t e (suc m) = parts_set tags n t e m
-
     same_set : (xs ys : List SeenTag) (n : ℕ) (x y : SeenTag) → xs ≡ ys → x ≡ y → set xs n x ≡ set ys n y
     same_set xs ys n x y d f = cc
 
@@ -215,8 +354,8 @@ begun_now sc p s n i place v h e b g =
       value = tt;
       state = record s { tags = set s.tags n (record t.0 { begun = true }) };
       is = rw (f, t.1) refl;
-      stands = with_tag sc p s n i (record i { begun = true }) (record t.0 { begun = true }) v h e refl g k
-          (ap parts_of t.1);
+      stands = with_tag sc p s n i (record i { begun = true }) t.0 (record t.0 { begun = true }) v h e refl g k
+          t.1 (record { kind = refl; members = refl; extent = refl });
       fits = tt;
     }
 
@@ -389,10 +528,16 @@ members_of_completed : (ts : List Ty) (k : RecordKind) (n : ℕ) (ms : List Memb
 members_of_completed ts records.Struct n ms = refl
 members_of_completed ts records.Union n ms = refl
 
--- the members of a tag are found by their names, and those of the others as before
-abbrev pub Notes : (before after : Scopes) → ℕ → List Member → Type 0
-Notes before after n ms = (j : ℕ) (name : List ℕ) → member_number after j name
-    ≡ (if nat_eq n j then first_named before.file.now 0 (map (λ m. m.name) ms) name else member_number before j name)
+-- the table of a tag, and those of the others as before
+abbrev pub Notes : (before after : List (ℕ × MemberTable)) → ℕ → MemberTable → Type 0
+Notes before after n b = (j : ℕ) →
+    lookup (nat_eq j) after ≡ (if nat_eq n j then Some b else lookup (nat_eq j) before)
+
+-- what a table has of the members of a struct or union
+pub record IsTable (file : List ℕ) (tags : List TagState) (kind : RecordKind) (ms : List Member) (parts : List Part)
+    (b : MemberTable) : Type 0 where
+  pub numbers : (name : List ℕ) → number_among (Some b) name ≡ first_named file 0 (map (λ m. m.name) ms) name
+  pub starts : AreStarts tags kind parts b.offsets.items
 
 same_places : (ts : List Ty) (parts : List Part) (ms : List Member) → HasParts ts parts ms →
     map (λ (m : Member). m.name) ms ≡ map (λ (m : Part). m.name.span) parts
@@ -406,35 +551,71 @@ same_places ts (r ∷ rs) (m ∷ ms) e =
     let i = same_places ts rs ms b in
     cc
 
-members_noted : (sc sd : Scopes) (p : Typed) (s : State) (n : ℕ) (ms : List Member) (parts : List Part)
-    (u t : TagState) → Stands sc p s → Notes sc sd n ms → slice_get s.tags n ≡ Some u →
-    HasParts (types_of p.types) parts ms → t.members ≡ Some parts → (j : ℕ) (name : List ℕ) →
-    member_number sd j name ≡ first_part sc.file.now (parts_of (slice_get (set s.tags n t) j)) name
-members_noted sc sd p s n ms parts u t h d e has m j name =
-    d j name ∙ by_number (nat_eq n j) refl
+extents_completed : (file : List ℕ) (tables : List (ℕ × MemberTable)) (tags : List TagState) (n : ℕ) (u t : TagState) →
+    ShowsMembers file tables tags → slice_get tags n ≡ Some u → u.members ≡ None → ExtentsStay tags (set tags n t)
+extents_completed file tables tags n u t h e o m x f = by_number (nat_eq n m) refl
   where
-    by_number : (b : Bool) → nat_eq n j ≡ b →
-        (if b then first_named sc.file.now 0 (map (λ (x : Member). x.name) ms) name else member_number sc j name)
-        ≡ first_part sc.file.now (parts_of (slice_get (set s.tags n t) j)) name
-    by_number true f =
-        ap (λ xs. first_named sc.file.now 0 xs name) (same_places (types_of p.types) parts ms has)
-        ∙ ap (λ o. first_part sc.file.now o name)
-        (sym (ap (λ k. parts_of (slice_get (set s.tags n t) k)) (sym (eqb-true n j f))
-        ∙ ap parts_of (slice_get-slice_set s.tags n u t e) ∙ m))
-    by_number false f =
-        h.members j name
-        ∙ ap (λ o. first_part sc.file.now (parts_of o) name)
-        (sym (slice_get-set_apart s.tags n j t (λ z. false≢true (sym f ∙ eq-eqb n j (sym z)))))
+    by_number : (b : Bool) → nat_eq n m ≡ b → tag_extent (slice_get (set tags n t) m) ≡ Some x
+    by_number true g =
+        let i : n ≡ m = eqb-true n m g in
+        let none : tag_extent (slice_get tags m) ≡ None = rw (← i, e) (h.sizes n u e o) in
+        absurd (none-some x (sym none ∙ f))
+    by_number false g =
+        rw (slice_get-set_apart tags n m t (λ z. false≢true (sym g ∙ eq-eqb n m (sym z)))) f
+
+members_noted : (file : List ℕ) (before after : List (ℕ × MemberTable)) (ts : List Ty) (tags : List TagState) (n : ℕ)
+    (b : MemberTable) (ms : List Member) (parts : List Part) (u t : TagState) → ShowsMembers file before tags →
+    Notes before after n b → slice_get tags n ≡ Some u → u.members ≡ None → HasParts ts parts ms →
+    t.members ≡ Some parts → IsTable file tags t.kind ms parts b → ShowsMembers file after (set tags n t)
+members_noted file before after ts tags n b ms parts u t h d e o has m is = record {
+  numbers = λ j name. rw (d j) (numbers j name (nat_eq n j) refl);
+  offsets = λ j k z f. offsets j k z (nat_eq n j) refl (rw (d j) at f);
+  sizes = λ j w f g. elim (set_cases tags n t w j f) as (λ _. w.extent ≡ None) [
+    | inl x ↦ h.sizes j w x g
+    | inr x ↦ absurd (none-some parts (sym g ∙ ap (λ (y : TagState). y.members) (sym x.1) ∙ m))
+  ];
+}
+  where
+    others : (j : ℕ) → nat_eq n j ≡ false → slice_get (set tags n t) j ≡ slice_get tags j
+    others j f = slice_get-set_apart tags n j t (λ z. false≢true (sym f ∙ eq-eqb n j (sym z)))
+
+    this : (j : ℕ) → nat_eq n j ≡ true → slice_get (set tags n t) j ≡ Some t
+    this j f = rw (← eqb-true n j f) (slice_get-slice_set tags n u t e)
+
+    numbers : (j : ℕ) (name : List ℕ) (c : Bool) → nat_eq n j ≡ c →
+        number_among (if c then Some b else lookup (nat_eq j) before) name
+        ≡ first_part file (parts_of (slice_get (set tags n t) j)) name
+    numbers j name true f =
+        rw (this j f, m) (is.numbers name ∙ ap (λ xs. first_named file 0 xs name) (same_places ts parts ms has))
+    numbers j name false f = rw (others j f) (h.numbers j name)
+
+    stay : ExtentsStay tags (set tags n t)
+    stay = extents_completed file before tags n u t h e o
+
+    by_tag : (j k z : ℕ) (v : Option TagState) → slice_get tags j ≡ v → slice_get (starts_in tags v) k ≡ Some z →
+        slice_get (starts_in (set tags n t) v) k ≡ Some z
+    by_tag j k z None f g = absurd (none-some z g)
+    by_tag j k z (Some v) f g = known_stays tags (set tags n t) stay v.kind v.members k z g
+
+    offsets : (j k z : ℕ) (c : Bool) → nat_eq n j ≡ c →
+        offset_among (if c then Some b else lookup (nat_eq j) before) k ≡ Some z →
+        slice_get (starts_in (set tags n t) (slice_get (set tags n t) j)) k ≡ Some z
+    offsets j k z true f g =
+        rw (this j f)
+        (subst (λ o. slice_get (map (λ (x : ℕ × Ty). x.0) (known_places (set tags n t) t.kind o)) k ≡ Some z) (sym m)
+        (record_stays tags (set tags n t) stay t.kind parts k z (is.starts k z g)))
+    offsets j k z false f g = rw (others j f) (by_tag j k z (slice_get tags j) refl (h.offsets j k z g))
 
 pub stands_completed : (sc sd : Scopes) (v : Vec TagInfo) (p : Typed) (s : State) (n : ℕ) (i : TagInfo)
-    (r : Option Room)
-    (ms : List Member) (parts : List Part) (u t : TagState) → Stands sc p s → slice_get sc.tags.items n ≡ Some i →
-    sd ≡ record sc { named = sd.named } → Notes sc sd n ms → slice_get s.tags n ≡ Some u →
+    (r : Option Room) (b : MemberTable) (ms : List Member) (parts : List Part) (u t : TagState) → Stands sc p s →
+    slice_get sc.tags.items n ≡ Some i →
+    sd ≡ record sc { named = sd.named } → Notes sc.named.entries sd.named.entries n b → slice_get s.tags n ≡ Some u →
+    u.members ≡ None → IsTable sc.file.now s.tags t.kind ms parts b →
     v.items ≡ set sc.tags.items n (record i { room = r }) → HasParts (types_of p.types) parts ms → t.kind ≡ i.kind →
     t.begun ≡ i.begun → t.members ≡ Some parts → t.extent ≡ option_map room_extent r →
     Stands (record sd { tags = v }) (record p { types = set p.types i.of (completed_type i.kind n ms) })
     (record s { tags = set s.tags n t })
-stands_completed sc sd v p s n i r ms parts u t h e o d w g has k b m x =
+stands_completed sc sd v p s n i r b ms parts u t h e o d w q y g has k l m x =
     let cs = p.types in
     let ds = set cs i.of (completed_type i.kind n ms) in
     let ts = types_of cs in
@@ -455,10 +636,11 @@ stands_completed sc sd v p s n i r ms parts u t h e o d w g has k b m x =
     let a : members_kept ts (slice_get ds i.of) ≡ option_map (map part_seen) t.members =
     ap (members_kept ts) at ∙ members_of_completed ts i.kind n ms ∙ ap (λ y. Some y) (sym has)
     ∙ ap (option_map (map part_seen)) (sym m) in
-    tag_parts i.kind t.kind i.begun t.begun _ _ _ _ (sym k) (sym b) a (sym x) in
+    tag_parts i.kind t.kind i.begun t.begun _ _ _ _ (sym k) (sym l) a (sym x) in
     let le : length sc.tags.items ≤ length v.items =
     rw g (omega (arith, length-set sc.tags.items n (record i { room = r }))) in
-    let all : Stands (record sc { named = sd.named; tags = v }) (record p { types = ds }) (record s { tags = set s.tags n t }) = record {
+    let all : Stands (record sc { named = sd.named; tags = v }) (record p { types = ds })
+    (record s { tags = set s.tags n t }) = record {
       scopes = rw same (subst (λ y. ShowScopes y (length v.items) (reverse sc.scopes.items) s.scopes) (append-nil ts)
           (scopes_more ts [] (length sc.tags.items) (length v.items) (reverse sc.scopes.items) s.scopes le h.scopes));
       tags = rw (same, g)
@@ -473,7 +655,8 @@ stands_completed sc sd v p s n i r ms parts u t h e o d w g has k b m x =
             | inl z ↦ h.tag_types j y z
             | inr z ↦ rw (← z.1, z.0) (h.tag_types n i e)
           ]);
-      members = members_noted sc sd p s n ms parts u t h d w has m;
+      members = members_noted sc.file.now sc.named.entries sd.named.entries ts s.tags n b ms parts u t h.members d w q
+          has m y;
       objects = h.objects;
       globals = rw same h.globals;
       begun = h.begun;
@@ -499,13 +682,15 @@ stands_completed sc sd v p s n i r ms parts u t h e o d w g has k b m x =
     tag_parts j k b c ms ns x y d e f g = cc
 
 pub completed_now : (sc sd : Scopes) (v : Vec TagInfo) (p : Typed) (s : State) (k : RecordKind) (n : ℕ) (i : TagInfo)
-    (r : Option Room) (ms : List Member) (parts : List Part) (place : Pos) → Stands sc p s →
-    slice_get sc.tags.items n ≡ Some i → sd ≡ record sc { named = sd.named } → Notes sc sd n ms → kind_at s n k ≡ true →
+    (r : Option Room) (b : MemberTable) (ms : List Member) (parts : List Part) (place : Pos) → Stands sc p s →
+    slice_get sc.tags.items n ≡ Some i → slice_get p.types i.of ≡ Some (ctypes.Incomplete n) →
+    sd ≡ record sc { named = sd.named } → Notes sc.named.entries sd.named.entries n b →
+    IsTable sc.file.now s.tags i.kind ms parts b → kind_at s n k ≡ true →
     v.items ≡ set sc.tags.items n (record i { room = r }) →
     HasParts (types_of p.types) parts ms → record_extent s.tags i.kind parts ≡ option_map room_extent r →
     Given (record sd { tags = v }) (record p { types = set p.types i.of (completed_type i.kind n ms) })
     (complete_tag k n parts place s) (λ t a. Unit {0})
-completed_now sc sd v p s k n i r ms parts place h e o d kk g has x =
+completed_now sc sd v p s k n i r b ms parts place h e q o d is kk g has x =
     let t = seen_at (tag_kept p.types (types_of p.types)) tag_seen sc.tags.items s.tags n i h.tags e in
     let j : i.kind ≡ k = kind_is sc p s n i k h e kk in
     let y : record_extent s.tags k parts ≡ option_map room_extent r =
@@ -518,8 +703,14 @@ completed_now sc sd v p s k n i r ms parts place h e o d kk g has x =
       value = tt;
       state = record s { tags = set s.tags n u };
       is = rw f (ap (λ ts. Ok (tt, record s { tags = ts })) c);
-      stands = stands_completed sc sd v p s n i r ms parts t.0 u h e o d t.1 g has
+      stands = stands_completed sc sd v p s n i r b ms parts t.0 u h e o d t.1
+          (none_seen t.0.members (ap (members_kept (types_of p.types)) (sym q) ∙ ap (λ (z : SeenTag). z.members) t.2))
+          (subst (λ z. IsTable sc.file.now s.tags z ms parts b) (ap (λ (z : SeenTag). z.kind) t.2) is) g has
           (sym (ap (λ (z : SeenTag). z.kind) t.2))
           (sym (ap (λ (z : SeenTag). z.begun) t.2)) refl y;
       fits = tt;
     }
+  where
+    none_seen : (o : Option (List Part)) → None ≡ option_map (map part_seen) o → o ≡ None
+    none_seen None e = refl
+    none_seen (Some ms) e = absurd cc

@@ -205,7 +205,11 @@ stands_beginning sc p c s t m o b l f g u h i = record {
   scopes = rw (t, s) (h, tt);
   tags = rw t refl;
   tag_types = λ n x e. absurd (none-some x (rw t at e));
-  members = λ n name. rw m refl;
+  members = rw m (record {
+    numbers = λ n name. refl;
+    offsets = λ n k z e. absurd (none-some z e);
+    sizes = λ n u e. absurd (none-some u e);
+  });
   objects = rw o refl;
   globals = rw g refl;
   begun = rw b refl;

@@ -1,12 +1,14 @@
 -- The size of a type, level by level.
 use Rattle.std.specs.Prelude.{◌≡◌, ℕ, ◌<◌, ◌≤◌, List, Bool, true, false, Option, Some, None, Result, Ok, Err}
-use Rattle.std.specs.Prelude.{option_map, slice_get}
+use Rattle.std.specs.Prelude.{option_map, slice_get, map}
 use Rattle.c_tree.specs.declared.typed.CType.{CType}
 use Rattle.cap_layout.specs.Answers.{greatest_align, Exceeds}
 use Rattle.cap_layout.specs.declared.answers.Layout.{Layout}
 use Rattle.c_tree.specs.Layout.{Extent, size_limit, scalar, with_extent, times}
 use Rattle.c_tree.specs.Views.{type_at, types_of}
-use Rattle.c_tree.specs.Scopes.{TagState, tag_extent, type_extent}
+use Rattle.c_tree.specs.Scopes.{Part, TagState, tag_extent, type_extent}
+use Rattle.c_tree.specs.Initializers.{record_places}
+use Rattle.c_tree.specs.Types.{Ty}
 use Rattle.cap_layout.specs.declared.answers.LayoutFault.{LayoutFault}
 use Rattle.c_tree.specs.declared.syntax.RecordKind.{RecordKind}
 use Rattle.c_tree.specs.declared.syntax.RecordKind.TheVariants as records
@@ -70,3 +72,8 @@ completed_type records.Union tag ms = ctypes.Union tag ms
 abbrev pub IsRecordRoom : Option Extent → Result (Option Room) LayoutFault → Type 0
 IsRecordRoom o (Ok r) = o ≡ option_map room_extent r
 IsRecordRoom o (Err f) = Exceeds o
+
+-- the members of a struct or union of this kind begin there, as far as that is known
+abbrev pub AreStarts : List TagState → RecordKind → List Part → List ℕ → Type 0
+AreStarts tags kind parts starts = (k z : ℕ) → slice_get starts k ≡ Some z →
+    slice_get (map (λ (x : ℕ × Ty). x.0) (record_places tags kind parts)) k ≡ Some z

@@ -19,6 +19,7 @@ use Rattle.c_tree.specs.Views.{types_of}
 use Rattle.c_tree.specs.Scopes as meant
 use Rattle.c_tree.specs.Scopes.{Named, Part, TagState, StaticState, LocalState, RoutineState, State, find_in}
 use Rattle.c_tree.specs.Declarations.{is_there, linked}
+use Rattle.c_tree.specs.Initializers.{tag_places}
 use Rattle.c_types.specs.declared.entries.Entity.{Entity}
 use Rattle.c_types.specs.declared.entries.Entity.TheVariants.{Local, Static, Routine, Alias, Enumerator, Library}
 use Rattle.c_types.specs.declared.entries.Tagging.{Tagging}
@@ -26,7 +27,7 @@ use Rattle.c_types.specs.declared.entries.Tagging.TheVariants.{Recorded, Enumera
 use Rattle.c_types.specs.Sizes.{room_extent}
 use Rattle.c_types.specs.declared.scopes.Scope.{Scope}
 use Rattle.c_types.specs.declared.scopes.TagInfo.{TagInfo}
-use Rattle.c_types.specs.declared.scopes.MemberNames.{MemberNames}
+use Rattle.c_types.specs.declared.scopes.MemberTable.{MemberTable}
 use Rattle.c_types.specs.declared.scopes.ObjectInfo.{ObjectInfo}
 use Rattle.c_types.specs.Members.{parts_of}
 use Rattle.c_types.specs.declared.scopes.Scopes.{Scopes}
@@ -137,16 +138,26 @@ abbrev pub first_part : List ℕ → Option (List Part) → List ℕ → Option 
 first_part file None name = None
 first_part file (Some ms) name = first_named file 0 (map (λ m. m.name.span) ms) name
 
-abbrev pub number_of : MemberNames → List ℕ → Option ℕ
-number_of t name = lookup (λ k. bytes_eq name k.now) t.numbers.entries
-
-abbrev pub number_among : Option MemberNames → List ℕ → Option ℕ
+-- what a table has of a name
+abbrev pub number_among : Option MemberTable → List ℕ → Option ℕ
 number_among None name = None
-number_among (Some t) name = number_of t name
+number_among (Some t) name = lookup (λ k. bytes_eq name k.now) t.numbers.entries
 
--- what is kept of a member of a struct or union by the number of its tag
-abbrev pub member_number : Scopes → ℕ → List ℕ → Option ℕ
-member_number sc n name = number_among (lookup (nat_eq n) sc.named.entries) name
+abbrev pub offset_among : Option MemberTable → ℕ → Option ℕ
+offset_among None k = None
+offset_among (Some t) k = slice_get t.offsets.items k
+
+-- where the members of a struct or union begin
+abbrev pub starts_in : List TagState → Option TagState → List ℕ
+starts_in tags t = map (λ (x : ℕ × Ty). x.0) (tag_places tags t)
+
+-- The tables of the structs and unions by the numbers of their tags. What has no members has no size
+pub record ShowsMembers (file : List ℕ) (tables : List (ℕ × MemberTable)) (tags : List TagState) : Type 0 where
+  pub numbers : (n : ℕ) (name : List ℕ) →
+      number_among (lookup (nat_eq n) tables) name ≡ first_part file (parts_of (slice_get tags n)) name
+  pub offsets : (n k z : ℕ) → offset_among (lookup (nat_eq n) tables) k ≡ Some z →
+      slice_get (starts_in tags (slice_get tags n)) k ≡ Some z
+  pub sizes : (n : ℕ) (t : TagState) → slice_get tags n ≡ Some t → t.members ≡ None → t.extent ≡ None
 
 -- ---- objects and functions
 
@@ -193,8 +204,7 @@ pub record Stands (sc : Scopes) (p : Typed) (s : State) : Type 0 where
   pub tags : map (tag_kept p.types (types_of p.types)) sc.tags.items ≡ map tag_seen s.tags
   pub tag_types : (n : ℕ) (i : TagInfo) → slice_get sc.tags.items n ≡ Some i →
       named (types_of p.types) i.of ≡ Some (Tagged n)
-  pub members : (n : ℕ) (name : List ℕ) →
-      member_number sc n name ≡ first_part sc.file.now (parts_of (slice_get s.tags n)) name
+  pub members : ShowsMembers sc.file.now sc.named.entries s.tags
   pub objects : sc.objects.items ≡ map object_of s.statics
   pub globals : map (global_kept sc.file.now (types_of p.types)) p.globals ≡ map static_seen s.statics
   pub begun : sc.begun.items ≡ map (λ (f : RoutineState). f.begun) s.routines

@@ -1,7 +1,7 @@
 //! The sizes of types, by those of complete structs and unions.
 
 ghost use Rattle.std.specs.Prelude.{◌≡◌, ℕ, Some, ◌+◌, ◌*◌, ◌<◌, ◌≤◌, List, IfOk};
-ghost use Rattle.c_tree.specs.Layout.{size_limit, bytes_of, times, whole, with_extent};
+ghost use Rattle.c_tree.specs.Layout.{member_offset, size_limit, bytes_of, times, whole, with_extent};
 ghost use Rattle.cap_concentrate.specs.Rounding.{rounded_up};
 ghost use Rattle.c_tree.specs.Scopes.{TagState, type_extent};
 ghost use Rattle.c_tree.specs.Views.{type_at, types_of};
@@ -167,6 +167,17 @@ fn rounded(n: u64, align: u64) -> u64
     ensures below { result < n + align }
 {
     (n + (align - 1)) / align * align
+}
+
+/// Where a member of a struct begins, behind the end of those before it.
+pub(crate) fn start_of(m: Layout, end: Layout) -> u64
+    requires m_size { m.size ≤ size_limit }
+    requires m_positive { 0 < m.align }
+    requires m_align { m.align ≤ greatest_align }
+    requires size { end.size ≤ size_limit }
+    ensures is { result ≡ member_offset (extent_is m) (extent_is end) }
+{
+    rounded(end.size, m.align.max(owned(m.size).align))
 }
 
 /// The end of the members with one more, which shares the others' bytes or stands behind them.

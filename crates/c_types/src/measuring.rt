@@ -1,17 +1,21 @@
 // The sizes of types, where the structs and unions are those of the scopes.
-ghost use Rattle.std.specs.Prelude.{◌≡◌, ◌<◌, ◌≤◌, true, option_map, slice_get, IfOk, IfSome};
+ghost use Rattle.std.specs.Prelude.{◌≡◌, ◌<◌, ◌≤◌, true, List, option_map, slice_get, IfOk, IfSome};
 ghost use Rattle.c_tree.specs.Layout.{size_limit, members, no_members};
-ghost use Rattle.c_tree.specs.Scopes.{State, is_complete, type_extent, tag_extent};
+ghost use Rattle.c_tree.specs.Scopes.{Part, State, is_complete, type_extent, tag_extent};
 ghost use Rattle.cap_layout.specs.Answers.{greatest_align, extent_is, IsLayout};
 ghost use Rattle.cap_layout.specs.Walks.{placing};
 ghost use Rattle.c_interner.specs.Numbers.{type_named};
-ghost use Rattle.c_types.specs.Sizes.{IsModest, numbered_extent};
+ghost use Rattle.c_tree.specs.declared.syntax.RecordKind.TheVariants.{Struct};
+ghost use Rattle.c_tree.specs.Views.{types_of};
+ghost use Rattle.c_types.specs.Calls.{HasParts};
+ghost use Rattle.c_types.specs.Sizes.{IsModest, numbered_extent, AreStarts};
 ghost use Rattle.c_types.specs.Stands.{Stands};
 
-use crate::extents::{Base, LIMIT, placed, repeated, row_of};
+use crate::extents::{Base, LIMIT, placed, repeated, row_of, start_of};
 use crate::scopes::Scopes;
 use c_tree::{Member, Typed};
 use cap_layout::{Layout, LayoutFault};
+use ck_base::NoMemory;
 
 impl<'a> Scopes<'a> {
     fn room_of(&self, n: u32) -> Option<Layout>
@@ -53,6 +57,28 @@ impl<'a> Scopes<'a> {
             Ok(_) | Err(LayoutFault::TooLarge) => true,
             Err(LayoutFault::Incomplete) => false,
         }
+    }
+
+    // Where the first members of a struct begin, as far as they are complete and within the limit.
+    pub(crate) fn starts_of(&self, p: &Typed, ms: &[Member]) -> Result<Vec<u64>, NoMemory>
+        ensures { IfOk result (λ starts. (s : State) (parts : List Part) → Stands self.now p.now s →
+            HasParts (types_of p.now.types) parts ms.now → AreStarts s.tags Struct parts starts.items) }
+    {
+        let mut starts = Vec::new(self.alloc);
+        let mut end = Layout { size: 0, align: 1 };
+        for m in ms {
+            if end.size > LIMIT {
+                return Ok(starts);
+            }
+            match self.layout(p, m.of) {
+                Err(_) => return Ok(starts),
+                Ok(l) => {
+                    starts.push(start_of(l, end))?;
+                    end = placed(l, end, false);
+                }
+            }
+        }
+        Ok(starts)
     }
 
     // The end of members, which share their bytes or stand behind one another.

@@ -1,13 +1,14 @@
 // What is known of what was declared.
-ghost use Rattle.std.specs.Prelude.{◌≡◌, List, length, map, option_map, Some, slice_get};
+ghost use Rattle.std.specs.Prelude.{◌≡◌, List, length, map, option_map, Some, slice_get, IfSome};
 ghost use Rattle.c_tree.specs.Declarations.{has_linkage};
 ghost use Rattle.c_tree.specs.Scopes.{State, TagState, StaticState, RoutineState, LocalState};
 ghost use Rattle.c_tree.specs.Types.{Ty};
 ghost use Rattle.c_tree.specs.Views.{types_of};
-ghost use Rattle.c_types.specs.Stands.{Stands, named, part_seen, member_kept, members_kept, first_part};
+ghost use Rattle.c_types.specs.Stands.{Stands, named, part_seen, member_kept, members_kept};
+ghost use Rattle.c_types.specs.Stands.{first_part, starts_in, offset_among};
 ghost use Rattle.c_types.specs.Members.{now, parts_of, is_defined};
 
-use crate::scopes::{ObjectInfo, Scopes};
+use crate::scopes::{MemberTable, ObjectInfo, Scopes};
 use c_tree::{CType, Member, RecordKind, Typed};
 
 // The members of a complete struct or union.
@@ -26,6 +27,12 @@ fn members_of(c: &CType) -> Option<&[Member]>
         | CType::Const(_)
         | CType::Incomplete(_) => None,
     }
+}
+
+fn offset_in(table: &MemberTable, k: u32) -> Option<u64>
+    ensures { result ≡ offset_among (Some table.now) k }
+{
+    table.offsets.get(k as usize).copied()
 }
 
 impl<'a> Scopes<'a> {
@@ -51,7 +58,18 @@ impl<'a> Scopes<'a> {
     {
         match self.named.get(&tag) {
             None => None,
-            Some(names) => names.numbers.get(name).copied(),
+            Some(table) => table.numbers.get(name).copied(),
+        }
+    }
+
+    /// The offset of a member of a struct by the number of its tag, where it is known by itself.
+    pub fn offset(&self, tag: u32, k: u32) -> Option<u64>
+        ensures { (p : Typed) (s : State) → Stands self.now p s →
+            IfSome result (λ z. slice_get (starts_in s.tags (slice_get s.tags tag)) k ≡ Some z) }
+    {
+        match self.named.get(&tag) {
+            None => None,
+            Some(table) => offset_in(table, k),
         }
     }
 

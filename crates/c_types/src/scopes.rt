@@ -38,10 +38,13 @@ pub(crate) struct TagInfo {
     pub(crate) room: Option<Room>,
 }
 
-/// The members of a complete struct or union: the number of the first of each name.
+/// The members of a complete struct or union.
 #[derive(Drop)]
-pub(crate) struct MemberNames<'a> {
+pub(crate) struct MemberTable<'a> {
+    /// The number of the first of each name.
     pub(crate) numbers: IndexMap<&'a [u8], u32>,
+    /// Where the first ones begin in a struct, as far as that is known.
+    pub(crate) offsets: Vec<u64>,
 }
 
 /// What is known of an object of static storage duration beside its name and type.
@@ -62,7 +65,7 @@ pub struct Scopes<'a> {
     pub(crate) scopes: Vec<Scope<'a>>,
     pub(crate) tags: Vec<TagInfo>,
     /// The members of each complete struct or union, by the number of its tag.
-    pub(crate) named: IndexMap<u32, MemberNames<'a>>,
+    pub(crate) named: IndexMap<u32, MemberTable<'a>>,
     pub(crate) objects: Vec<ObjectInfo>,
     /// Of each function, whether its definition was begun.
     pub(crate) begun: Vec<bool>,

@@ -1,19 +1,20 @@
 // The tags of structs and unions: their declaration, and their members.
 ghost use Rattle.ck_base.specs.declared.positions.Pos.{Pos};
 ghost use Rattle.std.specs.Prelude.{false, true, Some, ◌≡◌, ℕ, List, Bool, ◌<◌, map, length, IfOk, OnErr, MatchResult};
-ghost use Rattle.std.specs.Prelude.{slice_get, OnOk, nat_eq, if◌then◌else◌};
+ghost use Rattle.std.specs.Prelude.{slice_get, OnOk, nat_eq, bytes_eq, if◌then◌else◌};
 ghost use Rattle.c_tree.specs.Layout.{size_limit};
 ghost use Rattle.c_tree.specs.Scopes.{State, Part};
 ghost use Rattle.c_tree.specs.Declarators.{new_tag, begin_tag, complete_tag, is_begun, record_extent};
 ghost use Rattle.c_types.specs.Calls.{Given, Does, Keeps, Answers, HasParts, Completes, Extends};
 ghost use Rattle.c_tree.specs.Views.{types_of};
-ghost use Rattle.c_types.specs.Sizes.{IsRecordRoom, is_union, completed_type};
+ghost use Rattle.c_types.specs.Sizes.{AreStarts, IsRecordRoom, is_union, completed_type};
 ghost use Rattle.c_types.specs.Stands.{Stands, part_seen, member_kept};
-ghost use Rattle.c_types.specs.Stands.{number_of, first_named, member_number};
+ghost use Rattle.c_types.specs.Stands.{number_among, first_named};
+ghost use Rattle.std.specs.Map.{lookup};
 
 use crate::extents::{LIMIT, finished};
 use crate::rooms::Room;
-use crate::scopes::{MemberNames, Scopes, TagInfo};
+use crate::scopes::{MemberTable, Scopes, TagInfo};
 use c_interner::{append, next_number, replace};
 use c_tree::{CType, Member, RecordKind, Typed};
 use cap_layout::LayoutFault;
@@ -60,9 +61,13 @@ fn is_open(p: &Typed, of: u32, tag: u32) -> bool
 }
 
 // The members of a struct or union by their names. Of members of one name the first is found.
-fn names_of<'a>(scopes: &Scopes<'a>, members: &[Member]) -> Result<MemberNames<'a>, NoMemory>
+fn names_of<'a>(
+    scopes: &Scopes<'a>,
+    members: &[Member],
+) -> Result<IndexMap<&'a [u8], u32>, NoMemory>
     ensures { IfOk result (λ t. (name : List ℕ) →
-        number_of t name ≡ first_named scopes.now.file.now 0 (map (λ m. m.name) members.now) name) }
+        lookup (λ k. bytes_eq name k.now) t.entries
+        ≡ first_named scopes.now.file.now 0 (map (λ m. m.name) members.now) name) }
 {
     let mut numbers = IndexMap::new(scopes.alloc);
     let mut left = next_number(members)?;
@@ -71,7 +76,7 @@ fn names_of<'a>(scopes: &Scopes<'a>, members: &[Member]) -> Result<MemberNames<'
         let name = scopes.text(members[left as usize].name);
         numbers.insert(name, left)?;
     }
-    Ok(MemberNames { numbers })
+    Ok(numbers)
 }
 
 impl<'a> Scopes<'a> {
@@ -178,19 +183,35 @@ impl<'a> Scopes<'a> {
         }
     }
 
-    // The members of a struct or union are found by their names from here on.
-    fn note_members(&mut self, tag: u32, members: &[Member]) -> Result<(), NoMemory>
-        ensures ok { OnOk result ((n : ℕ) (name : List ℕ) →
-            member_number self.new n name
-            ≡ (if nat_eq tag n then first_named self.old.file.now 0 (map (λ m. m.name) members.now) name
-            else member_number self.old n name)) }
-        ensures err { OnErr result ((n : ℕ) (name : List ℕ) →
-            member_number self.new n name ≡ member_number self.old n name) }
+    // The members of a struct or union, by their names and with their offsets.
+    fn table_of(
+        &self,
+        p: &Typed,
+        kind: RecordKind,
+        members: &[Member],
+    ) -> Result<MemberTable<'a>, NoMemory>
+        ensures numbers { IfOk result (λ t. (name : List ℕ) → number_among (Some t) name
+            ≡ first_named self.now.file.now 0 (map (λ m. m.name) members.now) name) }
+        ensures offsets { IfOk result (λ t. (s : State) (parts : List Part) → Stands self.now p.now s →
+            HasParts (types_of p.now.types) parts members.now → AreStarts s.tags kind parts t.offsets.items) }
+    {
+        let numbers = names_of(self, members)?;
+        let offsets = match kind {
+            RecordKind::Struct => self.starts_of(p, members)?,
+            RecordKind::Union => Vec::new(self.alloc),
+        };
+        Ok(MemberTable { numbers, offsets })
+    }
+
+    // The members of a struct or union are found in this table from here on.
+    fn note_members(&mut self, tag: u32, table: MemberTable<'a>) -> Result<(), NoMemory>
+        ensures ok { OnOk result ((n : ℕ) → lookup (nat_eq n) self.new.named.entries
+            ≡ (if nat_eq tag n then Some table.entry else lookup (nat_eq n) self.old.named.entries)) }
+        ensures err { OnErr result (self.new.named.entries ≡ self.old.named.entries) }
         ensures others { self.new ≡ record self.old { named = self.new.named } }
         ensures file { self.new.file.now ≡ self.old.file.now }
     {
-        let names = names_of(self, members)?;
-        self.named.insert(tag, names)?;
+        self.named.insert(tag, table)?;
         Ok(())
     }
 
@@ -217,7 +238,8 @@ impl<'a> Scopes<'a> {
                     if !is_open(p, info.of, tag) {
                         return Err(Refusal::NoMemory);
                     }
-                    self.note_members(tag, members.as_slice())?;
+                    let table = self.table_of(p, info.kind, members.as_slice())?;
+                    self.note_members(tag, table)?;
                     replace(
                         self.alloc,
                         &mut p.types,

@@ -20,8 +20,15 @@ pub returns-in_ok-note_members-in-Ok-clause-answers : goal.returns-in_ok-note_me
 returns-in_ok-note_members-in-Ok-clause-answers c kind parts has s h k =
     rw (c.replace.ensures, c.completed.ensures)
     (completed_now c.args.self.now c.note_members.new.self _ c.args.p.now s kind c.args.tag c.in-Some.info c.in-Ok.room
-    c.args.members.items parts c.args.pos h (sym c.in-Some.ensures) c.note_members.ensures.others
-    (λ j name. rw c.as_slice-in-Ok.ensures.value at c.in_ok-note_members-in-Ok.ensures.ok j name) k
+    c.in_ok-table-in-Ok.table c.args.members.items parts c.args.pos h (sym c.in-Some.ensures)
+    (c.is_open.ensures c.if-not-is_open.false)
+    c.note_members.ensures.others
+    c.in_ok-note_members-in-Ok.ensures.ok
+    (record {
+      numbers = rw c.as_slice-in-Ok.ensures.value at c.in_ok-table-in-Ok.ensures.numbers;
+      starts = c.in_ok-table-in-Ok.ensures.offsets s parts h (rw c.as_slice-in-Ok.ensures.value has);
+    })
+    k
     (ap (λ (x : Scopes). set x.tags.items c.args.tag (record c.in-Some.info { room = c.in-Ok.room }))
     c.note_members.ensures.others) has
     (c.in-Ok.ensures s parts h (rw c.as_slice.ensures.value has)))
