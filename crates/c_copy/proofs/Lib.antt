@@ -1,4 +1,4 @@
 pub mod Copies
 pub mod Items
-pub mod Marking
+pub mod Order
 pub mod Standing

@@ -1,6 +1,6 @@
 -- The numbers that an expression or a statement names, where its term stands.
 use Rattle.std.proofs.Common.{◌≡◌, ℕ, zero, suc, ◌<◌, ◌≤◌, List, [], ◌∷◌, ◌++◌, length, get_or, take, drop, map, Some}
-use Rattle.std.proofs.Common.{refl, sym, ap, subst, ◌∙◌, inl, inr, ⊎_elim, arith}
+use Rattle.std.proofs.Common.{sym, ap, subst, ◌∙◌, ⊎_elim, arith}
 use Rattle.std.specs.Prelude.{slice_get}
 use Rattle.std.proofs.lemmas.Bool.{cases_lt}
 use Rattle.std.proofs.lemmas.List.{get_or_past, length-take-le}
@@ -10,11 +10,11 @@ use Rattle.c_tree.specs.declared.typed.ExprKind.{ExprKind}
 use Rattle.c_tree.specs.declared.typed.ExprKind.TheVariants as exprs
 use Rattle.c_tree.specs.declared.typed.Stmt.{Stmt}
 use Rattle.c_tree.specs.Types.{Ty}
-use Rattle.c_tree.specs.Terms.{Shape, Term, Terms, terms, term, Action, Actions, action, actions}
-use Rattle.c_tree.specs.Views.{forest, type_at, expr_from, no_term, term_at, stmt_from, no_action, action_at, operands}
+use Rattle.c_tree.specs.Terms.{Shape, Form, Term, terms, term, Action, action, actions}
+use Rattle.c_tree.specs.Views.{forest, type_at, expr_from, no_term, term_at, stmt_from, no_action, operands}
 use Rattle.c_tree.specs.Views.{values, parts}
 use Rattle.c_copy.specs.declared.numbers.Numbers.{Numbers}
-use Rattle.c_copy.specs.Copying.{AllBelow, expr_shape, stmt_form, terms_in, actions_in}
+use Rattle.c_copy.specs.Copying.{expr_shape, stmt_form, terms_in}
 use Rattle.c_copy.specs.Standing.{Stands, StandAll, ActionStands, ActionsStand, StandsIn, ActionStandsIn, NamesThere}
 use Rattle.c_copy.specs.Standing.{KindNamesThere}
 use Rattle.c_copy.proofs.Copies.{length-grow, at_seam, forest_front, kind_is, action_is}
@@ -68,11 +68,11 @@ one_stands P go [] j a h e = absurd cc
 one_stands P go (k ∷ ks) zero a h e = let same : k ≡ a = cc in subst (λ i. Stands P (go i)) same h.0
 one_stands P go (k ∷ ks) (suc j) a h e = one_stands P go ks j a h.1 e
 
-one_action : (P : Shape → Type 0) (go : ℕ → Action) (ks : List ℕ) (j a : ℕ) → ActionsStand P (actions (map go ks)) →
-    slice_get ks j ≡ Some a → ActionStands P (go a)
-one_action P go [] j a h e = absurd cc
-one_action P go (k ∷ ks) zero a h e = let same : k ≡ a = cc in subst (λ i. ActionStands P (go i)) same h.0
-one_action P go (k ∷ ks) (suc j) a h e = one_action P go ks j a h.1 e
+one_action : (P : Shape → Type 0) (Q : Form → Type 0) (go : ℕ → Action) (ks : List ℕ) (j a : ℕ) →
+    ActionsStand P Q (actions (map go ks)) → slice_get ks j ≡ Some a → ActionStands P Q (go a)
+one_action P Q go [] j a h e = absurd cc
+one_action P Q go (k ∷ ks) zero a h e = let same : k ≡ a = cc in subst (λ i. ActionStands P Q (go i)) same h.0
+one_action P Q go (k ∷ ks) (suc j) a h e = one_action P Q go ks j a h.1 e
 
 no_term_stands : (P : Shape → Type 0) (x : Term) → Stands P x → x ≡ no_term → ⊥
 no_term_stands P (term n xs t p) h e = h.2 e
@@ -110,30 +110,36 @@ kind_names t ts _ h = tt
 
 -- ---- statements
 
-body_stands : (P : Shape → Type 0) (es : List Expr) (ss : List Stmt) (k : ℕ) (x : Stmt) (s : ActionStandsIn P es ss k)
-    (m : MadeOf (stmt_from (terms_in s.types es)) no_action ss k x) →
-    ActionStands P (action (stmt_form x.kind) (terms (map (term_at (terms_in s.types es)) (values x.kind)))
+body_stands : (P : Shape → Type 0) (Q : Form → Type 0) (es : List Expr) (ss : List Stmt) (k : ℕ) (x : Stmt)
+    (s : ActionStandsIn P Q es ss k) (m : MadeOf (stmt_from (terms_in s.types es)) no_action ss k x) →
+    ActionStands P Q (action (stmt_form x.kind) (terms (map (term_at (terms_in s.types es)) (values x.kind)))
     (actions (map (λ j. get_or m.seen j no_action) (parts x.kind))) x.pos)
-body_stands P es ss k x s m =
-    subst (ActionStands P) (m.is ∙ action_is (terms_in s.types es) x.kind x.pos (λ j. get_or m.seen j no_action))
+body_stands P Q es ss k x s m =
+    subst (ActionStands P Q) (m.is ∙ action_is (terms_in s.types es) x.kind x.pos (λ j. get_or m.seen j no_action))
     s.stands
 
-pub value_stands : (P : Shape → Type 0) (es : List Expr) (ss : List Stmt) (k : ℕ) (x : Stmt) →
-    ActionStandsIn P es ss k → slice_get ss k ≡ Some x → (j a : ℕ) → slice_get (values x.kind) j ≡ Some a →
+pub form_stands : (P : Shape → Type 0) (Q : Form → Type 0) (es : List Expr) (ss : List Stmt) (k : ℕ) (x : Stmt) →
+    ActionStandsIn P Q es ss k → slice_get ss k ≡ Some x → Q (stmt_form x.kind)
+form_stands P Q es ss k x s g =
+    (body_stands P Q es ss k x s (made_of (stmt_from (terms_in s.types es)) no_action ss k x g)).0
+
+pub value_stands : (P : Shape → Type 0) (Q : Form → Type 0) (es : List Expr) (ss : List Stmt) (k : ℕ) (x : Stmt) →
+    ActionStandsIn P Q es ss k → slice_get ss k ≡ Some x → (j a : ℕ) → slice_get (values x.kind) j ≡ Some a →
     StandsIn P es a
-value_stands P es ss k x s g = λ j a q.
+value_stands P Q es ss k x s g = λ j a q.
     let m = made_of (stmt_from (terms_in s.types es)) no_action ss k x g in
     record {
       types = s.types;
-      stands = one_stands P (term_at (terms_in s.types es)) (values x.kind) j a (body_stands P es ss k x s m).0 q;
+      stands = one_stands P (term_at (terms_in s.types es)) (values x.kind) j a (body_stands P Q es ss k x s m).1 q;
     }
 
-pub part_stands : (P : Shape → Type 0) (es : List Expr) (ss : List Stmt) (k : ℕ) (x : Stmt) → ActionStandsIn P es ss k →
-    slice_get ss k ≡ Some x → (j a : ℕ) → slice_get (parts x.kind) j ≡ Some a → a < k → ActionStandsIn P es ss a
-part_stands P es ss k x s g = λ j a q lt.
+pub part_stands : (P : Shape → Type 0) (Q : Form → Type 0) (es : List Expr) (ss : List Stmt) (k : ℕ) (x : Stmt) →
+    ActionStandsIn P Q es ss k → slice_get ss k ≡ Some x → (j a : ℕ) → slice_get (parts x.kind) j ≡ Some a → a < k →
+    ActionStandsIn P Q es ss a
+part_stands P Q es ss k x s g = λ j a q lt.
     let m = made_of (stmt_from (terms_in s.types es)) no_action ss k x g in
     record {
       types = s.types;
-      stands = subst (ActionStands P) (m.before a lt)
-          (one_action P (λ i. get_or m.seen i no_action) (parts x.kind) j a (body_stands P es ss k x s m).1 q);
+      stands = subst (ActionStands P Q) (m.before a lt)
+          (one_action P Q (λ i. get_or m.seen i no_action) (parts x.kind) j a (body_stands P Q es ss k x s m).2 q);
     }

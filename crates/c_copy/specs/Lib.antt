@@ -1,3 +1,3 @@
 pub mod Copying
-pub mod Ordered
+pub mod Order
 pub mod Standing

@@ -8,8 +8,8 @@ use Rattle.c_tree.specs.declared.typed.Target.{Target}
 use Rattle.c_tree.specs.declared.typed.Target.TheVariants as targets
 use Rattle.c_tree.specs.Types.{Ty}
 use Rattle.c_tree.specs.Terms as tree
-use Rattle.c_tree.specs.Terms.{Shape, Term, Terms, term, no_terms, with_term, Action, Actions, action, no_actions}
-use Rattle.c_tree.specs.Terms.{with_action}
+use Rattle.c_tree.specs.Terms.{Shape, Form, Term, Terms, term, no_terms, with_term, Action, Actions, action}
+use Rattle.c_tree.specs.Terms.{no_actions, with_action}
 use Rattle.c_tree.specs.Views.{no_term, term_at, action_at}
 use Rattle.c_copy.specs.declared.numbers.Numbers.{Numbers}
 use Rattle.c_copy.specs.Copying.{terms_in, actions_in}
@@ -23,23 +23,28 @@ abbrev mutual
   StandAll P no_terms = Unit {0}
   StandAll P (with_term x xs) = Stands P x × StandAll P xs
 
--- so are all expressions of a statement
+-- so are all expressions of a statement, and so is the statement itself
 abbrev mutual
-  pub ActionStands : (Shape → Type 0) → Action → Type 0
-  ActionStands P (action f xs ys p) = StandAll P xs × ActionsStand P ys
+  pub ActionStands : (Shape → Type 0) → (Form → Type 0) → Action → Type 0
+  ActionStands P Q (action f xs ys p) = Q f × StandAll P xs × ActionsStand P Q ys
 
-  pub ActionsStand : (Shape → Type 0) → Actions → Type 0
-  ActionsStand P no_actions = Unit {0}
-  ActionsStand P (with_action x xs) = ActionStands P x × ActionsStand P xs
+  pub ActionsStand : (Shape → Type 0) → (Form → Type 0) → Actions → Type 0
+  ActionsStand P Q no_actions = Unit {0}
+  ActionsStand P Q (with_action x xs) = ActionStands P Q x × ActionsStand P Q xs
+
+-- any statement
+abbrev pub AnyForm : Form → Type 0
+AnyForm f = Unit {0}
 
 -- expression `k` of a list is so, whatever its type is, and statement `k`
 pub record StandsIn (P : Shape → Type 0) (es : List Expr) (k : ℕ) : Type 0 where
   pub types : List Ty
   pub stands : Stands P (term_at (terms_in types es) k)
 
-pub record ActionStandsIn (P : Shape → Type 0) (es : List Expr) (ss : List Stmt) (k : ℕ) : Type 0 where
+pub record ActionStandsIn (P : Shape → Type 0) (Q : Form → Type 0) (es : List Expr) (ss : List Stmt) (k : ℕ) :
+    Type 0 where
   pub types : List Ty
-  pub stands : ActionStands P (action_at (actions_in types es ss) k)
+  pub stands : ActionStands P Q (action_at (actions_in types es ss) k)
 
 -- ---- objects and functions that have new numbers
 

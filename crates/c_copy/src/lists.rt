@@ -89,7 +89,7 @@ pub(crate) fn three(xs: &[u32]) -> (u32, u32, u32)
 }
 
 // A number is below another. Else NoMemory.
-pub(crate) fn below(a: u32, n: usize) -> Result<(), NoMemory>
+fn below(a: u32, n: usize) -> Result<(), NoMemory>
     ensures { OnOk result (a < n) }
 {
     if (a as usize) < n {
@@ -100,7 +100,7 @@ pub(crate) fn below(a: u32, n: usize) -> Result<(), NoMemory>
 }
 
 /// Each number is below another. Else NoMemory.
-pub fn all_below(xs: &[u32], n: usize) -> Result<(), NoMemory>
+pub(crate) fn all_below(xs: &[u32], n: usize) -> Result<(), NoMemory>
     ensures { OnOk result (AllBelow n xs.now) }
 {
     for x in xs {

@@ -2,7 +2,8 @@
 
 ghost use Rattle.std.specs.Prelude.{◌≡◌, ℕ, ◌<◌, ◌≤◌, ◌++◌, ◌∷◌, [], Some, IfOk, OnOk, length, slice_get};
 ghost use Rattle.c_copy.specs.Copying.{AllBelow, Extends, IsActionCopy, AreActionCopies};
-ghost use Rattle.c_copy.specs.Standing.{ActionStandsIn, NamesThere};
+ghost use Rattle.c_copy.specs.Order.{PartsBefore};
+ghost use Rattle.c_copy.specs.Standing.{ActionStandsIn, NamesThere, AnyForm};
 
 use crate::expressions::{Source, expressions};
 use crate::lists::all_below;
@@ -43,9 +44,12 @@ fn push_stmt(into: &mut Vec<Stmt>, s: Stmt) -> Result<u32, NoMemory>
 #[cycle(statements)]
 pub fn statement(source: &Source<'_>, k: u32, into: &mut Copied) -> Result<u32, NoMemory>
     requires there { k < length source.now.stmts.now }
-    requires stands { ActionStandsIn (NamesThere source.now.numbers.now) source.now.exprs.now source.now.stmts.now k }
+    requires stands { ActionStandsIn (NamesThere source.now.numbers.now) AnyForm source.now.exprs.now
+        source.now.stmts.now k }
     ensures exprs { OnOk result (Extends into.old.exprs.items into.new.exprs.items) }
     ensures stmts { OnOk result (Extends into.old.stmts.items into.new.stmts.items) }
+    ensures before { OnOk result (PartsBefore into.old.stmts.items → PartsBefore into.new.stmts.items) }
+    ensures there { IfOk result (λ j. j < length into.new.stmts.items) }
     ensures is { IfOk result (IsActionCopy source.now.numbers.now source.now.exprs.now source.now.stmts.now
         into.new.exprs.items into.new.stmts.items k) }
 {
@@ -71,9 +75,11 @@ fn statements(
     requires below { AllBelow limit ks.now }
     requires there { limit ≤ length source.now.stmts.now }
     requires stand { (j a : ℕ) → slice_get ks.now j ≡ Some a →
-        ActionStandsIn (NamesThere source.now.numbers.now) source.now.exprs.now source.now.stmts.now a }
+        ActionStandsIn (NamesThere source.now.numbers.now) AnyForm source.now.exprs.now source.now.stmts.now a }
     ensures exprs { OnOk result (Extends into.old.exprs.items into.new.exprs.items) }
     ensures stmts { OnOk result (Extends into.old.stmts.items into.new.stmts.items) }
+    ensures before { OnOk result (PartsBefore into.old.stmts.items → PartsBefore into.new.stmts.items) }
+    ensures there { IfOk result (λ js. AllBelow (length into.new.stmts.items) js.items) }
     ensures count { IfOk result (λ js. length js.items ≡ length ks.now) }
     ensures are { IfOk result (λ js. AreActionCopies source.now.numbers.now source.now.exprs.now source.now.stmts.now
         into.new.exprs.items into.new.stmts.items ks.now js.items) }

@@ -2,6 +2,7 @@ pub mod Defining
 pub mod Ending
 pub mod Externals
 pub mod Marks
+pub mod Near
 pub mod Opening
 pub mod Own
 pub mod Reading

@@ -1,80 +1,35 @@
 -- What typing sees to of the state at the end of a file.
-use Rattle.std.proofs.Common.{◌≡◌, ℕ, zero, suc, ◌+◌, ◌≤◌, Bool, true, false, List, [], ◌∷◌, length, map, Option, Some}
-use Rattle.std.proofs.Common.{None, Ok, refl, sym, ap, subst, ◌∙◌, arith}
+use Rattle.std.proofs.Common.{◌≡◌, ℕ, zero, suc, ◌+◌, ◌≤◌, true, false, List, [], ◌∷◌, length, Some}
+use Rattle.std.proofs.Common.{Ok, refl, sym, ap, subst, ◌∙◌, arith}
 use Rattle.std.specs.Prelude.{slice_get, ◌&&◌}
-use Rattle.std.specs.List.{list_all}
-use Rattle.std.proofs.lemmas.Bool.{false≢true, and_parts}
-use Rattle.std.proofs.lemmas.Option.{none-some, same_Some, slice_get_within}
+use Rattle.std.proofs.lemmas.Bool.{false≢true}
+use Rattle.std.proofs.lemmas.Option.{same_Some, slice_get_within}
 use Rattle.c_tree.specs.declared.syntax.Tree.{Tree}
-use Rattle.c_tree.specs.Layout.{Extent, size_limit}
+use Rattle.c_tree.specs.Layout.{size_limit}
 use Rattle.c_tree.specs.Syntax.{Syn, node}
-use Rattle.c_tree.specs.Types.{Ty, Int, Cap, Tys, no_types, also, count}
-use Rattle.c_tree.specs.Terms.{Shape, Global, Fun, Term, Terms, term, no_terms, with_term, Action, Actions, action}
-use Rattle.c_tree.specs.Terms.{no_actions, with_action, Aim, To_global, To_literal, To_function, Text, numbers_from}
-use Rattle.c_tree.specs.Scopes.{Entity, Local, Static, Routine, Alias, Enumerator, Library, Named, Aiming, Body}
-use Rattle.c_tree.specs.Scopes.{LocalState, StaticState, RoutineState, State, type_extent}
-use Rattle.c_tree.specs.Libraries.{services, aliases}
-use Rattle.c_tree.specs.Programs.{file_scope, beginning, all_externals, readings, parts}
+use Rattle.c_tree.specs.Types.{Ty, Tys, no_types, also, count}
+use Rattle.c_tree.specs.Terms.{Shape, Var, Global, Fun, Term, Terms, term, no_terms, with_term, Form, Init, Block, For}
+use Rattle.c_tree.specs.Terms.{Switch, Action, Actions, action, no_actions, with_action, Aim, To_global, To_literal}
+use Rattle.c_tree.specs.Terms.{To_function, Text, numbers_from}
+use Rattle.c_tree.specs.Scopes.{Aiming, Body}
+use Rattle.c_tree.specs.Scopes.{LocalState, State}
+use Rattle.c_tree.specs.Programs.{beginning, all_externals, readings, parts}
 use Rattle.c_tree.specs.Typing.{Reads}
-use Rattle.c_tree.specs.WellTyped.{Inside, inside_of, outside}
-use Rattle.c_copy.specs.Standing.{Stands, StandAll, ActionStands, ActionsStand, NamesWithin}
+use Rattle.c_tree.specs.WellTyped.{Inside, inside_of, outside, count_of}
+use Rattle.c_copy.specs.Standing.{Stands, StandAll, ActionStands, ActionsStand, AnyForm, NamesWithin}
+use Rattle.c_passing.specs.Passes.{VarWithin, FormWithin}
 use Rattle.c_facts.specs.Fitting.{IsFit, AreFit}
 use Rattle.c_facts.proofs.Accepted.{fit_of_reads}
-use Rattle.c_facts.proofs.Acts.{ActionOk, ActionsOk}
-use Rattle.c_facts.proofs.Facts.{EntityOk, AllNames, ShapeOk, TermOk, TermsOk}
+use Rattle.c_facts.proofs.Acts.{FormOk, ActionOk, ActionsOk}
+use Rattle.c_facts.proofs.Ended.{outside_beginning}
+use Rattle.c_facts.proofs.Facts.{ShapeOk, TermOk, TermsOk}
 use Rattle.c_facts.proofs.Functions.{Outside}
 use Rattle.c_facts.proofs.Numbers.{extent_within_limit}
 use Rattle.c_facts.proofs.Placed.{Aims, AimingOk, AllAim}
 use Rattle.c_facts.proofs.Readable.{all_good, externals_ok}
-use Rattle.c_facts.proofs.Wholes.{FileEntity, AllFiles, ParamsFit, BodyOk, with_locals}
+use Rattle.c_facts.proofs.Wholes.{ParamsFit, BodyOk, with_locals}
 use Rattle.c_finish.specs.Finished.{BodyFits, AimFits, IsTyped}
-
--- ---- the beginning
-
--- types and functions of the library
-abbrev is_given : Entity → Bool
-is_given (Alias (Int k n)) = true
-is_given (Alias (Cap s)) = true
-is_given (Library k t) = true
-is_given e = false
-
-given_ok : (e : Entity) → is_given e ≡ true →
-    EntityOk true beginning e × ((name : List ℕ) → FileEntity beginning name e)
-given_ok (Alias (Int k m)) h = (tt, λ n. tt)
-given_ok (Alias (Cap s)) h = (tt, λ n. tt)
-given_ok (Library k t) h = (tt, λ n. tt)
-given_ok e h = absurd (false≢true h)
-
-given_names : (xs : List (Named Entity)) → list_all (λ (x : Named Entity). is_given x.is) xs ≡ true →
-    AllNames (EntityOk true beginning) xs × AllFiles beginning xs
-given_names [] h = (tt, tt)
-given_names (x ∷ xs) h =
-    let p = and_parts (is_given x.is) (list_all (λ (x : Named Entity). is_given x.is) xs) h in
-    let e = given_ok x.is p.0 in
-    let rest = given_names xs p.1 in
-    ((e.0, rest.0), (e.1 x.name, rest.1))
-
-outside_beginning : Outside beginning
-unfolding file_scope aliases services
-outside_beginning =
-    let names = given_names file_scope.names refl in
-    record {
-      inv = record {
-        tags = λ k t e. absurd (none-some t e);
-        names = (names.0, tt);
-        statics = λ k g e. absurd (none-some g e);
-        routines = λ k f e. absurd (none-some f e);
-        locals =
-            λ k v e. absurd (none-some v e);
-      };
-      strict = record {
-        files = names.1;
-        bodies = λ k f b e. absurd (none-some f e);
-        begins = λ k g i e. absurd (none-some g e);
-      };
-      locals = refl;
-      one = refl;
-    }
+use Rattle.c_elab.proofs.Near.{aims_near}
 
 -- ---- the end
 
@@ -107,7 +62,7 @@ numbers_length : (a n : ℕ) → length (numbers_from a n) ≡ n
 numbers_length a zero = refl
 numbers_length a (suc n) = ap suc (numbers_length (a + 1) n)
 
--- an expression that fits names what is there, and no part of it is missing
+-- an expression that fits names objects and functions, and variables, that are there
 shape_named : (s : State) (n : Shape) (xs : Terms) (t : Ty) → ShapeOk true s n xs t →
     NamesWithin (length s.statics) (length s.routines) n
 shape_named s (Global k) no_terms t h = slice_get_within s.statics k h.0 h.1
@@ -116,29 +71,60 @@ shape_named s (Global k) (with_term x xs) t h = absurd h
 shape_named s (Fun k) (with_term x xs) t h = absurd h
 shape_named s _ xs t h = tt
 
+shape_varied : (s : State) (n : Shape) (xs : Terms) (t : Ty) → ShapeOk true s n xs t → VarWithin (length s.locals) n
+shape_varied s (Var k) no_terms t h = slice_get_within s.locals k h.0 h.1
+shape_varied s (Var k) (with_term x xs) t h = absurd h
+shape_varied s _ xs t h = tt
+
+form_varied : (s : State) (t : Ty) (i : Inside) (f : Form) (xs : Terms) (n : ℕ) → FormOk s t i f xs n →
+    FormWithin (length s.locals) f
+form_varied s t i (Init k o) (with_term a no_terms) zero h = slice_get_within s.locals k h.0 h.3
+form_varied s t i (Init k o) no_terms n h = absurd h
+form_varied s t i (Init k o) (with_term a no_terms) (suc n) h = absurd h
+form_varied s t i (Init k o) (with_term a (with_term b xs)) n h = absurd h
+form_varied s t i (Block vars) no_terms n h = h
+form_varied s t i (Block vars) (with_term a xs) n h = absurd h
+form_varied s t i (For vars k a b) xs n h = h.0
+form_varied s t i (Switch vars labels) (with_term a no_terms) n h = h.0
+form_varied s t i (Switch vars labels) no_terms n h = absurd h
+form_varied s t i (Switch vars labels) (with_term a (with_term b xs)) n h = absurd h
+form_varied s t i _ xs n h = tt
+
+-- no part of it is missing
 mutual
-  term_stands : (s : State) (x : Term) → TermOk true s x → Stands (NamesWithin (length s.statics) (length s.routines)) x
-  term_stands s (term n xs t p) h =
-      (shape_named s n xs t h.1, terms_stand s xs h.0, λ e. let w = subst (TermOk true s) e h in false≢true w.1.1)
+  term_stands : (P : Shape → Type 0) (s : State) →
+      ((n : Shape) (xs : Terms) (t : Ty) → ShapeOk true s n xs t → P n) → (x : Term) → TermOk true s x → Stands P x
+  term_stands P s is (term n xs t p) h =
+      (is n xs t h.1, terms_stand P s is xs h.0, λ e. let w = subst (TermOk true s) e h in false≢true w.1.1)
 
-  terms_stand : (s : State) (xs : Terms) → TermsOk true s xs →
-      StandAll (NamesWithin (length s.statics) (length s.routines)) xs
-  terms_stand s no_terms h = tt
-  terms_stand s (with_term x xs) h = (term_stands s x h.0, terms_stand s xs h.1)
+  terms_stand : (P : Shape → Type 0) (s : State) →
+      ((n : Shape) (xs : Terms) (t : Ty) → ShapeOk true s n xs t → P n) → (xs : Terms) → TermsOk true s xs → StandAll P xs
+  terms_stand P s is no_terms h = tt
+  terms_stand P s is (with_term x xs) h = (term_stands P s is x h.0, terms_stand P s is xs h.1)
 
 mutual
-  action_stands : (s : State) (t : Ty) (i : Inside) (x : Action) → ActionOk s t i x →
-      ActionStands (NamesWithin (length s.statics) (length s.routines)) x
-  action_stands s t i (action f xs ys p) h = (terms_stand s xs h.0, actions_stand s t (inside_of f i) ys h.2)
+  action_stands : (P : Shape → Type 0) (Q : Form → Type 0) (s : State) (t : Ty) →
+      ((n : Shape) (xs : Terms) (u : Ty) → ShapeOk true s n xs u → P n) →
+      ((i : Inside) (f : Form) (xs : Terms) (n : ℕ) → FormOk s t i f xs n → Q f) → (i : Inside) (x : Action) →
+      ActionOk s t i x → ActionStands P Q x
+  action_stands P Q s t is form i (action f xs ys p) h = (
+    form i f xs (count_of ys) h.1,
+    terms_stand P s is xs h.0,
+    actions_stand P Q s t is form (inside_of f i) ys h.2,
+  )
 
-  actions_stand : (s : State) (t : Ty) (i : Inside) (xs : Actions) → ActionsOk s t i xs →
-      ActionsStand (NamesWithin (length s.statics) (length s.routines)) xs
-  actions_stand s t i no_actions h = tt
-  actions_stand s t i (with_action x xs) h = (action_stands s t i x h.0, actions_stand s t i xs h.1)
+  actions_stand : (P : Shape → Type 0) (Q : Form → Type 0) (s : State) (t : Ty) →
+      ((n : Shape) (xs : Terms) (u : Ty) → ShapeOk true s n xs u → P n) →
+      ((i : Inside) (f : Form) (xs : Terms) (n : ℕ) → FormOk s t i f xs n → Q f) → (i : Inside) (xs : Actions) →
+      ActionsOk s t i xs → ActionsStand P Q xs
+  actions_stand P Q s t is form i no_actions h = tt
+  actions_stand P Q s t is form i (with_action x xs) h =
+      (action_stands P Q s t is form i x h.0, actions_stand P Q s t is form i xs h.1)
 
 body_fits : (s : State) (t : Ty) (b : Body) → BodyOk s t b → BodyFits s b
 body_fits s t b h =
     let few : count h.takes ≤ length b.vars = params_few h.takes b.vars h.fit in
+    let own : State = with_locals s b.vars in
     let same : length b.params ≡ count h.takes = ap length h.params ∙ numbers_length 0 (count h.takes) in
     record {
       vars = h.block.0;
@@ -146,7 +132,10 @@ body_fits s t b h =
       place = h.block.2;
       is = h.block.3;
       params = omega arith;
-      names = action_stands (with_locals s b.vars) h.gives outside b.action h.body;
+      names = action_stands (NamesWithin (length s.statics) (length s.routines)) AnyForm own h.gives (shape_named own)
+          (λ i f xs n g. tt) outside b.action h.body;
+      variables = action_stands (VarWithin (length b.vars)) (FormWithin (length b.vars)) own h.gives (shape_varied own)
+          (form_varied own h.gives) outside b.action h.body;
     }
 
 typed_outside : (s : State) → Outside s → IsTyped s
@@ -154,6 +143,8 @@ typed_outside s o = record {
   sizes = λ k g x e f. extent_within_limit s.tags o.inv.tags g.of x (o.inv.statics k g e) f;
   aims = λ k j g i a e f q. let b = o.strict.begins k g i e f in
       aim_fits s b.0.size a (aim_at s b.0.size j i.1 a b.2.links q);
+  near = λ n k j g i a e f q. let b = o.strict.begins k g i e f in
+      let h = aim_at s b.0.size j i.1 a b.2.links q in aims_near s o n a.aim a.reach a.offset h.aims;
   bodies = λ k f b e i. body_fits s f.of b (o.strict.bodies k f b e i);
 }
 

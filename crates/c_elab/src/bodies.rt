@@ -11,7 +11,8 @@ ghost use Rattle.c_tree.specs.Scopes.{State};
 ghost use Rattle.c_expressions.specs.Nodes.{IsWhole, type_in, type_count};
 ghost use Rattle.c_elaborator.specs.Work.{Shows};
 ghost use Rattle.c_elaborator.specs.Answers.{Answers, freely, NothingThere, IsNothing, action_in, action_count};
-ghost use Rattle.c_elaborator.specs.Parts.{IsPart, HasPart};
+ghost use Rattle.c_elaborator.specs.Parts.{IsPart};
+ghost use Rattle.c_readings.specs.Within.{PartWithin};
 ghost use Rattle.c_declarators.specs.Forming.{ParamIsThere};
 ghost use Rattle.c_declarators.specs.Parts.{IsPrototype, param_in, shown_in};
 ghost use Rattle.c_elaborator.specs.Items.{ContextThere, context_in, ItemsThere, items_in};
@@ -236,12 +237,12 @@ fn type_body(
 ) -> Result<(), Refusal>
     requires whole { IsWhole work.old.nodes }
     requires context { ContextThere work.old context }
-    requires part { HasPart work.old block }
+    requires part { PartWithin work.old depth block }
     ensures { (z : Syn) → IsPart work.old block z →
         Answers freely work.old work.new (types_body k count (context_in work.old context) z) NothingThere IsNothing
         result }
 {
-    let node = node_at(work, block)?;
+    let node = node_at(work, block);
     let items = all_items(work, context, node.kids.as_slice(), depth)?;
     finish_body(work, k, count, items, node.first)
 }
@@ -274,7 +275,7 @@ pub(crate) fn define_body<'a>(
 ) -> Result<(), Refusal>
     requires whole { IsWhole work.old.nodes }
     requires there { All (ParamIsThere work.old.nodes) p.params.items }
-    requires part { HasPart work.old block }
+    requires part { PartWithin work.old depth block }
     ensures { (z : Syn) → IsPart work.old block z →
         AnswersFor freely work.old work.new (λ s q. IsPrototype (shown_in work.old s) work.old p.entry q)
         (λ q. defines k q z) NothingThere IsNothing result }

@@ -7,7 +7,8 @@ ghost use Rattle.c_tree.specs.Programs.{reading, readings, external_of, all_exte
 ghost use Rattle.c_tree.specs.Typing.{Reads};
 ghost use Rattle.c_expressions.specs.Nodes.{IsWhole};
 ghost use Rattle.c_elaborator.specs.Answers.{Answers, freely, NothingThere, IsNothing};
-ghost use Rattle.c_elaborator.specs.Parts.{IsPart, HasPart, AreParts, HaveParts};
+ghost use Rattle.c_elaborator.specs.Parts.{IsPart, AreParts};
+ghost use Rattle.c_readings.specs.Within.{PartWithin, PartsWithin};
 ghost use Rattle.c_elab.specs.Elaborated.{HasReading, Elaborated};
 ghost use Rattle.c_elab.specs.Functions.{HasState};
 
@@ -20,13 +21,10 @@ use c_tree::{NodeKind, Tree, Typed};
 use ck_base::{Pos, Refusal};
 use std::alloc::Global;
 
-/// How many calls may lie in one another. A tree is at most 200 nodes high.
-const DEPTH: u32 = 2000;
-
 // A declaration of the file.
 fn declare(work: &mut Work<'_>, kids: &[u32], pos: Pos, depth: u32) -> Result<(), Refusal>
     requires whole { IsWhole work.old.nodes }
-    requires parts { HaveParts work.old kids.now }
+    requires parts { PartsWithin work.old depth kids.now }
     ensures { (t : Lexeme) (xs : Syns) → t.pos ≡ pos → AreParts work.old kids.now xs →
         Answers freely work.old work.new (external_of NodeKind.Declaration t xs (readings xs)) NothingThere IsNothing
         result }
@@ -38,12 +36,12 @@ fn declare(work: &mut Work<'_>, kids: &[u32], pos: Pos, depth: u32) -> Result<()
 // An external declaration (C11 6.9).
 fn external(work: &mut Work<'_>, k: u32, depth: u32) -> Result<(), Refusal>
     requires whole { IsWhole work.old.nodes }
-    requires part { HasPart work.old k }
+    requires part { PartWithin work.old depth k }
     requires shown { HasState work.old }
     ensures { (x : Syn) → IsPart work.old k x →
         Answers freely work.old work.new (reading x).external NothingThere IsNothing result }
 {
-    let node = node_at(work, k)?;
+    let node = node_at(work, k);
     match node.kind {
         NodeKind::FunctionDefinition => {
             function_definition(work, node.kids.as_slice(), node.pos, depth)
@@ -56,7 +54,7 @@ fn external(work: &mut Work<'_>, k: u32, depth: u32) -> Result<(), Refusal>
 // All external declarations, in the order of the file.
 fn all_externals(work: &mut Work<'_>, kids: &[u32], depth: u32) -> Result<(), Refusal>
     requires whole { IsWhole work.old.nodes }
-    requires parts { HaveParts work.old kids.now }
+    requires parts { PartsWithin work.old depth kids.now }
     requires shown { HasState work.old }
     ensures { (xs : Syns) → AreParts work.old kids.now xs →
         Answers freely work.old work.new (all_externals (readings xs)) NothingThere IsNothing result }
@@ -69,6 +67,14 @@ fn all_externals(work: &mut Work<'_>, kids: &[u32], depth: u32) -> Result<(), Re
     Ok(())
 }
 
+// The number of a tree's nodes. It is no deeper.
+fn node_count(tree: &Tree) -> u32
+    requires { length tree.now.nodes ≤ 67_108_864 }
+    ensures { result ≡ length tree.now.nodes }
+{
+    tree.nodes.as_slice().len() as u32
+}
+
 /// The typed program of a file's tree (C11 6.5 to 6.9), or the first rule that fails: 130 to 136 and 140.
 pub fn elab(alloc: Global, tree: &Tree, file: &[u8]) -> Result<Typed, Refusal>
     requires few { length tree.now.nodes ≤ 67_108_864 }
@@ -76,7 +82,8 @@ pub fn elab(alloc: Global, tree: &Tree, file: &[u8]) -> Result<Typed, Refusal>
     ensures { (x : Syn) → Reads tree.now file.now x → Elaborated x result }
 {
     let mut work = Work::new(alloc, file, tree)?;
-    let root = node_at(&work, tree.root)?;
-    all_externals(&mut work, root.kids.as_slice(), DEPTH)?;
+    let root = node_at(&work, tree.root);
+    let depth = node_count(tree);
+    all_externals(&mut work, root.kids.as_slice(), depth)?;
     finish(work)
 }

@@ -9,7 +9,8 @@ ghost use Rattle.c_tree.specs.Programs.{reading, readings, function_definition, 
 ghost use Rattle.c_expressions.specs.Nodes.{IsWhole, type_in, type_count};
 ghost use Rattle.c_elaborator.specs.Work.{Shows};
 ghost use Rattle.c_elaborator.specs.Answers.{Answers, freely, NothingThere, IsNothing};
-ghost use Rattle.c_elaborator.specs.Parts.{IsPart, HasPart, AreParts, HaveParts};
+ghost use Rattle.c_elaborator.specs.Parts.{IsPart, AreParts};
+ghost use Rattle.c_readings.specs.Within.{PartWithin, PartsWithin};
 ghost use Rattle.c_declarators.specs.Parts.{SpecifiedThere, IsSpecified, DerivedThere, ShowsDerived};
 ghost use Rattle.c_elaborator.specs.Shown.{AnswersFor};
 ghost use Rattle.c_statements.specs.Declaring.{WrapsThere};
@@ -103,7 +104,7 @@ fn define_so<'a>(
     requires whole { IsWhole work.old.nodes }
     requires specified { SpecifiedThere work.old s }
     requires parts { WrapsThere work.old wraps.items }
-    requires part { HasPart work.old block }
+    requires part { PartWithin work.old depth block }
     requires shown { HasState work.old }
     ensures { (y : meant.Specified) (z : Syn) → IsSpecified work.old s y → IsPart work.old block z →
         AnswersFor freely work.old work.new (IsDeclarator work.old name wraps.entry.items)
@@ -130,7 +131,7 @@ fn define_named<'a>(
     requires whole { IsWhole work.old.nodes }
     requires specified { SpecifiedThere work.old s }
     requires derived { DerivedThere work.old d }
-    requires part { HasPart work.old block }
+    requires part { PartWithin work.old depth block }
     requires shown { HasState work.old }
     ensures { (y : meant.Specified) (z : Syn) → IsSpecified work.old s y → IsPart work.old block z →
         AnswersFor freely work.old work.new (ShowsDerived work.old d.entry)
@@ -151,9 +152,9 @@ fn define(
     depth: u32,
 ) -> Result<(), Refusal>
     requires whole { IsWhole work.old.nodes }
-    requires first { HasPart work.old specifiers }
-    requires second { HasPart work.old declarator }
-    requires third { HasPart work.old block }
+    requires first { PartWithin work.old depth specifiers }
+    requires second { PartWithin work.old depth declarator }
+    requires third { PartWithin work.old depth block }
     requires shown { HasState work.old }
     ensures { (x y z : Syn) → IsPart work.old specifiers x → IsPart work.old declarator y → IsPart work.old block z →
         Answers freely work.old work.new (defines_from x y z) NothingThere IsNothing result }
@@ -171,7 +172,7 @@ pub(crate) fn function_definition(
     depth: u32,
 ) -> Result<(), Refusal>
     requires whole { IsWhole work.old.nodes }
-    requires parts { HaveParts work.old kids.now }
+    requires parts { PartsWithin work.old depth kids.now }
     requires shown { HasState work.old }
     ensures { (t : Lexeme) (xs : Syns) → t.pos ≡ pos → AreParts work.old kids.now xs →
         Answers freely work.old work.new (function_definition t xs (readings xs)) NothingThere IsNothing result }

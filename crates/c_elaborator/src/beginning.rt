@@ -46,6 +46,7 @@ impl<'a> Work<'a> {
             fillings: Vec::new(alloc),
             definitions: Vec::new(alloc),
             waiting: Vec::new(alloc),
+            scalars: 0,
         })
     }
 }

@@ -45,7 +45,7 @@ pub enum Bounds {
     /// Those of all that it points to.
     Whole,
     /// Those of a part: where it begins and how many bytes it has.
-    Part(u64, u64),
+    Part(u128, u64),
 }
 
 /// A pointer with which an object begins.
@@ -56,7 +56,7 @@ pub struct Start {
     pub target: Target,
     pub bounds: Bounds,
     /// Its address, in bytes from the beginning of what it points to.
-    pub offset: i64,
+    pub offset: i128,
 }
 
 /// The initial value of an object of static storage duration (C11 6.7.9).
@@ -88,7 +88,7 @@ pub struct Waiting {
     /// The array's number among the objects of static storage duration.
     pub object: u32,
     /// The least length in bytes with which the initialiser is accepted.
-    pub least: i64,
+    pub least: i128,
 }
 
 /// What elaboration has built so far.
@@ -105,4 +105,6 @@ pub struct Work<'a> {
     pub fillings: Vec<Filling>,
     pub definitions: Vec<Definition>,
     pub waiting: Vec<Waiting>,
+    /// How many scalars the lists and strings have that initialised locals so far.
+    pub scalars: u64,
 }

@@ -1,7 +1,9 @@
 -- The finished program is that of the state.
-use Rattle.std.proofs.Common.{◌≡◌, ℕ, Bool, List, [], ◌++◌, length, map, Some, None, Ok, Err, sym, ap, subst, ◌∙◌}
+use Rattle.std.proofs.Common.{◌≡◌, ℕ, Bool, List, [], ◌++◌, length, map, Option, Some, None, Ok, Err, sym, ap, subst}
+use Rattle.std.proofs.Common.{◌∙◌}
 use Rattle.std.proofs.Common.{arith}
-use Rattle.std.specs.Prelude.{slice_get, flat_map, if◌then◌else◌}
+use Rattle.std.specs.Prelude.{Result, slice_get, flat_map, if◌then◌else◌}
+use Rattle.ck_base.specs.declared.refusal.Refusal.{Refusal}
 use Rattle.std.proofs.lemmas.List.{append-nil, take_all}
 use Rattle.c_tree.specs.declared.syntax.Tree.{Tree}
 use Rattle.c_tree.specs.declared.typed.Expr.{Expr}
@@ -10,9 +12,9 @@ use Rattle.c_tree.specs.declared.typed.GlobalDef.{GlobalDef}
 use Rattle.c_tree.specs.declared.typed.FunDef.{FunDef}
 use Rattle.c_tree.specs.declared.typed.Typed.{Typed}
 use Rattle.c_tree.specs.Syntax.{Syn, StandsAt}
-use Rattle.c_tree.specs.Scopes.{State}
+use Rattle.c_tree.specs.Scopes.{Fault, State}
 use Rattle.c_tree.specs.Passed.{Names, passed_program, call_name, calls_in}
-use Rattle.c_tree.specs.Views.{IsOrdered, types_of, routine_of}
+use Rattle.c_tree.specs.Views.{types_of, routine_of}
 use Rattle.c_tree.specs.Views as views
 use Rattle.c_tree.specs.Programs.{fault, file_begins, has_main, is_main, numbers_of, program_of, ended}
 use Rattle.c_tree.specs.Programs as programs
@@ -21,8 +23,9 @@ use Rattle.c_elaborator.specs.Work.{Shows}
 use Rattle.c_copy.specs.declared.numbers.Numbers.{Numbers}
 use Rattle.c_copy.specs.Copying.{actions_in}
 use Rattle.c_passing.specs.Routines.{IsPassedProgram}
-use Rattle.c_finish.specs.Finished.{IsFinished, IsWritten, IsSyntax, IsProgram, IsMain, HaveNumbers, TagsFit}
-use Rattle.c_finish.specs.Finished.{AreObjects, AreRoutines}
+use Rattle.c_finish.specs.declared.file_end.Parts.{Parts}
+use Rattle.c_finish.specs.Finished.{IsFinished, Finished, IsWritten, IsSyntax, IsProgram, IsMain, HaveNumbers, TagsFit}
+use Rattle.c_finish.specs.Finished.{AreObjects, AreRoutines, EndsIn}
 
 abbrev made : Work → List GlobalDef → List FunDef → List Expr → List Stmt → ℕ → Typed
 made w gs fs es ss v = record {
@@ -61,10 +64,10 @@ written_is w p t gs fs es ss k v q a n e m o r =
     (shows_made w t gs fs es ss k v s a n e m o (r s h) h)
 
 pub program_is : (w : Work) (tree : Tree) (p q : Typed) → tree ≡ w.tree.now → IsWritten w p → IsPassedProgram tree p q →
-    IsOrdered q → IsProgram w q
-program_is w tree p q t a b d = record {
+    IsProgram w q
+program_is w tree p q t a b = record {
   shows = λ s x h y. b.shows x (program_of s) (subst (λ (u : Tree). StandsAt u.nodes u.root x) (sym t) y) (a s h);
-  ordered = d;
+  ordered = b.ordered;
 }
 
 pub no_main : (w : Work) (s : State) (names : Names) → IsMain w None → Shows w s →
@@ -72,7 +75,7 @@ pub no_main : (w : Work) (s : State) (names : Names) → IsMain w None → Shows
 no_main w s names m h = ap (λ (b : Bool). if b then Ok (passed_program names (program_of s))
     else Err (fault 135 file_begins)) (m s h)
 
-pub with_main : (w : Work) (s : State) (x : Syn) (k : ℕ) (p : Typed) → IsMain w (Some k) → Shows w s → IsSyntax w x →
+with_main : (w : Work) (s : State) (x : Syn) (k : ℕ) (p : Typed) → IsMain w (Some k) → Shows w s → IsSyntax w x →
     IsProgram w p → IsFinished (ended (call_name (calls_in x)) None s) p
 with_main w s x k p m h y q = record {
   program = passed_program (call_name (calls_in x)) (program_of s);
@@ -81,3 +84,17 @@ with_main w s x k p m h y q = record {
   shows = q.shows s x h y;
   ordered = q.ordered;
 }
+
+-- where no fault is found
+pub ends_without_fault : (w : Work) (f : State → Option Fault) (r : Result Parts Refusal) →
+    ((s : State) → Shows w s → f s ≡ None) → EndsIn w (λ s. None) r → EndsIn w f r
+ends_without_fault w f (Ok p) n h = (n, h.1)
+ends_without_fault w f (Err e) n h = λ s x g y.
+    subst (λ o. Finished (ended (call_name (calls_in x)) o s) (Err e)) (sym (n s g)) (h s x g y)
+
+pub at_end : (w : Work) (f : State → Option Fault) (parts : Parts) (p : Typed) → EndsIn w f (Ok parts) →
+    IsProgram w p → (s : State) (x : Syn) → Shows w s → IsSyntax w x →
+    Finished (ended (call_name (calls_in x)) (f s) s) (Ok p)
+at_end w f parts p e q = λ s x h y.
+    subst (λ o. IsFinished (ended (call_name (calls_in x)) o s) p) (sym (e.0 s h))
+    (with_main w s x e.1.main p e.1.is h y q)

@@ -1,6 +1,6 @@
 -- The functions of the finished program.
 use Rattle.std.proofs.Common.{◌≡◌, ℕ, ◌+◌, ◌<◌, ◌≤◌, List, [], ◌∷◌, ◌++◌, length, take, map, Option, Some, None, refl}
-use Rattle.std.proofs.Common.{sym, ap, subst, ◌∙◌, arith, append_assoc}
+use Rattle.std.proofs.Common.{sym, ap, subst, ◌∙◌, ⊎_elim, arith, append_assoc}
 use Rattle.std.specs.Prelude.{slice_get, flat_map}
 use Rattle.std.proofs.lemmas.List.{take_all, map-append, append-nil}
 use Rattle.std.proofs.lemmas.Option.{same_Some}
@@ -21,9 +21,12 @@ use Rattle.c_elaborator.specs.declared.work.Work.{Work}
 use Rattle.c_elaborator.specs.declared.work.Definition.{Definition}
 use Rattle.c_elaborator.specs.Work.{Shows, Seen, option_seen, body_seen, seen_of, definition_of}
 use Rattle.c_copy.specs.Copying.{Extends, actions_in}
+use Rattle.c_copy.specs.Order.{PartsBefore}
 use Rattle.c_copy.specs.declared.numbers.Numbers.{Numbers}
-use Rattle.c_copy.specs.Standing.{ActionStands, ActionStandsIn, NamesWithin, NamesThere}
-use Rattle.c_finish.specs.Finished.{IsShown, HaveNumbers, AreRoutines, IsRoutine}
+use Rattle.c_copy.specs.Standing.{ActionStands, ActionStandsIn, AnyForm, NamesWithin, NamesThere}
+use Rattle.c_copy.proofs.Items.{get-push}
+use Rattle.c_copy.proofs.Order.{extends_length}
+use Rattle.c_finish.specs.Finished.{IsShown, HaveNumbers, AreRoutines, IsRoutine, BodiesThere}
 use Rattle.c_finish.proofs.Faulting.{at_some, statics_count, routines_count, IsFunction}
 use Rattle.c_finish.proofs.Globals.{flat_taken}
 
@@ -74,7 +77,7 @@ routine_is w s k x r d params vars es ss body more h f e g p v i j a =
 -- what a definition names has new numbers
 pub body_stands : (w : Work) (t : Numbers) (k : ℕ) (d : Definition) → IsShown w → HaveNumbers w t →
     k < length w.nodes.p.funs → definition_of k w.definitions.items ≡ Some d →
-    ActionStandsIn (NamesThere t) w.nodes.p.exprs w.nodes.p.stmts d.body
+    ActionStandsIn (NamesThere t) AnyForm w.nodes.p.exprs w.nodes.p.stmts d.body
 body_stands w t k d h n lt e =
     let s = h.state in
     let statics = statics_count w s h.shows in
@@ -92,9 +95,9 @@ body_stands w t k d h n lt e =
     record {
       types = ts;
       stands =
-          subst (λ i. ActionStands (NamesWithin i (length t.functions.items)) (action_at acts d.body)) m
-          (subst (λ j. ActionStands (NamesWithin (length s.statics) j) (action_at acts d.body)) l
-          (subst (ActionStands (NamesWithin (length s.statics) (length s.routines)))
+          subst (λ i. ActionStands (NamesWithin i (length t.functions.items)) AnyForm (action_at acts d.body)) m
+          (subst (λ j. ActionStands (NamesWithin (length s.statics) j) AnyForm (action_at acts d.body)) l
+          (subst (ActionStands (NamesWithin (length s.statics) (length s.routines)) AnyForm)
           (ap (λ (z : Seen). z.body) b.2) names));
     }
   where
@@ -160,3 +163,23 @@ routines_push w s k es ds ss rs fs gs f h lt x y e i a =
           ∙ ap (λ us. flat_map (programs.routine_of s) (take k s.routines) ++ us) (i.is s z.0 h z.1 xs ys)
           ∙ sym (flat_taken (programs.routine_of s) s.routines k z.0 z.1);
     }
+
+-- the bodies of functions that are there
+pub bodies_push : (ss ts : List Stmt) (fs gs : List FunDef) (f : FunDef) → Extends ss ts →
+    (PartsBefore ss → PartsBefore ts) → f.body < length ts → gs ≡ fs ++ f ∷ [] → BodiesThere ss fs → BodiesThere ts gs
+bodies_push ss ts fs gs f ext order lt e h = record {
+  order = order h.order;
+  there = λ k g q.
+      ⊎_elim (λ a. let l : g.body < length ss = h.there k g a in let m = extends_length ss ts ext in omega arith)
+      (λ a. let same : f ≡ g = a.1 in subst (λ (x : FunDef). x.body < length ts) same lt)
+      (get-push fs f k g (ap (λ zs. slice_get zs k) (sym e) ∙ q));
+}
+
+pub no_bodies : (ss : List Stmt) (fs : List FunDef) → fs ≡ [] → PartsBefore ss → BodiesThere ss fs
+no_bodies ss fs e h = record {
+  order = h;
+  there = λ k f q. absurd (let z : slice_get [] k ≡ Some f = ap (λ zs. slice_get zs k) (sym e) ∙ q in cc);
+}
+
+pub none_before : (ss : List Stmt) → ss ≡ [] → PartsBefore ss
+none_before ss e = λ k j a s g q. absurd (let z : slice_get [] k ≡ Some s = ap (λ zs. slice_get zs k) (sym e) ∙ g in cc)

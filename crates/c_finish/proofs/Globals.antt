@@ -1,5 +1,5 @@
 -- The objects of the finished program.
-use Rattle.std.proofs.Common.{◌≡◌, ℕ, ◌+◌, ◌<◌, ◌≤◌, Bool, true, false, List, [], ◌∷◌, ◌++◌, length, take, map, Option}
+use Rattle.std.proofs.Common.{◌≡◌, ℕ, ◌+◌, ◌<◌, ◌≤◌, ◌^◌, Bool, true, false, List, [], ◌∷◌, ◌++◌, length, take, map, Option}
 use Rattle.std.proofs.Common.{Some, None, refl, sym, ap, subst, ◌∙◌, arith}
 use Rattle.std.specs.Prelude.{slice_get, fold, flat_map, option_map, ◌==◌, if◌then◌else◌, ℤ}
 use Rattle.std.proofs.lemmas.List.{take_more, take_all, map-append, append-nil}
@@ -11,7 +11,7 @@ use Rattle.c_tree.specs.declared.typed.Link.{Link}
 use Rattle.c_tree.specs.declared.typed.GlobalDef.{GlobalDef}
 use Rattle.c_tree.specs.declared.typed.Literal.{Literal}
 use Rattle.c_tree.specs.Terms.{Aim, Pointing, Object}
-use Rattle.c_tree.specs.Scopes.{StaticState, State}
+use Rattle.c_tree.specs.Scopes.{Reach, All, Within, StaticState, State}
 use Rattle.c_tree.specs.Statics.{aim_length}
 use Rattle.c_tree.specs.Views.{types_of, aim_of}
 use Rattle.c_tree.specs.Views as views
@@ -23,7 +23,8 @@ use Rattle.c_elaborator.specs.Work.{Shows, aiming_of, filling_of}
 use Rattle.c_elaborator.specs.Work as works
 use Rattle.c_copy.specs.declared.numbers.Numbers.{Numbers}
 use Rattle.c_copy.specs.Standing.{TargetThere}
-use Rattle.c_finish.specs.Finished.{filled, AimFits, IsShown, TargetFits, StartsFit, HaveNumbers}
+use Rattle.c_finish.specs.Finished.{filled, AimFits, IsShown, IsFaultless, IsNear, AreNear, TargetFits, StartsFit}
+use Rattle.c_finish.specs.Finished.{HaveNumbers}
 use Rattle.c_finish.specs.Tables.{last_filling}
 use Rattle.c_finish.proofs.Faulting.{at_some, static_is, statics_count, routines_count}
 
@@ -32,18 +33,20 @@ use Rattle.c_finish.proofs.Faulting.{at_some, static_is, statics_count, routines
 abbrev pointing_with : ℕ → ℤ → Aim → ℕ × ℕ → Pointing
 pointing_with place offset a r = record { at = place; aim = a; low = r.0; length = r.1; offset = offset }
 
-pointing_same : (place : ℕ) (offset : ℤ) (a b : Aim) (r q : ℕ × ℕ) → a ≡ b → r ≡ q →
-    pointing_with place offset a r ≡ pointing_with place offset b q
-pointing_same place offset a b r q e f = rw (e, f) refl
+pointing_same : (place : ℕ) (y z : ℤ) (a b : Aim) (r q : ℕ × ℕ) → y ≡ z → a ≡ b → r ≡ q →
+    pointing_with place y a r ≡ pointing_with place z b q
+pointing_same place y z a b r q o e f = rw (o, e, f) refl
 
-pub link_is : (s : State) (x : Start) (n : Option ℕ) (r : ℕ × ℕ) (t : Target) → aim_length s (aim_of x.target) ≡ n →
-    r ≡ reach_of n (works.reach_of x.bounds) → aim_of t ≡ aim_with (numbers_of s) (aim_of x.target) →
-    views.pointing_of (record { at = x.at; target = t; low = r.0; length = r.1; offset = x.offset })
+pub link_is : (s : State) (x : Start) (n : Option ℕ) (r : ℕ × ℕ) (t : Target) (low : ℕ) (offset : ℤ) →
+    aim_length s (aim_of x.target) ≡ n → r ≡ reach_of n (works.reach_of x.bounds) →
+    aim_of t ≡ aim_with (numbers_of s) (aim_of x.target) → low ≡ r.0 → offset ≡ x.offset →
+    views.pointing_of (record { at = x.at; target = t; low = low; length = r.1; offset = offset })
     ≡ pointing_of s (aiming_of x)
-link_is s x n r t e f g =
-    pointing_same x.at x.offset (aim_of t) (aim_with (numbers_of s) (aim_of x.target)) r
-    (reach_of (aim_length s (aim_of x.target)) (works.reach_of x.bounds)) g
-    (f ∙ ap (λ m. reach_of m (works.reach_of x.bounds)) (sym e))
+link_is s x n r t low offset e f g l o =
+    let p : (low, r.1) ≡ r = ap (λ k. (k, r.1)) l in
+    pointing_same x.at offset x.offset (aim_of t) (aim_with (numbers_of s) (aim_of x.target)) (low, r.1)
+    (reach_of (aim_length s (aim_of x.target)) (works.reach_of x.bounds)) o g
+    (p ∙ f ∙ ap (λ m. reach_of m (works.reach_of x.bounds)) (sym e))
 
 pub taken : {A : Type 0} (xs : List A) (i : ℕ) (x : A) → slice_get xs i ≡ Some x → take (i + 1) xs ≡ take i xs ++ x ∷ []
 taken xs i x e = take_more xs i x (slice_get_within xs i x e)
@@ -119,6 +122,23 @@ starts_fit w k f h lt e = λ j x g.
     let initial = h.shows.fillings k z.0 z.1 ∙ filling_is k w.fillings.items ∙ ap (option_map filled) e in
     let at = slice_get-map aiming_of f.starts.items j ∙ ap (option_map aiming_of) g in
     target_fits w s x.target h.shows (h.typed.aims k j z.0 (filled f) (aiming_of x) z.1 initial at)
+
+-- and are near, where no rule fails
+pub starts_near : (w : Work) (k : ℕ) (f : Filling) → IsShown w → IsFaultless w → k < length w.nodes.p.globals →
+    last_filling k w.fillings.items ≡ Some f → AreNear f.starts.items
+starts_near w k f h o lt e = λ j x g.
+    let s = h.state in
+    let n = statics_count w s h.shows in
+    let z = at_some s.statics k (omega arith) in
+    let initial = h.shows.fillings k z.0 z.1 ∙ filling_is k w.fillings.items ∙ ap (option_map filled) e in
+    let at = slice_get-map aiming_of f.starts.items j ∙ ap (option_map aiming_of) g in
+    h.typed.near (o s h.shows) k j z.0 (filled f) (aiming_of x) z.1 initial at
+
+-- where the bounds of a near pointer begin
+pub low_near : (n : Option ℕ) (r : Reach) (z : ℤ) → IsNear r z → (reach_of n r).0 ≤ 2 ^ 32
+low_near n (Within low m) z h = h.0
+low_near (Some n) All z h = omega arith
+low_near None All z h = omega arith
 
 -- ---- objects
 

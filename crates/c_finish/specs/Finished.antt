@@ -1,4 +1,5 @@
 -- What the end of a file gives.
+use Rattle.std.specs.Prelude.{ℤ, pos, neg_ℤ, ◌≤ℤ◌, ◌^◌}
 use Rattle.std.specs.Prelude.{◌≡◌, ℕ, ◌+◌, ◌<◌, ◌≤◌, true, false, List, [], ◌∷◌, ◌++◌, length, map, flat_map, take}
 use Rattle.std.specs.Prelude.{Option, Some, None, Result, Ok, Err, option_map, slice_get}
 use Rattle.std.specs.List.{position_or_len}
@@ -21,7 +22,7 @@ use Rattle.c_tree.specs.Layout.{Extent, size_limit}
 use Rattle.c_tree.specs.Terms.{Aim, To_global, To_function, To_literal, Text, Block, Action, action, Actions, no_terms}
 use Rattle.c_tree.specs.Terms.{Program, Tag}
 use Rattle.c_tree.specs.Passed.{passed_program, call_name, calls_in}
-use Rattle.c_tree.specs.Scopes.{Aiming, Body, Fault, State, StaticState, RoutineState, type_extent}
+use Rattle.c_tree.specs.Scopes.{Reach, All, Within, Aiming, Body, Fault, State, StaticState, RoutineState, type_extent}
 use Rattle.c_tree.specs.Views.{Shows, IsOrdered, TagAgrees, types_of, routine_of, member_of}
 use Rattle.c_tree.specs.Views as views
 use Rattle.c_tree.specs.Programs as programs
@@ -33,7 +34,10 @@ use Rattle.c_elaborator.specs.declared.work.Work.{Work}
 use Rattle.c_elaborator.specs.Work as works
 use Rattle.c_copy.specs.declared.numbers.Numbers.{Numbers}
 use Rattle.c_copy.specs.Copying.{AreNumbers, actions_in}
-use Rattle.c_copy.specs.Standing.{ActionStands, NamesWithin}
+use Rattle.c_copy.specs.Order.{PartsBefore}
+use Rattle.c_copy.specs.Standing.{ActionStands, AnyForm, NamesWithin}
+use Rattle.c_passing.specs.Passes.{VarWithin, FormWithin}
+use Rattle.c_finish.specs.declared.file_end.Parts.{Parts}
 
 -- the lists stand for the program that the file is
 pub record IsFinished (r : Result Program Fault) (p : Typed) : Type 0 where
@@ -49,14 +53,15 @@ Finished r (Err (Code code place)) = r ≡ Err (record { code = code; place = pl
 Finished r (Err NoMemory) = Unit {0}
 
 -- the body of a function is a block, its parameters are among its variables, and it names objects and functions of the
--- state
+-- state and variables of its own
 pub record BodyFits (s : State) (b : Body) : Type 0 where
   pub vars : List ℕ
   pub parts : Actions
   pub place : Pos
   pub is : b.action ≡ action (Block vars) no_terms parts place
   pub params : length b.params ≤ length b.vars
-  pub names : ActionStands (NamesWithin (length s.statics) (length s.routines)) b.action
+  pub names : ActionStands (NamesWithin (length s.statics) (length s.routines)) AnyForm b.action
+  pub variables : ActionStands (VarWithin (length b.vars)) (FormWithin (length b.vars)) b.action
 
 -- a pointer names what is there, and a string literal has no more bytes than an object may have
 abbrev pub AimFits : State → Aim → Type 0
@@ -64,12 +69,23 @@ AimFits s (To_global k) = k < length s.statics
 AimFits s (To_function k) = k < length s.routines
 AimFits s (To_literal k) = (x : Text) → slice_get s.texts k ≡ Some x → length x.bytes ≤ size_limit
 
+-- an address and the beginning of its bounds are near the beginning of what it points to
+abbrev pub ReachIsNear : Reach → Type 0
+ReachIsNear All = Unit {0}
+ReachIsNear (Within low n) = low ≤ 2 ^ 32
+
+abbrev pub IsNear : Reach → ℤ → Type 0
+IsNear r z = ReachIsNear r × (neg_ℤ (pos (2 ^ 32)) ≤ℤ z) × (z ≤ℤ pos (2 ^ 32))
+
 -- what typing sees to: no object is over the limit, and initial pointers and bodies fit
 pub record IsTyped (s : State) : Type 0 where
   pub sizes : (k : ℕ) (g : StaticState) (x : Extent) → slice_get s.statics k ≡ Some g →
       type_extent s.tags g.of ≡ Some x → x.size ≤ size_limit
   pub aims : (k j : ℕ) (g : StaticState) (i : List ℕ × List Aiming) (a : Aiming) → slice_get s.statics k ≡ Some g →
       g.initial ≡ Some i → slice_get i.1 j ≡ Some a → AimFits s a.aim
+  pub near : programs.earliest (programs.last_faults s) ≡ None → (k j : ℕ) (g : StaticState) (i : List ℕ × List Aiming)
+      (a : Aiming) → slice_get s.statics k ≡ Some g → g.initial ≡ Some i → slice_get i.1 j ≡ Some a →
+      IsNear a.reach a.offset
   pub bodies : (k : ℕ) (f : RoutineState) (b : Body) → slice_get s.routines k ≡ Some f → f.body ≡ Some b → BodyFits s b
 
 -- the work stands for some state that typing gives
@@ -87,6 +103,13 @@ TargetFits w (targets.Literal k) = (x : Literal) → slice_get w.nodes.p.literal
 -- and of all of an initial value
 abbrev pub StartsFit : Work → List Start → Type 0
 StartsFit w xs = (j : ℕ) (x : Start) → slice_get xs j ≡ Some x → TargetFits w x.target
+
+abbrev pub AreNear : List Start → Type 0
+AreNear xs = (j : ℕ) (x : Start) → slice_get xs j ≡ Some x → IsNear (works.reach_of x.bounds) x.offset
+
+-- no rule fails at the end of the file
+abbrev pub IsFaultless : Work → Type 0
+IsFaultless w = (s : State) → works.Shows w s → programs.earliest (programs.last_faults s) ≡ None
 
 -- each object and each function has a new number, which is that of the program
 pub record HaveNumbers (w : Work) (t : Numbers) : Type 0 where
@@ -145,6 +168,11 @@ pub record IsRoutine (w : Work) (exprs : List Expr) (stmts : List Stmt) (k : ℕ
       routine_of (types_of w.nodes.p.types) (actions_in (types_of w.nodes.p.types) (exprs ++ xs) (stmts ++ ys)) f ∷ []
       ≡ programs.routine_of s r
 
+-- statements name statements before them, and the bodies of functions are among them
+pub record BodiesThere (stmts : List Stmt) (fs : List FunDef) : Type 0 where
+  pub order : PartsBefore stmts
+  pub there : (k : ℕ) (f : FunDef) → slice_get fs k ≡ Some f → f.body < length stmts
+
 -- one function more
 abbrev pub AddsRoutine : Work → ℕ → List Expr → List Stmt → List FunDef → List Expr → List Stmt → List FunDef → Type 0
 AddsRoutine w k es ss fs ds rs gs =
@@ -170,3 +198,35 @@ pub record IsProgram (w : Work) (p : Typed) : Type 0 where
   pub shows : (s : State) (x : Syn) → works.Shows w s → IsSyntax w x →
       Shows p (passed_program (call_name (calls_in x)) (programs.program_of s))
   pub ordered : IsOrdered p
+
+-- ---- what the end of the file makes
+
+-- the program of these parts, with the types and the literals of the work
+abbrev pub program_with : Work → Parts → Typed
+program_with w p = record {
+  types = w.nodes.p.types;
+  globals = p.globals.items;
+  literals = w.nodes.p.literals;
+  funs = p.funs.items;
+  exprs = p.copied.exprs.items;
+  stmts = p.copied.stmts.items;
+  main = p.main;
+}
+
+-- the parts of the program as it is written
+pub record AreParts (w : Work) (p : Parts) : Type 0 where
+  pub written : IsWritten w (program_with w p)
+  pub bodies : BodiesThere p.copied.stmts.items p.funs.items
+
+-- the same, where a `main` is defined
+pub record HaveMain (w : Work) (p : Parts) : Type 0 where
+  pub main : ℕ
+  pub is : IsMain w (Some main)
+  pub parts : AreParts w p
+
+-- the parts, where no fault is found, or the rule that fails. Want of memory says nothing
+abbrev pub EndsIn : Work → (State → Option Fault) → Result Parts Refusal → Type 0
+EndsIn w f (Ok p) = ((s : State) → works.Shows w s → f s ≡ None) × HaveMain w p
+EndsIn w f (Err e) =
+    (s : State) (x : Syn) → works.Shows w s → IsSyntax w x →
+    Finished (programs.ended (call_name (calls_in x)) (f s) s) (Err e)

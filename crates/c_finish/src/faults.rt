@@ -89,12 +89,12 @@ fn function_faults(
     Ok(best)
 }
 
-fn reaches(length: Option<u64>, least: i64) -> bool
+fn reaches(length: Option<u64>, least: i128) -> bool
     ensures { reaches length least ≡ result }
 {
     match length {
         None => true,
-        Some(n) => i128::from(n) >= i128::from(least),
+        Some(n) => i128::from(n) >= least,
     }
 }
 

@@ -8,7 +8,7 @@ ghost use Rattle.c_tree.specs.Programs.{last_faults, earliest, ended};
 ghost use Rattle.c_expressions.specs.Nodes.{IsWhole};
 ghost use Rattle.c_elaborator.specs.Work.{Shows};
 ghost use Rattle.c_passing.specs.Named.{HasSyntax};
-ghost use Rattle.c_finish.specs.Finished.{Finished, IsShown, IsMain, IsSyntax, IsWritten, IsProgram};
+ghost use Rattle.c_finish.specs.Finished.{Finished, IsShown, IsFaultless, IsMain, IsSyntax, program_with, AreParts, EndsIn};
 ghost use Rattle.c_finish.specs.Tables.{HasDefinitions};
 
 use crate::faults::last_fault;
@@ -18,11 +18,20 @@ use crate::objects::objects;
 use crate::routines::routines;
 use crate::tables::{first_uses, last_definitions, last_fillings};
 use crate::tags::check_tags;
-use c_copy::{Copied, Numbers, check_order};
+use c_copy::{Copied, Numbers};
 use c_elaborator::Work;
 use c_passing::pass;
 use c_tree::{FunDef, GlobalDef, Typed};
 use ck_base::{NoMemory, Pos, Refusal, Sequence};
+
+/// What the end of a file makes for the written program.
+#[derive(Drop)]
+pub(crate) struct Parts {
+    pub globals: Vec<GlobalDef>,
+    pub funs: Vec<FunDef>,
+    pub copied: Copied,
+    pub main: u32,
+}
 
 fn number_of_main(numbers: &Numbers, k: u32) -> u32
     requires { k < length numbers.now.functions.items }
@@ -34,25 +43,16 @@ fn number_of_main(numbers: &Numbers, k: u32) -> u32
     }
 }
 
-// The program with new objects, functions, expressions and statements.
-fn assembled(
-    work: Work<'_>,
-    globals: Vec<GlobalDef>,
-    funs: Vec<FunDef>,
-    copied: Copied,
-    main: u32,
-) -> Typed
-    ensures { result ≡ record {
-      types = work.entry.nodes.p.types;
-      globals = globals.items;
-      literals = work.entry.nodes.p.literals;
-      funs = funs.items;
-      exprs = copied.exprs.items;
-      stmts =
-          copied.stmts.items;
-      main = main;
-    } }
+// The written program of a work with these parts.
+fn assembled(work: Work<'_>, parts: Parts) -> Typed
+    ensures { result ≡ program_with work.entry parts }
 {
+    let Parts {
+        globals,
+        funs,
+        copied,
+        main,
+    } = parts;
     let Copied { exprs, stmts } = copied;
     let p = work.nodes.p;
     Typed {
@@ -66,58 +66,62 @@ fn assembled(
     }
 }
 
-// The program as it is written, where no rule fails.
-fn written(work: Work<'_>, definitions: &[Option<u32>], main: u32) -> Result<Typed, NoMemory>
-    requires definitions { HasDefinitions work definitions.now }
-    requires main { IsMain work (Some main) }
-    requires shown { IsShown work }
-    ensures { IfOk result (IsWritten work.entry) }
+// The parts of the program as it is written.
+fn parts_of(work: &Work<'_>, definitions: &[Option<u32>], main: u32) -> Result<Parts, NoMemory>
+    requires definitions { HasDefinitions work.now definitions.now }
+    requires main { IsMain work.now (Some main) }
+    requires shown { IsShown work.now }
+    requires faultless { IsFaultless work.now }
+    ensures { IfOk result (AreParts work.now) }
 {
     let alloc = work.nodes.alloc;
-    check_tags(&work)?;
-    let numbers = new_numbers(&work, definitions)?;
+    check_tags(work)?;
+    let numbers = new_numbers(work, definitions)?;
     let main = number_of_main(&numbers, main);
-    let fillings = last_fillings(&work)?;
-    let globals = objects(&work, &numbers, fillings.as_slice())?;
+    let fillings = last_fillings(work)?;
+    let globals = objects(work, &numbers, fillings.as_slice())?;
     let mut copied = Copied {
         exprs: Vec::new(alloc),
         stmts: Vec::new(alloc),
     };
-    let funs = routines(&work, &numbers, definitions, &mut copied)?;
-    Ok(assembled(work, globals, funs, copied, main))
+    let funs = routines(work, &numbers, definitions, &mut copied)?;
+    Ok(Parts {
+        globals,
+        funs,
+        copied,
+        main,
+    })
 }
 
-// The program that is run, where no rule fails.
-fn program(work: Work<'_>, definitions: &[Option<u32>], main: u32) -> Result<Typed, NoMemory>
-    requires definitions { HasDefinitions work definitions.now }
-    requires main { IsMain work (Some main) }
-    requires shown { IsShown work }
-    requires syntax { HasSyntax work.tree.now }
-    ensures { IfOk result (IsProgram work.entry) }
+// The parts, where no rule waits that fails: 135 where no `main` is defined.
+fn ending(work: &Work<'_>, definitions: &[Option<u32>]) -> Result<Parts, Refusal>
+    requires definitions { HasDefinitions work.now definitions.now }
+    requires shown { IsShown work.now }
+    requires faultless { IsFaultless work.now }
+    ensures { EndsIn work.now (λ s. None) result }
 {
-    let alloc = work.nodes.alloc;
-    let tree = work.tree;
-    let p = written(work, definitions, main)?;
-    let p = pass(alloc, p, tree)?;
-    check_order(alloc, &p)?;
-    Ok(p)
-}
-
-// The program, where no rule waits that fails: 135 where no `main` is defined.
-fn ending(work: Work<'_>, definitions: &[Option<u32>]) -> Result<Typed, Refusal>
-    requires definitions { HasDefinitions work definitions.now }
-    requires shown { IsShown work }
-    requires syntax { HasSyntax work.tree.now }
-    ensures { (s : State) (x : Syn) → Shows work.entry s → IsSyntax work.entry x →
-        Finished (ended (call_name (calls_in x)) None s) result }
-{
-    let found = main_of(&work, definitions)?;
+    let found = main_of(work, definitions)?;
     match found {
         None => Err(Refusal::Code(135, Pos { line: 1, col: 1 })),
         Some(main) => {
-            let p = program(work, definitions, main)?;
+            let p = parts_of(work, definitions, main)?;
             Ok(p)
         }
+    }
+}
+
+// The parts, or the first rule that fails.
+fn parts_at_end(work: &Work<'_>) -> Result<Parts, Refusal>
+    requires whole { IsWhole work.now.nodes }
+    requires shown { IsShown work.now }
+    ensures { EndsIn work.now (λ s. earliest (last_faults s)) result }
+{
+    let uses = first_uses(work)?;
+    let definitions = last_definitions(work)?;
+    let first = last_fault(work, &uses, definitions.as_slice())?;
+    match first {
+        Some(fault) => Err(Refusal::Code(fault.code, fault.pos)),
+        None => ending(work, definitions.as_slice()),
     }
 }
 
@@ -130,11 +134,14 @@ pub fn finish(work: Work<'_>) -> Result<Typed, Refusal>
     ensures { (s : State) (x : Syn) → Shows work.entry s → IsSyntax work.entry x →
         Finished (ended (call_name (calls_in x)) (earliest (last_faults s)) s) result }
 {
-    let uses = first_uses(&work)?;
-    let definitions = last_definitions(&work)?;
-    let first = last_fault(&work, &uses, definitions.as_slice())?;
-    match first {
-        Some(fault) => Err(Refusal::Code(fault.code, fault.pos)),
-        None => ending(work, definitions.as_slice()),
+    match parts_at_end(&work) {
+        Err(refusal) => Err(refusal),
+        Ok(parts) => {
+            let alloc = work.nodes.alloc;
+            let tree = work.tree;
+            let written = assembled(work, parts);
+            let p = pass(alloc, written, tree)?;
+            Ok(p)
+        }
     }
 }

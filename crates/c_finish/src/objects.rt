@@ -1,6 +1,6 @@
 //! The objects of the finished program (C11 6.9.2).
 
-ghost use Rattle.std.specs.Prelude.{◌≡◌, ◌<◌, ◌∷◌, [], true, Some, IfOk, OnOk, length, map, option_map, slice_get};
+ghost use Rattle.std.specs.Prelude.{◌≡◌, ◌<◌, ◌∷◌, [], true, Some, IfOk, OnOk, length, map, option_map, slice_get, ◌≤◌, ◌^◌, pos, neg_ℤ, ◌≤ℤ◌};
 ghost use Rattle.std.specs.Borrow.{Bor};
 ghost use Rattle.c_tree.specs.Scopes.{State, StaticState};
 ghost use Rattle.c_tree.specs.Programs.{reach_of, pointing_of, initial_of, object_of};
@@ -9,7 +9,7 @@ ghost use Rattle.c_tree.specs.Views as views;
 ghost use Rattle.c_elaborator.specs.declared.work.Filling.{Filling as Given};
 ghost use Rattle.c_elaborator.specs.Work.{Shows, aiming_of};
 ghost use Rattle.c_elaborator.specs.Work as works;
-ghost use Rattle.c_finish.specs.Finished.{IsShown, TargetFits, StartsFit, HaveNumbers, AreObjects, AddsObject, filled};
+ghost use Rattle.c_finish.specs.Finished.{IsShown, IsFaultless, IsNear, AreNear, TargetFits, StartsFit, HaveNumbers, AreObjects, AddsObject, filled};
 ghost use Rattle.c_finish.specs.Tables.{HasFillings};
 
 use crate::lengths::aim_length;
@@ -20,7 +20,7 @@ use c_tree::{GlobalDef, Link};
 use ck_base::{NoMemory, Sequence};
 
 // Where the bounds of a pointer begin and how long they are.
-fn reach(length: Option<u64>, bounds: Bounds) -> (u64, u64)
+fn reach(length: Option<u64>, bounds: Bounds) -> (u128, u64)
     ensures { result ≡ reach_of length (works.reach_of bounds) }
 {
     match bounds {
@@ -32,21 +32,39 @@ fn reach(length: Option<u64>, bounds: Bounds) -> (u64, u64)
     }
 }
 
+fn low_of(low: u128) -> u64
+    requires { low ≤ 2 ^ 32 }
+    ensures { result ≡ low }
+{
+    low as u64
+}
+
+fn offset_of(offset: i128) -> i64
+    requires low { neg_ℤ (pos (2 ^ 32)) ≤ℤ offset }
+    requires high { offset ≤ℤ pos (2 ^ 32) }
+    ensures { result ≡ offset }
+{
+    offset as i64
+}
+
 fn link_of(work: &Work<'_>, numbers: &Numbers, start: Start) -> Link
     requires numbers { HaveNumbers work.now numbers.now }
     requires shown { IsShown work.now }
     requires fits { TargetFits work.now start.target }
+    requires near { IsNear (works.reach_of start.bounds) start.offset }
     ensures { (s : State) → Shows work.now s → views.pointing_of result ≡ pointing_of s (aiming_of start) }
 {
-    let length = aim_length(work, start.target);
+    let known = aim_length(work, start.target);
     let target = numbers.target(start.target);
-    let (low, length) = reach(length, start.bounds);
+    let (from, length) = reach(known, start.bounds);
+    let low = low_of(from);
+    let offset = offset_of(start.offset);
     Link {
         at: start.at,
         target,
         low,
         length,
-        offset: start.offset,
+        offset,
     }
 }
 
@@ -64,6 +82,7 @@ fn links_of(work: &Work<'_>, numbers: &Numbers, starts: &[Start]) -> Result<Vec<
     requires numbers { HaveNumbers work.now numbers.now }
     requires shown { IsShown work.now }
     requires fit { StartsFit work.now starts.now }
+    requires near { AreNear starts.now }
     ensures { IfOk result (λ ls. (s : State) → Shows work.now s →
         map views.pointing_of ls.items ≡ map (pointing_of s) (map aiming_of starts.now)) }
 {
@@ -86,6 +105,7 @@ fn initial(
     requires shown { IsShown work.now }
     requires fit { (f : Given) → option_map (λ (f : Bor Given). f.now) given ≡ Some f →
         StartsFit work.now f.starts.items }
+    requires near { (f : Given) → option_map (λ (f : Bor Given). f.now) given ≡ Some f → AreNear f.starts.items }
     ensures { IfOk result (λ x. (s : State) → Shows work.now s →
         initial_of s (option_map filled (option_map (λ (f : Bor Filling). f.now) given.entry))
         ≡ (x.0.items, map views.pointing_of x.1.items)) }
@@ -112,6 +132,7 @@ fn object(
     requires fillings { HasFillings work.now fillings.now }
     requires there { k < length work.now.nodes.p.globals }
     requires shown { IsShown work.now }
+    requires faultless { IsFaultless work.now }
     ensures { IfOk result (λ o. (s : State) (g : StaticState) → Shows work.now s → slice_get s.statics k ≡ Some g →
         g.defined ≡ true → views.object_of (types_of work.now.nodes.p.types) o ∷ [] ≡ object_of s g) }
 {
@@ -139,6 +160,7 @@ fn add_object(
     requires fillings { HasFillings work.now fillings.now }
     requires there { k < length work.now.nodes.p.globals }
     requires shown { IsShown work.now }
+    requires faultless { IsFaultless work.now }
     ensures { OnOk result (AddsObject work.now k list.old.items list.new.items) }
 {
     let is_there = work.nodes.scopes.is_defined(k);
@@ -159,6 +181,7 @@ pub(crate) fn objects(
     requires numbers { HaveNumbers work.now numbers.now }
     requires fillings { HasFillings work.now fillings.now }
     requires shown { IsShown work.now }
+    requires faultless { IsFaultless work.now }
     ensures { IfOk result (λ os. AreObjects work.now os.items) }
 {
     let n = count(work.nodes.p.globals.as_slice().len())?;

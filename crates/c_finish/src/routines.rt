@@ -1,10 +1,11 @@
 //! The functions of the finished program (C11 6.9.1).
 
-ghost use Rattle.std.specs.Prelude.{◌≡◌, ◌<◌, Some, IfOk, OnOk, length, slice_get};
+ghost use Rattle.std.specs.Prelude.{◌≡◌, ◌<◌, Some, IfOk, OnOk, length};
 ghost use Rattle.c_tree.specs.Scopes.{State};
 ghost use Rattle.c_elaborator.specs.Work.{Shows};
 ghost use Rattle.c_copy.specs.Copying.{Extends};
-ghost use Rattle.c_finish.specs.Finished.{IsShown, HaveNumbers, AreRoutines, IsRoutine, AddsRoutine};
+ghost use Rattle.c_copy.specs.Order.{PartsBefore};
+ghost use Rattle.c_finish.specs.Finished.{IsShown, HaveNumbers, AreRoutines, IsRoutine, AddsRoutine, BodiesThere};
 ghost use Rattle.c_finish.specs.Tables.{HasDefinitions};
 ghost use Rattle.c_elaborator.specs.Work.{definition_of};
 
@@ -43,6 +44,8 @@ fn routine(
     requires shown { IsShown work.now }
     ensures exprs { OnOk result (Extends into.old.exprs.items into.new.exprs.items) }
     ensures stmts { OnOk result (Extends into.old.stmts.items into.new.stmts.items) }
+    ensures before { OnOk result (PartsBefore into.old.stmts.items → PartsBefore into.new.stmts.items) }
+    ensures there { IfOk result (λ f. f.body < length into.new.stmts.items) }
     ensures is { IfOk result (IsRoutine work.now into.new.exprs.items into.new.stmts.items k) }
 {
     let alloc = work.nodes.alloc;
@@ -81,8 +84,10 @@ fn add_routine(
     requires definitions { HasDefinitions work.now definitions.now }
     requires there { k < length work.now.nodes.p.funs }
     requires shown { IsShown work.now }
-    ensures { OnOk result (AddsRoutine work.now k into.old.exprs.items into.old.stmts.items list.old.items
+    ensures adds { OnOk result (AddsRoutine work.now k into.old.exprs.items into.old.stmts.items list.old.items
         into.new.exprs.items into.new.stmts.items list.new.items) }
+    ensures bodies { OnOk result (BodiesThere into.old.stmts.items list.old.items →
+        BodiesThere into.new.stmts.items list.new.items) }
 {
     let found = definition(work, definitions, k);
     match found {
@@ -105,8 +110,10 @@ pub(crate) fn routines(
     requires numbers { HaveNumbers work.now new.now }
     requires definitions { HasDefinitions work.now definitions.now }
     requires shown { IsShown work.now }
-    ensures { IfOk result (λ fs. (s : State) → Shows work.now s →
+    ensures are { IfOk result (λ fs. (s : State) → Shows work.now s →
         AreRoutines work.now into.new.exprs.items into.new.stmts.items s (length s.routines) fs.items) }
+    ensures bodies { IfOk result (λ fs. PartsBefore into.old.stmts.items →
+        BodiesThere into.new.stmts.items fs.items) }
 {
     let n = count(work.nodes.p.funs.as_slice().len())?;
     let mut list = Vec::new(work.nodes.alloc);

@@ -1,8 +1,8 @@
 -- Values for the parts of an object.
 use Rattle.std.proofs.Common.{◌≡◌, ℕ, zero, suc, ◌+◌, ◌-◌, ◌<◌, ◌≤◌, min, Bool, true, false, cond, not, List, [], ◌∷◌}
-use Rattle.std.proofs.Common.{◌++◌, length, get_or, take, drop, map, Option, Some, None, refl, sym, ap, subst, ◌∙◌, inl}
+use Rattle.std.proofs.Common.{◌++◌, length, get_or, take, drop, map, Some, None, refl, sym, ap, subst, ◌∙◌, inl}
 use Rattle.std.proofs.Common.{inr, arith, append_assoc}
-use Rattle.std.specs.Prelude.{slice_get, option_map, IfSome, flat_map, find, position, nat_lt, nat_le, ◌&&◌, ◌==◌}
+use Rattle.std.specs.Prelude.{slice_get, option_map, flat_map, find, position, nat_lt, nat_le, ◌&&◌, ◌==◌}
 use Rattle.std.specs.Prelude.{if◌then◌else◌, pos}
 use Rattle.std.specs.List.{All, position_or_len}
 use Rattle.std.proofs.lemmas.Bool.{cases_lt}
@@ -11,14 +11,14 @@ use Rattle.std.proofs.lemmas.Grind.{common_steps}
 use Rattle.std.proofs.lemmas.List.{map_push, append-nil}
 use Rattle.std.proofs.lemmas.List.Elements.{All-push}
 use Rattle.std.proofs.lemmas.List.Folds.{find_at}
-use Rattle.std.proofs.lemmas.Option.{slice_get_past, slice_get-get_or, none-some}
+use Rattle.std.proofs.lemmas.Option.{slice_get_past, slice_get-get_or}
 use Rattle.ck_base.specs.declared.positions.Pos.{Pos}
 use Rattle.c_tree.specs.Types.{Ty}
 use Rattle.ck_int.specs.Kinds.{wrapped}
 use Rattle.c_tree.specs.Constants.{kind_of}
 use Rattle.c_tree.specs.Terms.{Constant, leaf}
 use Rattle.c_tree.specs.Readings as meant
-use Rattle.c_tree.specs.Scopes.{State, size, give}
+use Rattle.c_tree.specs.Scopes.{State, give}
 use Rattle.c_tree.specs.Initializers.{covers, scalar_slot, zero_slot, every_slot, scalars, byte_slots, taken, element}
 use Rattle.c_tree.specs.Initializers.{array_count}
 use Rattle.c_expressions.specs.declared.nodes.Nodes.{Nodes}
@@ -31,11 +31,12 @@ use Rattle.c_initializers.specs.declared.places.Place.{Place}
 use Rattle.c_initializers.specs.declared.covering.Extent.{Extent}
 use Rattle.c_initializers.specs.Covering.{covers_place}
 use Rattle.c_initializers.specs.Slots.{slot_in, slots_in, IsSlotThere, AreSlotsThere, HasSlots, AddsSlots, chosen}
-use Rattle.c_initializers.specs.Slots.{place_of, extent_of, scalars_given, filled_in, IsFilledIn, string_filled}
+use Rattle.c_initializers.specs.Slots.{place_of, extent_of, scalars_given, IsFilledIn, string_filled}
 use Rattle.c_initializers.specs.Slots.{HaveExtents, every_slot_of, SlotsThere, AreSlots}
 use Rattle.c_initializers.specs.Places.{ArePartsOf}
 use Rattle.c_elaborator.specs.declared.work.Work.{Work}
-use Rattle.c_elaborator.specs.Answers.{Done, quietly}
+use Rattle.c_elaborator.specs.Answers.{Done, Quiet, quietly}
+use Rattle.c_elaborator.specs.Work.{Shows}
 use Rattle.c_elaborator.proofs.Growing.{quiet_nodes, shows_nodes}
 use Rattle.c_elaborator.proofs.Sequencing.{still_same}
 use Rattle.std.specs.Global.{Vec}
@@ -296,13 +297,58 @@ length-slots : (n : Nodes) (xs : List Slot) → length (slots_in n xs) ≡ lengt
 length-slots n [] = refl
 length-slots n (x ∷ xs) = ap suc (length-slots n xs)
 
-pub every-slot : (w : Work) (n : Nodes) (whole : Pos) (of : ℕ) (slots : List Slot) (es fs : List Extent)
+-- what was elaborated is the same with another count of scalars
+quiet-counted : (w v : Work) (k : ℕ) → Quiet w v → Quiet w (record v { scalars = k })
+quiet-counted w v k q = record {
+  keeps = record {
+    more_types = q.keeps.more_types;
+    more_terms = q.keeps.more_terms;
+    more_actions = q.keeps.more_actions;
+    types = q.keeps.types;
+    terms = q.keeps.terms;
+    values = q.keeps.values;
+    actions = q.keeps.actions;
+    file = q.keeps.file;
+    tree = q.keeps.tree;
+  };
+  literals = q.literals;
+  uses = q.uses;
+  addressed = q.addressed;
+  fillings = q.fillings;
+  definitions = q.definitions;
+  waiting = q.waiting;
+}
+
+shows-counted : (w : Work) (k : ℕ) (s : State) → Shows w s → Shows (record w { scalars = k }) s
+shows-counted w k s h = record {
+  stands = h.stands;
+  texts = h.texts;
+  used_objects = h.used_objects;
+  used_functions = h.used_functions;
+  addressed = h.addressed;
+  fillings = h.fillings;
+  definitions = h.definitions;
+  waiting = h.waiting;
+  closed = record {
+    file = h.closed.file;
+    members = h.closed.members;
+    values = h.closed.values;
+    uses = h.closed.uses;
+    addressed = h.closed.addressed;
+    fillings = h.closed.fillings;
+    definitions = λ j d g. let t = h.closed.definitions j d g in
+        record { function = t.function; body = t.body; vars = t.vars };
+  };
+}
+
+pub every-slot : (w : Work) (n : Nodes) (k : ℕ) (whole : Pos) (of : ℕ) (slots : List Slot) (es fs : List Extent)
     (places others : List Place) (out : Vec Slot) → HaveExtents w slots es →
     ArePartsOf w places (λ s. scalars s (type_in w.nodes of)) → fs ≡ es → others ≡ places →
     HasSlots w.nodes n out.items (scalars_given whole (slots_in w.nodes slots) fs (map (place_of w.nodes) others)) →
-    Done quietly w (record w { nodes = n }) (every_slot_of whole (type_in w.nodes of) (slots_in w.nodes slots))
-    (SlotsThere (record w { nodes = n }) out) (AreSlots (record w { nodes = n }) out)
-every-slot w n whole of slots es fs places others out e p f o h =
+    Done quietly w (record w { nodes = n; scalars = k })
+    (every_slot_of whole (type_in w.nodes of) (slots_in w.nodes slots))
+    (SlotsThere (record w { nodes = n; scalars = k }) out) (AreSlots (record w { nodes = n; scalars = k }) out)
+every-slot w n count whole of slots es fs places others out e p f o h =
     let given = slots_in w.nodes slots in
     let t = type_in w.nodes of in
     let l : length es ≡ length given = e.0 ∙ sym (length-slots w.nodes slots) in
@@ -311,14 +357,14 @@ every-slot w n whole of slots es fs places others out e p f o h =
     ∙ ap (λ ps. scalars_given whole given es (map (place_of w.nodes) ps)) o in
     record {
       whole = h.keeps.whole;
-      grows = quiet_nodes w n h.keeps;
+      grows = quiet-counted w (record w { nodes = n }) count (quiet_nodes w n h.keeps);
       there = h.there;
       gives = λ s k. record {
         value = every_slot s whole t given;
         state = s;
         is = refl;
         stays = still_same s;
-        shows = shows_nodes w n s h.keeps k;
+        shows = shows-counted (record w { nodes = n }) count s (shows_nodes w n s h.keeps k);
         fits = every_slot-is s whole t given es (map (place_of w.nodes) places) l (e.1 s k) (p.are s k) ∙ sym r;
       };
     }

@@ -1,5 +1,5 @@
 -- The parts of objects.
-use Rattle.std.proofs.Common.{◌≡◌, ℕ, zero, suc, ◌+◌, ◌-◌, ◌*◌, ◌<◌, ◌≤◌, ◌≢◌, min, Bool, true, false, List, [], ◌∷◌}
+use Rattle.std.proofs.Common.{◌≡◌, ℕ, zero, suc, ◌+◌, ◌-◌, ◌*◌, ◌<◌, ◌≢◌, min, Bool, true, false, List, [], ◌∷◌}
 use Rattle.std.proofs.Common.{◌++◌, length, get_or, take, drop, drop-cons, add-one, map, Option, Some, None, Result, Ok}
 use Rattle.std.proofs.Common.{Err, refl, sym, ap, subst, ◌∙◌, inl, inr, arith, append_assoc}
 use Rattle.std.specs.Prelude.{slice_get, option_map, IfOk, nat_lt, ◌==◌, ◌||◌, if◌then◌else◌}
@@ -8,7 +8,7 @@ use Rattle.std.specs.Global.{Vec}
 use Rattle.ck_base.specs.declared.refusal.NoMemory.{NoMemory}
 use Rattle.std.proofs.lemmas.Bool.{cases_lt}
 use Rattle.std.proofs.lemmas.Grind.{common_steps}
-use Rattle.std.proofs.lemmas.List.{map_push, append-nil}
+use Rattle.std.proofs.lemmas.List.{map_push}
 use Rattle.cap_layout.specs.Answers.{extent_is}
 use Rattle.cap_layout.specs.declared.answers.Layout.{Layout}
 use Rattle.c_tree.specs.declared.syntax.RecordKind.{RecordKind}
@@ -17,21 +17,21 @@ use Rattle.c_tree.specs.declared.typed.Member.{Member}
 use Rattle.c_tree.specs.Types.{Ty, Tys, Void, Int, Cap, Pointer, Array, Tagged, Function, Const}
 use Rattle.c_tree.specs.Layout.{Extent, member_offset, behind, no_members}
 use Rattle.c_tree.specs.Scopes.{State, TagState, type_extent, size}
-use Rattle.c_tree.specs.Initializers.{item_place, tag_places, or_none, repeat, scalars_of, all_scalars, tag_scalars}
+use Rattle.c_tree.specs.Initializers.{item_place, tag_places, or_none, scalars_of, all_scalars, tag_scalars}
 use Rattle.c_tree.specs.Initializers.{scalars, with_count}
 use Rattle.c_tree.specs.Statics as statics
 use Rattle.c_tree.specs.Statics.{offset_in, record_offset, tag_offset}
+use Rattle.c_types.specs.Stands.{starts_in}
 use Rattle.c_expressions.specs.Nodes.{type_in}
 use Rattle.c_expressions.specs.declared.classes.Class.{Class}
 use Rattle.c_expressions.specs.declared.classes.Class.TheVariants as classes
 use Rattle.c_expressions.specs.Classes.{class_type}
 use Rattle.c_elaborator.specs.declared.work.Work.{Work}
-use Rattle.c_elaborator.specs.Work.{Shows}
 use Rattle.c_initializers.specs.declared.places.Place.{Place}
 use Rattle.c_initializers.specs.declared.members.Next.{Next}
 use Rattle.c_initializers.specs.declared.members.Record.{Record}
-use Rattle.c_initializers.specs.Places.{stripped, place_in, numbered_places, first_place, places_in, members_of}
-use Rattle.c_initializers.specs.Places.{IsRecord, IsRecordOf, AreMembers, AreFirstMembers, AreAllMembers}
+use Rattle.c_initializers.specs.Places.{stripped, place_in, numbered_places, places_in, members_of}
+use Rattle.c_initializers.specs.Places.{IsRecord, IsRecordOf, AreMembers, AreFirstMembers}
 
 -- ---- types without the words `const` before them
 
@@ -157,34 +157,6 @@ first-members w tag count m r (Err e) i f a = tt
 
 -- ---- scalars
 
--- one more element of an array
-pub elements-more : (mid new : List (ℕ × Ty)) (n step from : ℕ) (f : ℕ → List (ℕ × Ty)) (all : List (ℕ × Ty)) → 0 < n →
-    mid ++ repeat n step f from ≡ all → new ≡ mid ++ f from → new ++ repeat (n - 1) step f (from + step) ≡ all
-elements-more mid new zero step from f all l h e = absurd (omega arith)
-elements-more mid new (suc n) step from f all l h e =
-    let z : suc n - 1 ≡ n = omega arith in
-    rw z (ap (λ xs. xs ++ repeat n step f (from + step)) e ∙ append_assoc mid (f from) (repeat n step f (from + step))
-    ∙ h)
-
--- one more member
-pub members-more : (w : Work) (s : State) (go : ℕ → ℕ → List (ℕ × Ty)) (ms : List Place) (i : ℕ) (d : Place) (at : ℕ)
-    (mid new all : List (ℕ × Ty)) → i < length ms →
-    mid ++ all_scalars s go (map (place_in w) (drop i ms)) at ≡ all →
-    new ≡ mid ++ scalars_of s go (type_in w.nodes (get_or ms i d).of) (at + (get_or ms i d).at) →
-    new ++ all_scalars s go (map (place_in w) (drop (i + 1) ms)) at ≡ all
-members-more w s go ms i d at mid new all l h f =
-    let m = get_or ms i d in
-    let rest = all_scalars s go (map (place_in w) (drop (i + 1) ms)) at in
-    ap (λ xs. xs ++ rest) f ∙ append_assoc mid (scalars_of s go (type_in w.nodes m.of) (at + m.at)) rest
-    ∙ ap (λ xs. mid ++ all_scalars s go (map (place_in w) xs) at) (sym (drop-next ms i d l)) ∙ h
-
-pub members-end : (w : Work) (s : State) (go : ℕ → ℕ → List (ℕ × Ty)) (ms : List Place) (i at : ℕ)
-    (new all : List (ℕ × Ty)) → length ms ≤ i → new ++ all_scalars s go (map (place_in w) (drop i ms)) at ≡ all →
-    new ≡ all
-members-end w s go ms i at new all l h =
-    let d : drop i ms ≡ [] = grind (arith, common_steps) in
-    sym (append-nil new) ∙ ap (λ xs. new ++ all_scalars s go (map (place_in w) xs) at) (sym d) ∙ h
-
 pub no-depth : (s : State) (n at : ℕ) → tag_scalars 0 s n at ≡ []
 unfolding tag_scalars
 no-depth s n at = refl
@@ -260,3 +232,18 @@ member-offset w s t tag k r places e i d m =
     ∙ ap (λ b. record_offset s b i.state k) (i.kind ∙ d)
     ∙ ap (λ o. offset_in (slice_get (tag_places s.tags o) k)) (sym i.is) ∙ ap (λ ps. offset_in (slice_get ps k)) (sym m)
     ∙ ap offset_in (slice_get-map (place_in w) places k) ∙ offset-of w (slice_get places k)
+
+offset-first : (o : Option (ℕ × Ty)) → offset_in o ≡ option_map (λ (x : ℕ × Ty). x.0) o
+offset-first None = refl
+offset-first (Some x) = refl
+
+-- an offset that is known by itself
+pub offset-known : (w : Work) (s : State) (t : Ty) (tag k z : ℕ) (r : Record) → t ≡ Tagged tag →
+    IsRecordOf w s tag r → r.kind ≡ Struct → slice_get (starts_in s.tags (slice_get s.tags tag)) k ≡ Some z →
+    statics.member_offset s t k ≡ Some z
+offset-known w s t tag k z r e i d h =
+    ap (λ u. statics.member_offset s u k) e ∙ ap (λ o. tag_offset s o k) i.is
+    ∙ ap (λ b. record_offset s b i.state k) (i.kind ∙ d)
+    ∙ ap (λ o. offset_in (slice_get (tag_places s.tags o) k)) (sym i.is)
+    ∙ offset-first (slice_get (members_of s tag) k)
+    ∙ sym (slice_get-map (λ (x : ℕ × Ty). x.0) (members_of s tag) k) ∙ h

@@ -4,5 +4,6 @@ pub mod Found
 pub mod Objects
 pub mod Places
 pub mod Placing
+pub mod Rows
 pub mod Slots
 pub mod Starts

@@ -1,6 +1,6 @@
 //! Constants and addresses before the program runs (C11 6.6p7 to p9).
 
-ghost use Rattle.std.specs.Prelude.{◌≡◌, [], ◌<◌, ◌≤◌, ◌^◌, pos, ◌≤ℤ◌, neg_ℤ, option_map, IfOk, IfSome};
+ghost use Rattle.std.specs.Prelude.{◌≡◌, ℕ, ◌+◌, ◌*◌, [], ◌<◌, ◌≤◌, ◌^◌, pos, ◌≤ℤ◌, neg_ℤ, option_map, IfOk, IfSome};
 ghost use Rattle.c_tree.specs.Constants.{constant_of};
 ghost use Rattle.c_tree.specs.Scopes.{State};
 ghost use Rattle.c_tree.specs.Statics.{known_value, start_of, number_in, by_number, with_known, by_offset};
@@ -12,7 +12,7 @@ ghost use Rattle.c_elaborator.specs.Answers.{Answers, quietly, NothingThere, IsN
 ghost use Rattle.c_elaborator.specs.Work.{Shows};
 ghost use Rattle.c_initializers.specs.Forms.{StandsBefore, form_start};
 ghost use Rattle.c_initializers.specs.Slots.{IsSlotThere, slot_in};
-ghost use Rattle.c_initializers.specs.Starts.{IsKnown, known_of};
+ghost use Rattle.c_initializers.specs.Starts.{IsKnown, known_of, AreWithin};
 ghost use Rattle.c_initializers.specs.Starts.{start_of as value_start};
 
 use crate::forms::{Form, form_of, reads};
@@ -22,9 +22,6 @@ use crate::starts::{Known, Pointer, Value, bytes_moved, number_at};
 use c_elaborator::{Bounds, Work};
 use c_expressions::Nodes;
 use ck_base::{NoMemory, Refusal};
-
-// How deep the expressions of an address may lie in one another.
-const DEEPEST: u32 = 4096;
 
 // The number that is added to an address or taken from it, if it is constant.
 fn number_of(nodes: &Nodes, node: u32) -> Option<i128>
@@ -51,14 +48,16 @@ fn moved_by(
     requires low { IfSome number (λ z. neg_ℤ (pos (2 ^ 64)) ≤ℤ z) }
     requires high { IfSome number (λ z. z ≤ℤ pos (2 ^ 64)) }
     requires small { size ≤ 67108864 }
-    ensures { IfOk result (λ r. (s : State) → Shows work.now s →
+    requires within { AreWithin (2 ^ 100) x }
+    ensures is { IfOk result (λ r. (s : State) → Shows work.now s →
         IsKnown (by_number s minus size number (option_map known_of x)) r) }
+    ensures within { (n : ℕ) → AreWithin n x → IfOk result (AreWithin (n + 2 ^ 64)) }
 {
     match number {
         None => Ok(None),
         Some(z) => match x {
             None => Ok(None),
-            Some(known) => move_by(work, bytes_moved(minus, size, z), known),
+            Some(known) => move_by(work, i128::from(bytes_moved(minus, size, z)), known),
         },
     }
 }
@@ -67,18 +66,17 @@ fn moved_by(
 fn member_of(work: &Work, a: u32, k: u32, x: Option<Known>) -> Result<Option<Known>, NoMemory>
     requires whole { IsWhole work.now.nodes }
     requires there { a < term_count work.now.nodes }
-    ensures { IfOk result (λ r. (s : State) → Shows work.now s →
+    requires within { AreWithin (2 ^ 100) x }
+    ensures is { IfOk result (λ r. (s : State) → Shows work.now s →
         IsKnown (with_known (option_map known_of x)
         (by_offset s (member_offset s (bare (type_of (term_in work.now.nodes a))) k))) r) }
+    ensures within { (n : ℕ) → AreWithin n x → IfOk result (AreWithin (n + 2 ^ 64)) }
 {
     match x {
         None => Ok(None),
         Some(known) => match member_offset(work, work.nodes.bare(work.nodes.of(a)), k)? {
             None => Ok(None),
-            Some(at) => match i64::try_from(at) {
-                Err(_) => Err(NoMemory),
-                Ok(by) => move_by(work, by, known),
-            },
+            Some(at) => move_by(work, i128::from(at), known),
         },
     }
 }
@@ -87,8 +85,10 @@ fn member_of(work: &Work, a: u32, k: u32, x: Option<Known>) -> Result<Option<Kno
 fn pointer_to(work: &Work, a: u32, x: Option<Known>) -> Result<Option<Known>, NoMemory>
     requires whole { IsWhole work.now.nodes }
     requires there { a < term_count work.now.nodes }
-    ensures { IfOk result (λ r. (s : State) → Shows work.now s →
+    requires within { AreWithin (2 ^ 100) x }
+    ensures is { IfOk result (λ r. (s : State) → Shows work.now s →
         IsKnown (with_known (option_map known_of x) (pointed_at s (term_in work.now.nodes a))) r) }
+    ensures within { (n : ℕ) → AreWithin n x → IfOk result (AreWithin n) }
 {
     match x {
         None => Ok(None),
@@ -100,7 +100,8 @@ fn pointer_to(work: &Work, a: u32, x: Option<Known>) -> Result<Option<Known>, No
 fn cast_of(work: &Work, node: u32, x: Option<Known>) -> Option<Known>
     requires whole { IsWhole work.now.nodes }
     requires there { node < term_count work.now.nodes }
-    ensures { IsKnown (cast_start (bare (type_of (term_in work.now.nodes node))) (option_map known_of x)) result }
+    ensures is { IsKnown (cast_start (bare (type_of (term_in work.now.nodes node))) (option_map known_of x)) result }
+    ensures within { (n : ℕ) → AreWithin n x → AreWithin n result }
 {
     if work
         .nodes
@@ -124,10 +125,13 @@ fn sum_of(
     requires of { of < type_count work.now.nodes }
     requires left { left.0 < term_count work.now.nodes }
     requires right { right.0 < term_count work.now.nodes }
-    ensures { IfOk result (λ r. (s : State) → Shows work.now s →
+    requires left_within { AreWithin (2 ^ 100) left.1 }
+    requires right_within { AreWithin (2 ^ 100) right.1 }
+    ensures is { IfOk result (λ r. (s : State) → Shows work.now s →
         IsKnown (summed s (type_in work.now.nodes of) minus
         (term_in work.now.nodes left.0, option_map known_of left.1)
         (term_in work.now.nodes right.0, option_map known_of right.1)) r) }
+    ensures within { (n : ℕ) → AreWithin n left.1 → AreWithin n right.1 → IfOk result (AreWithin (n + 2 ^ 64)) }
 {
     let size = target_size(work, of)?;
     if work
@@ -151,9 +155,12 @@ fn derived_of(
     requires whole { IsWhole work.now.nodes }
     requires left { left.0 < term_count work.now.nodes }
     requires right { right.0 < term_count work.now.nodes }
-    ensures { IfOk result (λ r. (s : State) → Shows work.now s →
+    requires left_within { AreWithin (2 ^ 100) left.1 }
+    requires right_within { AreWithin (2 ^ 100) right.1 }
+    ensures is { IfOk result (λ r. (s : State) → Shows work.now s →
         IsKnown (derived_sum s minus from_right (term_in work.now.nodes left.0, option_map known_of left.1)
         (term_in work.now.nodes right.0, option_map known_of right.1)) r) }
+    ensures within { (n : ℕ) → AreWithin n left.1 → AreWithin n right.1 → IfOk result (AreWithin (n + 2 ^ 64)) }
 {
     if !from_right {
         moved_by(work, number_of(&work.nodes, right.0), minus, 1, left.1)
@@ -173,30 +180,29 @@ fn alone(work: &Work, value: Value) -> Known
     }
 }
 
-// What is known of an expression.
+// What is known of an expression. Each that it is made of moves an address by less than 2 ^ 64 bytes.
 #[cycle(starts)]
-fn start_of(work: &Work, node: u32, depth: u32) -> Result<Option<Known>, NoMemory>
+fn start_of(work: &Work, node: u32) -> Result<Option<Known>, NoMemory>
     requires whole { IsWhole work.now.nodes }
     requires there { node < term_count work.now.nodes }
-    ensures { IfOk result (λ r. (s : State) → Shows work.now s → IsKnown (start_of s (term_in work.now.nodes node)) r) }
+    ensures is { IfOk result (λ r. (s : State) → Shows work.now s → IsKnown (start_of s (term_in work.now.nodes node)) r) }
+    ensures within { IfOk result (AreWithin ((node + 1) * 2 ^ 64)) }
 {
-    if depth == 0 {
-        return Err(NoMemory);
-    }
     match work.nodes.constant_of(node) {
         Some(number) => Ok(Some(alone(work, Value::Number(number)))),
-        None => form_start(work, node, form_of(&work.nodes, node)?, depth - 1),
+        None => form_start(work, node, form_of(&work.nodes, node)?),
     }
 }
 
 // What is known of an expression of a form.
 #[cycle(starts)]
-fn form_start(work: &Work, node: u32, form: Form, depth: u32) -> Result<Option<Known>, NoMemory>
+fn form_start(work: &Work, node: u32, form: Form) -> Result<Option<Known>, NoMemory>
     requires whole { IsWhole work.now.nodes }
     requires there { node < term_count work.now.nodes }
     requires before { StandsBefore form node }
-    ensures { IfOk result (λ r. (s : State) → Shows work.now s →
+    ensures is { IfOk result (λ r. (s : State) → Shows work.now s →
         IsKnown (form_start s (term_in work.now.nodes) (type_of (term_in work.now.nodes node)) form) r) }
+    ensures within { IfOk result (AreWithin ((node + 1) * 2 ^ 64)) }
 {
     match form {
         Form::Whole(target) => Ok(Some(alone(
@@ -209,27 +215,27 @@ fn form_start(work: &Work, node: u32, form: Form, depth: u32) -> Result<Option<K
         ))),
         Form::Entry(k) => Ok(Some(alone(work, Value::Entry(k)))),
         Form::Member(a, k) => {
-            let x = start_of(work, a, depth)?;
+            let x = start_of(work, a)?;
             member_of(work, a, k, x)
         }
         Form::Pointed(a) => {
-            let x = start_of(work, a, depth)?;
+            let x = start_of(work, a)?;
             pointer_to(work, a, x)
         }
-        Form::Same(a) => start_of(work, a, depth),
+        Form::Same(a) => start_of(work, a),
         Form::Converted(a) => {
-            let x = start_of(work, a, depth)?;
+            let x = start_of(work, a)?;
             Ok(cast_of(work, node, x))
         }
         Form::Plus(a, b, minus) => {
-            let x = start_of(work, a, depth)?;
-            let y = start_of(work, b, depth)?;
+            let x = start_of(work, a)?;
+            let y = start_of(work, b)?;
             let of = work.nodes.bare(work.nodes.of(node));
             sum_of(work, of, minus, (a, x), (b, y))
         }
         Form::Derived(a, b, minus, from_right) => {
-            let x = start_of(work, a, depth)?;
-            let y = start_of(work, b, depth)?;
+            let x = start_of(work, a)?;
+            let y = start_of(work, b)?;
             derived_of(work, minus, from_right, (a, x), (b, y))
         }
         Form::Other => Ok(None),
@@ -247,7 +253,7 @@ pub(crate) fn known_value(work: &Work, node: u32) -> Result<Option<Known>, NoMem
     if reads(&work.nodes, node) {
         Ok(None)
     } else {
-        start_of(work, node, DEEPEST)
+        start_of(work, node)
     }
 }
 

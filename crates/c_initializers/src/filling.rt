@@ -1,6 +1,7 @@
 //! Every scalar of an object of automatic storage duration gets a value (C11 6.7.9p10, p21).
 
-ghost use Rattle.std.specs.Prelude.{◌≡◌, ◌<◌, ◌∷◌, [], ◌==◌, if◌then◌else◌, length, map, IfOk, IfSome, OnOk};
+ghost use Rattle.std.specs.Prelude.{◌≡◌, ◌+◌, ◌-◌, ◌<◌, ◌≤◌, ◌∷◌, [], ◌==◌, if◌then◌else◌, length, map};
+ghost use Rattle.std.specs.Prelude.{IfOk, IfSome, OnOk};
 ghost use Rattle.std.specs.List.{All};
 ghost use Rattle.c_tree.specs.Initializers.{scalar_slot, zero_slot};
 ghost use Rattle.c_expressions.specs.Nodes.{IsWhole, type_in, type_count};
@@ -15,8 +16,57 @@ use crate::scalars::{moved, scalars};
 use crate::sizes::size_of;
 use crate::slots::Slot;
 use c_elaborator::Work;
-use c_expressions::{Leaf, Nodes};
+use c_expressions::{Class, Leaf, Nodes};
 use ck_base::{NoMemory, Pos, Refusal};
+
+/// How many scalars lists and strings may initialise in locals.
+const MOST_SCALARS: u64 = 4_194_304;
+
+// How many scalars may be initialised in a local; those of lists and strings have a limit in sum.
+fn most_scalars(work: &Work, listed: bool) -> u64
+    ensures { result ≡ (if listed then 4194304 - work.now.scalars else 18446744073709551615) }
+{
+    if listed {
+        MOST_SCALARS.saturating_sub(work.scalars)
+    } else {
+        u64::MAX
+    }
+}
+
+// How many scalars lists and strings have initialised with those of one more local; memory is wanting past the limit.
+fn scalars_then(work: &Work, listed: bool, count: u64) -> Result<u64, NoMemory>
+    ensures is { IfOk result (λ n. n ≡ (if listed then work.now.scalars + count else work.now.scalars)) }
+    ensures few { work.now.scalars ≤ 4194304 → IfOk result (λ n. n ≤ 4194304) }
+{
+    if !listed {
+        return Ok(work.scalars);
+    }
+    if count > most_scalars(work, listed) {
+        return Err(NoMemory);
+    }
+    Ok(work.scalars + count)
+}
+
+fn is_record(nodes: &Nodes, of: u32) -> bool
+    requires whole { IsWhole nodes.now }
+    requires there { of < type_count nodes.now }
+{
+    matches!(nodes.class(of), Class::Tagged(_))
+}
+
+// The bytes of the values of structs and unions: their scalars, of which there are not more, are initialised at once.
+fn record_bytes(work: &Work, slots: &[Slot]) -> Result<u64, NoMemory>
+    requires whole { IsWhole work.now.nodes }
+    requires slots { AreSlotsThere work.now.nodes slots.now }
+{
+    let mut bytes: u64 = 0;
+    for x in slots {
+        if is_record(&work.nodes, x.of) {
+            bytes = bytes.saturating_add(size_of(work, x.of)?);
+        }
+    }
+    Ok(bytes)
+}
 
 // The bytes that values have.
 fn extents_of(work: &Work, slots: &[Slot]) -> Result<Vec<Extent>, NoMemory>
@@ -106,12 +156,14 @@ fn scalar_slots(
     Ok(out)
 }
 
-/// The value of every scalar of a type, in the order of their offsets, where an initialiser gave these.
+/// The value of every scalar of a type, in the order of their offsets, where an initialiser gave these. Memory is
+/// wanting, before a zero is made, where lists and strings initialise more than 4,194,304 scalars in sum.
 pub fn every_slot(
     work: &mut Work,
     whole: Pos,
     of: u32,
     slots: &[Slot],
+    listed: bool,
 ) -> Result<Vec<Slot>, Refusal>
     requires whole { IsWhole work.old.nodes }
     requires there { of < type_count work.old.nodes }
@@ -120,7 +172,8 @@ pub fn every_slot(
         (every_slot_of whole (type_in work.old.nodes of) (slots_in work.old.nodes slots.now)) SlotsThere AreSlots
         result }
 {
-    let places = scalars(work, of)?;
+    let most = most_scalars(work, listed).saturating_add(record_bytes(work, slots)?);
+    let places = scalars(work, of, most)?;
     let extents = extents_of(work, slots)?;
     let out = scalar_slots(
         &mut work.nodes,
@@ -129,5 +182,7 @@ pub fn every_slot(
         slots,
         extents.as_slice(),
     )?;
+    let count = scalars_then(work, listed, out.len() as u64)?;
+    work.scalars = count;
     Ok(out)
 }

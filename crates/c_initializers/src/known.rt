@@ -1,6 +1,6 @@
 //! What is known of an expression before the program runs (C11 6.6p7 to p9).
 
-ghost use Rattle.std.specs.Prelude.{◌≡◌, ◌+◌, ◌<◌, ◌≤◌, ◌^◌, ◌&&◌, nat_le, Some, None, pos, ◌≤ℤ◌, neg_ℤ, reverse};
+ghost use Rattle.std.specs.Prelude.{◌≡◌, ℕ, ◌+◌, ◌<◌, ◌≤◌, ◌^◌, ◌&&◌, nat_le, Some, None, pos, ◌≤ℤ◌, neg_ℤ, reverse};
 ghost use Rattle.std.specs.Prelude.{option_map, slice_get, if◌then◌else◌, IfOk};
 ghost use Rattle.cap_concentrate.specs.Rounding.{owned};
 ghost use Rattle.c_tree.specs.Scopes.{State};
@@ -8,8 +8,9 @@ ghost use Rattle.c_tree.specs.Statics.{There, static_length, text_length, aim_le
 ghost use Rattle.c_tree.specs.Statics.{narrowed_in, narrowed, member_offset, move_by, pointed_at, target_size};
 ghost use Rattle.c_tree.specs.Views.{aim_of};
 ghost use Rattle.c_expressions.specs.Nodes.{IsWhole, type_in, term_in, type_count, term_count};
+ghost use Rattle.c_elaborator.specs.declared.work.Bounds.TheVariants as spans;
 ghost use Rattle.c_elaborator.specs.Work.{Shows, reach_of};
-ghost use Rattle.c_initializers.specs.Starts.{IsKnown, known_of};
+ghost use Rattle.c_initializers.specs.Starts.{IsKnown, known_of, Points, BoundsWithin, IsWithin, AreWithin};
 
 use crate::members::{LIMIT, all_members, record_of};
 use crate::places::Place;
@@ -69,20 +70,15 @@ fn aim_length(work: &Work, target: Target) -> Result<Option<u64>, NoMemory>
 }
 
 // A pointer.
-fn place(target: Target, bounds: Bounds, offset: i128, asks: Vec<i64>) -> Result<Known, NoMemory>
-    ensures { IfOk result (λ k. known_of k ≡ (There (aim_of target) (reach_of bounds) offset, reverse asks.items)) }
+fn place(target: Target, bounds: Bounds, offset: i128, asks: Vec<i128>) -> Known
+    ensures is { known_of result ≡ (There (aim_of target) (reach_of bounds) offset, reverse asks.items) }
 {
-    match i64::try_from(offset) {
-        Err(_) => Err(NoMemory),
-        Ok(offset) => Ok(Known {
-            value: Value::There(Pointer {
-                target,
-                bounds,
-                offset,
-            }),
-            asks,
-        }),
-    }
+    let value = Value::There(Pointer {
+        target,
+        bounds,
+        offset,
+    });
+    Known { value, asks }
 }
 
 // A pointer, where a test is passed.
@@ -91,15 +87,16 @@ fn place_if(
     target: Target,
     bounds: Bounds,
     offset: i128,
-    asks: Vec<i64>,
-) -> Result<Option<Known>, NoMemory>
-    ensures { IfOk result (IsKnown (if test
-        then Some (There (aim_of target) (reach_of bounds) offset, reverse asks.items) else None)) }
+    asks: Vec<i128>,
+) -> Option<Known>
+    ensures is { IsKnown (if test
+        then Some (There (aim_of target) (reach_of bounds) offset, reverse asks.items) else None) result }
+    ensures points { Points bounds offset result }
 {
     if test {
-        Ok(Some(place(target, bounds, offset, asks)?))
+        Some(place(target, bounds, offset, asks))
     } else {
-        Ok(None)
+        None
     }
 }
 
@@ -107,22 +104,18 @@ fn place_if(
 fn moved_in_open(
     target: Target,
     offset: i128,
-    mut asks: Vec<i64>,
+    mut asks: Vec<i128>,
 ) -> Result<Option<Known>, NoMemory>
-    requires low { neg_ℤ (pos (2 ^ 65)) ≤ℤ offset }
-    requires high { offset ≤ℤ pos (2 ^ 65) }
-    ensures { IfOk result (IsKnown (near_all (aim_of target) offset None (reverse asks.items))) }
+    requires low { neg_ℤ (pos (2 ^ 101)) ≤ℤ offset }
+    requires high { offset ≤ℤ pos (2 ^ 101) }
+    ensures is { IfOk result (IsKnown (near_all (aim_of target) offset None (reverse asks.items))) }
+    ensures points { IfOk result (Points spans.Whole offset) }
 {
     if offset + 1024 <= 0 {
         return Ok(None);
     }
-    match i64::try_from(offset - 1023) {
-        Err(_) => Err(NoMemory),
-        Ok(least) => {
-            asks.push(least)?;
-            Ok(Some(place(target, Bounds::Whole, offset, asks)?))
-        }
-    }
+    asks.push(offset - 1023)?;
+    Ok(Some(place(target, Bounds::Whole, offset, asks)))
 }
 
 // A pointer is moved to an offset, which is less than 1024 bytes outside its bounds.
@@ -131,33 +124,40 @@ fn moved_to(
     target: Target,
     bounds: Bounds,
     offset: i128,
-    asks: Vec<i64>,
+    asks: Vec<i128>,
 ) -> Result<Option<Known>, NoMemory>
-    requires low { neg_ℤ (pos (2 ^ 65)) ≤ℤ offset }
-    requires high { offset ≤ℤ pos (2 ^ 65) }
-    ensures { IfOk result (λ r. (s : State) → Shows work.now s →
+    requires bounds { BoundsWithin (2 ^ 100) bounds }
+    requires low { neg_ℤ (pos (2 ^ 101)) ≤ℤ offset }
+    requires high { offset ≤ℤ pos (2 ^ 101) }
+    ensures is { IfOk result (λ r. (s : State) → Shows work.now s →
         IsKnown (moved_to s (aim_of target) (reach_of bounds) offset (reverse asks.items)) r) }
+    ensures points { IfOk result (Points bounds offset) }
 {
     match bounds {
         Bounds::Part(low, length) => {
-            place_if(is_near(low, length, offset), target, bounds, offset, asks)
+            let near = is_near(low, length, offset);
+            Ok(place_if(near, target, bounds, offset, asks))
         }
         Bounds::Whole => match aim_length(work, target)? {
-            Some(length) => place_if(is_near(0, length, offset), target, bounds, offset, asks),
+            Some(length) => {
+                let near = is_near(0, length, offset);
+                Ok(place_if(near, target, bounds, offset, asks))
+            }
             None => moved_in_open(target, offset, asks),
         },
     }
 }
 
 // A pointer is moved by so many bytes.
-pub(crate) fn move_by(work: &Work, by: i64, x: Known) -> Result<Option<Known>, NoMemory>
-    ensures { IfOk result (λ r. (s : State) → Shows work.now s → IsKnown (move_by s by (known_of x)) r) }
+pub(crate) fn move_by(work: &Work, by: i128, x: Known) -> Result<Option<Known>, NoMemory>
+    requires within { IsWithin (2 ^ 100) x.value }
+    requires low { neg_ℤ (pos (2 ^ 64)) ≤ℤ by }
+    requires high { by ≤ℤ pos (2 ^ 64) }
+    ensures is { IfOk result (λ r. (s : State) → Shows work.now s → IsKnown (move_by s by (known_of x)) r) }
+    ensures within { (n : ℕ) → IsWithin n x.value → IfOk result (AreWithin (n + 2 ^ 64)) }
 {
     match x.value {
-        Value::There(p) => {
-            let offset = i128::from(p.offset) + i128::from(by);
-            moved_to(work, p.target, p.bounds, offset, x.asks)
-        }
+        Value::There(p) => moved_to(work, p.target, p.bounds, p.offset + by, x.asks),
         Value::Number(_) | Value::Entry(_) => Ok(None),
     }
 }
@@ -165,27 +165,25 @@ pub(crate) fn move_by(work: &Work, by: i64, x: Known) -> Result<Option<Known>, N
 // Bounds of so many bytes in an object whose length is not known, which ask for their end.
 fn part_in_open(
     target: Target,
-    at: u64,
+    at: u128,
     n: u64,
-    mut asks: Vec<i64>,
+    mut asks: Vec<i128>,
 ) -> Result<Option<Known>, NoMemory>
-    requires { at + n < 2 ^ 64 }
-    ensures { IfOk result (IsKnown (inside None at n (reverse asks.items) (aim_of target))) }
+    requires { at ≤ 2 ^ 100 }
+    ensures is { IfOk result (IsKnown (inside None at n (reverse asks.items) (aim_of target))) }
+    ensures points { IfOk result (Points (spans.Part at n) (pos at)) }
 {
-    match i64::try_from(at + n) {
-        Err(_) => Err(NoMemory),
-        Ok(end) => {
-            asks.push(end)?;
-            place_if(true, target, Bounds::Part(at, n), i128::from(at), asks)
-        }
-    }
+    asks.push((at + u128::from(n)) as i128)?;
+    Ok(Some(place(target, Bounds::Part(at, n), at as i128, asks)))
 }
 
 // Whether so many bytes from an offset on lie in bounds.
-fn lies_in(low: u64, length: u64, at: u64, n: u64) -> bool
+fn lies_in(low: u128, length: u64, at: u128, n: u64) -> bool
+    requires low { low ≤ 2 ^ 100 }
+    requires at { at ≤ 2 ^ 100 }
     ensures { result ≡ (nat_le low at && nat_le (at + n) (low + length)) }
 {
-    low <= at && u128::from(at) + u128::from(n) <= u128::from(low) + u128::from(length)
+    low <= at && at + u128::from(n) <= low + u128::from(length)
 }
 
 // Exact bounds of so many bytes, inside those that the pointer has.
@@ -193,30 +191,28 @@ fn narrowed_in(
     work: &Work,
     target: Target,
     bounds: Bounds,
-    at: u64,
+    at: u128,
     n: u64,
-    asks: Vec<i64>,
+    asks: Vec<i128>,
 ) -> Result<Option<Known>, NoMemory>
-    requires { at + n < 2 ^ 64 }
-    ensures { IfOk result (λ r. (s : State) → Shows work.now s →
+    requires bounds { BoundsWithin (2 ^ 100) bounds }
+    requires at { at ≤ 2 ^ 100 }
+    ensures is { IfOk result (λ r. (s : State) → Shows work.now s →
         IsKnown (narrowed_in s (aim_of target) (reach_of bounds) at n (reverse asks.items)) r) }
+    ensures points { IfOk result (Points (spans.Part at n) (pos at)) }
 {
+    let part = Bounds::Part(at, n);
+    let offset = at as i128;
     match bounds {
-        Bounds::Part(low, length) => place_if(
-            lies_in(low, length, at, n),
-            target,
-            Bounds::Part(at, n),
-            i128::from(at),
-            asks,
-        ),
+        Bounds::Part(low, length) => {
+            let lies = lies_in(low, length, at, n);
+            Ok(place_if(lies, target, part, offset, asks))
+        }
         Bounds::Whole => match aim_length(work, target)? {
-            Some(length) => place_if(
-                at + n <= length,
-                target,
-                Bounds::Part(at, n),
-                i128::from(at),
-                asks,
-            ),
+            Some(length) => {
+                let lies = at + u128::from(n) <= u128::from(length);
+                Ok(place_if(lies, target, part, offset, asks))
+            }
             None => part_in_open(target, at, n, asks),
         },
     }
@@ -224,20 +220,23 @@ fn narrowed_in(
 
 // A pointer is narrowed to so many bytes.
 fn narrowed(work: &Work, n: u64, x: Known) -> Result<Option<Known>, NoMemory>
-    requires { n < 2 ^ 62 }
-    ensures { IfOk result (λ r. (s : State) → Shows work.now s → IsKnown (narrowed s n (known_of x)) r) }
+    requires within { IsWithin (2 ^ 100) x.value }
+    requires small { n < 2 ^ 62 }
+    ensures is { IfOk result (λ r. (s : State) → Shows work.now s → IsKnown (narrowed s n (known_of x)) r) }
+    ensures within { (m : ℕ) → IsWithin m x.value → IfOk result (AreWithin m) }
 {
     match x.value {
-        Value::There(p) => match u64::try_from(p.offset) {
-            Err(_) => Ok(None),
-            Ok(at) => {
-                if is_exact(at, n) {
-                    narrowed_in(work, p.target, p.bounds, at, n, x.asks)
-                } else {
-                    Ok(None)
-                }
+        Value::There(p) => {
+            if p.offset < 0 {
+                return Ok(None);
             }
-        },
+            let at = p.offset as u128;
+            if is_exact(at, n) {
+                narrowed_in(work, p.target, p.bounds, at, n, x.asks)
+            } else {
+                Ok(None)
+            }
+        }
         Value::Number(_) | Value::Entry(_) => Ok(None),
     }
 }
@@ -262,10 +261,13 @@ pub(crate) fn member_offset(work: &Work, of: u32, k: u32) -> Result<Option<u64>,
             None => Ok(None),
             Some(record) => match record.kind {
                 RecordKind::Union => Ok(Some(0)),
-                RecordKind::Struct => {
-                    let places = all_members(work, tag)?;
-                    Ok(offset_at(places.as_slice(), k))
-                }
+                RecordKind::Struct => match work.nodes.scopes.offset(tag, k) {
+                    Some(at) => Ok(Some(at)),
+                    None => {
+                        let places = all_members(work, tag)?;
+                        Ok(offset_at(places.as_slice(), k))
+                    }
+                },
             },
         },
         _ => Ok(None),
@@ -276,8 +278,10 @@ pub(crate) fn member_offset(work: &Work, of: u32, k: u32) -> Result<Option<u64>,
 pub(crate) fn pointed_at(work: &Work, node: u32, x: Known) -> Result<Option<Known>, NoMemory>
     requires whole { IsWhole work.now.nodes }
     requires there { node < term_count work.now.nodes }
-    ensures { IfOk result (λ r. (s : State) → Shows work.now s →
+    requires within { IsWithin (2 ^ 100) x.value }
+    ensures is { IfOk result (λ r. (s : State) → Shows work.now s →
         IsKnown (pointed_at s (term_in work.now.nodes node) (known_of x)) r) }
+    ensures within { (n : ℕ) → IsWithin n x.value → IfOk result (AreWithin n) }
 {
     if work.nodes.fact(node).member {
         let n = size_of(work, work.nodes.of(node))?;

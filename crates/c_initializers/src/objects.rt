@@ -142,6 +142,11 @@ fn complete_local(work: &mut Work, k: u32, of: u32, count: u64, name: Name) -> R
     Ok(counted)
 }
 
+// Whether a list or a string gives this: an expression gives one value, and no number of elements.
+fn is_listed(filled: &Filled) -> bool {
+    filled.count > 0 || filled.slots.len() != 1
+}
+
 /// A local gets what its initialiser gives: the values of all its scalars (C11 6.7.9p10, p21, p22). 132 and 140 at its
 /// name where its type is then not complete or too large.
 pub fn fill_local(
@@ -161,5 +166,6 @@ pub fn fill_local(
 {
     let counted = complete_local(work, k, of, filled.count, name)?;
     complete_now(work, counted, name.pos)?;
-    every_slot(work, whole, counted, filled.slots.as_slice())
+    let listed = is_listed(filled);
+    every_slot(work, whole, counted, filled.slots.as_slice(), listed)
 }

@@ -1,10 +1,10 @@
 //! The scalars of a type in the order of their offsets (C11 6.2.5p21).
 
-ghost use Rattle.std.specs.Prelude.{◌≡◌, ◌+◌, ◌<◌, IfOk, OnOk};
+ghost use Rattle.std.specs.Prelude.{◌≡◌, ◌+◌, ◌-◌, ◌++◌, ◌∷◌, [], ◌<◌, IfOk, OnOk};
 ghost use Rattle.c_tree.specs.Initializers.{scalars, scalars_of, tag_scalars, repeat};
-ghost use Rattle.c_tree.specs.Scopes.{size};
 ghost use Rattle.c_expressions.specs.Nodes.{IsWhole, type_in, type_count};
-ghost use Rattle.c_initializers.specs.Places.{ArePartsOf, AddsParts};
+ghost use Rattle.c_initializers.specs.Places.{ArePartsOf};
+ghost use Rattle.c_initializers.specs.Rows.{IsRowThere, row_scalars, AddsRows, Walks};
 
 use crate::members::{all_members, tag_count};
 use crate::places::Place;
@@ -13,19 +13,38 @@ use c_elaborator::Work;
 use c_expressions::Class;
 use ck_base::NoMemory;
 
-// How deep arrays, structs and unions may lie in one another.
-const DEEPEST: u32 = 4096;
+/// Parts of one type at equal distances, the scalars of which are to be listed.
+#[derive(Clone, Copy)]
+pub(crate) struct Row {
+    /// Where the first one stands.
+    at: u64,
+    /// The number of their type.
+    of: u32,
+    /// How many there are.
+    count: u64,
+    /// The bytes from one to the next.
+    step: u64,
+    /// How deep structs and unions lie in one another there, at most.
+    tags: usize,
+}
 
-/// The scalars of a type, in the order of their offsets.
-pub(crate) fn scalars(work: &Work, of: u32) -> Result<Vec<Place>, NoMemory>
+/// The scalars of a type, in the order of their offsets; memory is wanting for more than `most`.
+pub(crate) fn scalars(work: &Work, of: u32, most: u64) -> Result<Vec<Place>, NoMemory>
     requires whole { IsWhole work.now.nodes }
     requires there { of < type_count work.now.nodes }
     ensures { IfOk result (λ places. ArePartsOf work.now places.items (λ s. scalars s (type_in work.now.nodes of))) }
 {
     let mut places = Vec::new(work.nodes.alloc);
-    let tags = tag_count(work);
-    add_scalars(work, of, 0, tags, DEEPEST, &mut places)?;
-    Ok(places)
+    let mut rows = Vec::new(work.nodes.alloc);
+    rows.push(single(of, 0, tag_count(work)))?;
+    // No walk has so many steps.
+    'steps: for _ in 0..u64::MAX {
+        match rows.pop() {
+            None => return Ok(places),
+            Some(row) => walk(work, row, most, &mut rows, &mut places)?,
+        }
+    }
+    Err(NoMemory)
 }
 
 pub(crate) fn moved(at: u64, by: u64) -> Result<u64, NoMemory>
@@ -37,85 +56,134 @@ pub(crate) fn moved(at: u64, by: u64) -> Result<u64, NoMemory>
     }
 }
 
-// The scalars of a type that stands at an offset, where structs and unions lie at most `tags` deep in one another.
-#[cycle(scalars)]
-fn add_scalars(
-    work: &Work,
-    of: u32,
-    at: u64,
-    tags: usize,
-    depth: u32,
-    places: &mut Vec<Place>,
-) -> Result<(), NoMemory>
-    requires whole { IsWhole work.now.nodes }
-    requires there { of < type_count work.now.nodes }
-    ensures { OnOk result (AddsParts work.now places.old.items places.new.items
-        (λ s. scalars_of s (tag_scalars tags s) (type_in work.now.nodes of) at)) }
+// One part.
+fn single(of: u32, at: u64, tags: usize) -> Row
+    ensures { result ≡ record { at = at; of = of; count = 1; step = 0; tags = tags } }
 {
-    if depth == 0 {
-        return Err(NoMemory);
-    }
-    match work.nodes.class(of) {
-        Class::Array(element, count) => {
-            add_elements(work, element, count, at, tags, depth - 1, places)
-        }
-        Class::Tagged(tag) => add_members(work, tag, at, tags, depth - 1, places),
-        Class::Const(inner) => add_scalars(work, inner, at, tags, depth - 1, places),
-        Class::Void | Class::Int(_, _) | Class::Cap(_) | Class::Pointer(_) | Class::Function(_) => {
-            places.push(Place { at, of })?;
-            Ok(())
-        }
+    Row {
+        at,
+        of,
+        count: 1,
+        step: 0,
+        tags,
     }
 }
 
-// Those of an array's elements.
-#[cycle(scalars)]
-fn add_elements(
-    work: &Work,
-    element: u32,
-    count: u64,
-    at: u64,
-    tags: usize,
-    depth: u32,
-    places: &mut Vec<Place>,
-) -> Result<(), NoMemory>
-    requires whole { IsWhole work.now.nodes }
-    requires there { element < type_count work.now.nodes }
-    ensures { OnOk result (AddsParts work.now places.old.items places.new.items
-        (λ s. repeat count (size s (type_in work.now.nodes element))
-        (scalars_of s (tag_scalars tags s) (type_in work.now.nodes element)) at)) }
+fn push_row(rows: &mut Vec<Row>, row: Row) -> Result<(), NoMemory>
+    ensures { OnOk result (rows.new.items ≡ rows.old.items ++ row ∷ []) }
 {
-    let step = size_of(work, element)?;
-    let mut from = at;
-    let mut left = count;
-    while left > 0 {
-        add_scalars(work, element, from, tags, depth, places)?;
-        from = moved(from, step)?;
-        left -= 1;
-    }
+    rows.push(row)?;
     Ok(())
 }
 
-// Those of a struct's members, or of a union's first one.
-#[cycle(scalars)]
-fn add_members(
+// So many parts more have a scalar each, at least.
+fn check_room(places: &[Place], most: u64, count: u64) -> Result<(), NoMemory> {
+    if count > most.saturating_sub(places.len() as u64) {
+        Err(NoMemory)
+    } else {
+        Ok(())
+    }
+}
+
+// One more scalar.
+fn push_place(places: &mut Vec<Place>, most: u64, place: Place) -> Result<(), NoMemory>
+    ensures { OnOk result (places.new.items ≡ places.old.items ++ place ∷ []) }
+{
+    check_room(places.as_slice(), most, 1)?;
+    places.push(place)?;
+    Ok(())
+}
+
+// What is behind the first part of a row.
+fn push_rest(work: &Work, row: Row, rows: &mut Vec<Row>) -> Result<(), NoMemory>
+    requires some { 0 < row.count }
+    requires there { IsRowThere work.now row }
+    ensures { OnOk result (AddsRows work.now rows.old.items rows.new.items
+        (λ s. repeat (row.count - 1) row.step (scalars_of s (tag_scalars row.tags s) (type_in work.now.nodes row.of))
+        (row.at + row.step))) }
+{
+    if row.count == 1 {
+        return Ok(());
+    }
+    let at = moved(row.at, row.step)?;
+    let count = row.count - 1;
+    push_row(rows, Row { at, count, ..row })
+}
+
+// The members of a struct, or the first one of a union, that stands at an offset.
+fn push_members(
     work: &Work,
     tag: u32,
     at: u64,
     tags: usize,
-    depth: u32,
-    places: &mut Vec<Place>,
+    rows: &mut Vec<Row>,
 ) -> Result<(), NoMemory>
     requires { IsWhole work.now.nodes }
-    ensures { OnOk result (AddsParts work.now places.old.items places.new.items (λ s. tag_scalars tags s tag at)) }
+    ensures { OnOk result (AddsRows work.now rows.old.items rows.new.items (λ s. tag_scalars tags s tag at)) }
 {
     if tags == 0 {
         return Ok(());
     }
     let members = all_members(work, tag)?;
-    for m in &members {
-        let from = moved(at, m.at)?;
-        add_scalars(work, m.of, from, tags - 1, depth, places)?;
+    let mut left = members.len();
+    while left > 0 {
+        left -= 1;
+        let m = members[left];
+        push_row(rows, single(m.of, moved(at, m.at)?, tags - 1))?;
     }
     Ok(())
+}
+
+// A type that stands at an offset: its parts are looked at next, or it is a scalar.
+fn push_parts(
+    work: &Work,
+    of: u32,
+    at: u64,
+    tags: usize,
+    most: u64,
+    rows: &mut Vec<Row>,
+    places: &mut Vec<Place>,
+) -> Result<(), NoMemory>
+    requires whole { IsWhole work.now.nodes }
+    requires there { of < type_count work.now.nodes }
+    ensures { OnOk result (Walks work.now rows.old.items places.old.items rows.new.items places.new.items
+        (λ s. scalars_of s (tag_scalars tags s) (type_in work.now.nodes of) at)) }
+{
+    match work.nodes.class(of) {
+        Class::Array(element, count) => {
+            check_room(places.as_slice(), most, count)?;
+            let step = size_of(work, element)?;
+            let row = Row {
+                at,
+                of: element,
+                count,
+                step,
+                tags,
+            };
+            push_row(rows, row)
+        }
+        Class::Tagged(tag) => push_members(work, tag, at, tags, rows),
+        Class::Const(inner) => push_row(rows, single(inner, at, tags)),
+        _ => push_place(places, most, Place { at, of }),
+    }
+}
+
+// One step: the first part of a row, before the rest of it.
+fn walk(
+    work: &Work,
+    row: Row,
+    most: u64,
+    rows: &mut Vec<Row>,
+    places: &mut Vec<Place>,
+) -> Result<(), NoMemory>
+    requires whole { IsWhole work.now.nodes }
+    requires there { IsRowThere work.now row }
+    ensures { OnOk result (Walks work.now rows.old.items places.old.items rows.new.items places.new.items
+        (λ s. row_scalars work.now s row)) }
+{
+    if row.count == 0 {
+        return Ok(());
+    }
+    push_rest(work, row, rows)?;
+    push_parts(work, row.of, row.at, row.tags, most, rows, places)
 }

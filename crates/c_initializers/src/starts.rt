@@ -1,13 +1,12 @@
 //! Values that are known before the program runs (C11 6.6p7 to p9).
 
-ghost use Rattle.std.specs.Prelude.{◌≡◌, ◌+◌, ◌≤◌, ◌^◌, pos, ◌*ℤ◌, ◌≤ℤ◌, neg_ℤ};
+ghost use Rattle.std.specs.Prelude.{◌≡◌, ◌+◌, ◌<◌, ◌≤◌, ◌^◌, pos, ◌*ℤ◌, ◌≤ℤ◌, neg_ℤ};
 ghost use Rattle.ck_int.specs.Kinds.{twos_complement, kept_of, value_of, form_of, is_signed};
 ghost use Rattle.c_tree.specs.Statics.{is_near, is_exact, signed_by, bytes_moved};
 
 use c_elaborator::Bounds;
 use c_tree::Target;
 use cap_concentrate::set_bounds;
-use ck_base::NoMemory;
 use ck_int::{IntKind, convert, wrap};
 
 /// A value that is known before the program runs.
@@ -27,7 +26,7 @@ pub struct Pointer {
     pub target: Target,
     pub bounds: Bounds,
     /// Its address, in bytes from the beginning of what it points to.
-    pub offset: i64,
+    pub offset: i128,
 }
 
 /// A value that is known before the program runs, and what it asks of an object whose length is not known yet: the
@@ -35,26 +34,35 @@ pub struct Pointer {
 #[derive(Drop)]
 pub struct Known {
     pub value: Value,
-    pub asks: Vec<i64>,
+    pub asks: Vec<i128>,
 }
 
 // Whether an address is less than 1024 bytes outside its bounds.
-pub(crate) fn is_near(low: u64, length: u64, at: i128) -> bool
-    requires low { neg_ℤ (pos (2 ^ 65)) ≤ℤ at }
-    requires high { at ≤ℤ pos (2 ^ 65) }
+pub(crate) fn is_near(low: u128, length: u64, at: i128) -> bool
+    requires from { low ≤ 2 ^ 100 }
+    requires low { neg_ℤ (pos (2 ^ 101)) ≤ℤ at }
+    requires high { at ≤ℤ pos (2 ^ 101) }
     ensures { result ≡ is_near low length at }
 {
-    let from = i128::from(low);
+    let from = low as i128;
     from < at + 1024 && at < from + i128::from(length) + 1024
 }
 
 // Whether bounds of so many bytes from an offset on are exact.
-pub(crate) fn is_exact(at: u64, n: u64) -> bool
+fn is_exact_low(at: u64, n: u64) -> bool
     requires { at + n ≤ 2 ^ 64 }
     ensures { result ≡ is_exact at n }
 {
     let bounds = set_bounds(at, n);
     bounds.base == at && bounds.top == u128::from(at) + u128::from(n)
+}
+
+// The same of any offset. Bounds that begin 2 ^ 60 bytes further on are as exact.
+pub(crate) fn is_exact(at: u128, n: u64) -> bool
+    requires { n < 2 ^ 62 }
+    ensures { result ≡ is_exact at n }
+{
+    is_exact_low((at % (1 << 60)) as u64, n)
 }
 
 // So many parts of so many bytes, on or back.

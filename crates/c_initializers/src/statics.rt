@@ -105,7 +105,7 @@ fn found_in(work: &Work, slots: &[Slot], known: &[Known]) -> Result<Found, NoMem
 }
 
 // Lengths that an object is asked for, the last one first.
-fn ask(waiting: &mut Vec<Waiting>, pos: Pos, object: u32, asks: &[i64]) -> Result<(), NoMemory>
+fn ask(waiting: &mut Vec<Waiting>, pos: Pos, object: u32, asks: &[i128]) -> Result<(), NoMemory>
     ensures { OnOk result (map pending_of waiting.new.items
         ≡ map pending_of waiting.old.items ++ pendings pos object (reverse asks.now)) }
 {

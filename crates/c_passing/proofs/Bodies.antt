@@ -1,5 +1,5 @@
 -- The body of a function as it is run, and the function.
-use Rattle.std.proofs.Common.{◌≡◌, ℕ, suc, ◌+◌, ◌-◌, ◌<◌, List, [], ◌∷◌, ◌++◌, length, get_or, take, map, Some, refl}
+use Rattle.std.proofs.Common.{◌≡◌, ℕ, suc, ◌+◌, ◌-◌, List, [], ◌∷◌, ◌++◌, length, get_or, take, map, Some, refl}
 use Rattle.std.proofs.Common.{sym, ap}
 use Rattle.std.proofs.Common.{subst, ◌∙◌, ⊎_elim, arith, length-append}
 use Rattle.std.specs.Prelude.{slice_get}
@@ -16,19 +16,22 @@ use Rattle.c_tree.specs.Views.{stmt_from, no_action, action_at, variable_of, rou
 use Rattle.c_tree.specs.Passed.{Names, Passing, hidden_of, passed_action, passing, param_copies, opened, passed_body}
 use Rattle.c_tree.specs.Passed.{passed_routine, result_pointer, written_params, copied_params, named_variables}
 use Rattle.c_copy.specs.Copying.{Extends, AllBelow, actions_in, terms_in}
-use Rattle.c_copy.proofs.Copies.{forest_front, longer}
-use Rattle.c_copy.proofs.Marking.{get-push}
+use Rattle.c_copy.proofs.Copies.{forest_front, longer, extends_then, extends_push}
+use Rattle.c_copy.proofs.Order.{at_end}
+use Rattle.c_copy.proofs.Items.{get-push}
 use Rattle.c_passing.specs.declared.nodes.Source.{Source}
 use Rattle.c_passing.specs.declared.nodes.Made.{Made}
 use Rattle.c_passing.specs.declared.functions.Whole.{Whole}
 use Rattle.c_passing.specs.declared.functions.Standing.{Standing}
 use Rattle.c_passing.specs.Named.{name_in}
 use Rattle.c_passing.specs.Lists.{hidden_of_each, passed_each_action, copies_of}
-use Rattle.c_passing.specs.Passes.{written_action, Fits, HasAction, Hides, ArePassedActions}
+use Rattle.c_passing.specs.Ordered.{Takes, VarsTyped}
+use Rattle.c_passing.specs.Passes.{written_action, Fits, HasAction, Hides, AddsActions, ArePassedActions}
 use Rattle.c_passing.specs.Routines.{WholeFits, written_routine, source_routine, source_variable, IsNamed}
-use Rattle.c_passing.specs.Routines.{AreParamCopies, AreBlockVars, IsBody, IsFunction, AreFunctions}
+use Rattle.c_passing.specs.Routines.{AreParamCopies, AreBlockVars, IsBody, FunctionTyped, IsFunction, AreFunctions}
 use Rattle.c_passing.proofs.Calling.{hides_vars, hides_count}
 use Rattle.c_passing.proofs.Hiding.{copies_list}
+use Rattle.c_passing.proofs.Ordering.{in_stmt, in_stmts}
 use Rattle.c_passing.proofs.Stating.{written_action_is, hidden_action, action_passed_is}
 use Rattle.c_passing.proofs.Trees.{no_terms_have, action_made, no_actions_have}
 
@@ -46,14 +49,12 @@ pub record BodySteps (s : Source) (f : FunDef) (old a b new : Made) (d : Stmt) (
   pub hidden_is : hid ≡ length old.vars.items
   pub end_is : end ≡ length b.vars.items
   pub copies : AreParamCopies s old a before local (map (source_variable s) params) [] js
-  pub vars_same : a.vars ≡ old.vars
-  pub hides : Hides s a b (λ names. hidden_of_each names (map (written_action s) body))
-  pub inner : ArePassedActions s a b (map (written_action s) body) js ls
+  pub inner : AddsActions s a b (λ names. hidden_of_each names (map (written_action s) body))
+      (ArePassedActions s a b (map (written_action s) body) js ls)
   pub block_vars : AreBlockVars s (local, other) vars (hid, end) vs
   pub pushed : new.stmts.items ≡ b.stmts.items ++ record { kind = stmts.Block vs ls; pos = d.pos } ∷ []
   pub number : j ≡ length b.stmts.items
-  pub exprs : new.exprs ≡ b.exprs
-  pub vars_kept : new.vars ≡ b.vars
+  pub rest : new ≡ record b { stmts = new.stmts }
 
 body_read : (s : Source) (f : FunDef) (d : Stmt) (vars body : List ℕ) → slice_get s.program.now.stmts f.body ≡ Some d →
     d.kind ≡ stmts.Block vars body → AllBelow f.body body →
@@ -69,14 +70,14 @@ body_hidden s f d vars body names g q b =
     ap (hidden_of names) (body_read s f d vars body g q b)
     ∙ hidden_action names (tree.Block vars) [] (map (written_action s) body) d.pos
 
-pub body_hides : (s : Source) (f : FunDef) (old a b new : Made) (d : Stmt) (vars body js ls vs : List ℕ)
+body_hides : (s : Source) (f : FunDef) (old a b new : Made) (d : Stmt) (vars body js ls vs : List ℕ)
     (params : List VarDef) (before local other hid end j : ℕ) →
     BodySteps s f old a b new d vars body js ls vs params before local other hid end j →
     Hides s old new (λ names. hidden_of names (written_action s f.body))
 body_hides s f old a b new d vars body js ls vs params before local other hid end j h =
     hides_vars s a b old new (λ names. hidden_of_each names (map (written_action s) body))
-    (λ names. hidden_of names (written_action s f.body)) (sym h.vars_same) h.vars_kept
-    (λ names. sym (body_hidden s f d vars body names h.there h.is h.below)) h.hides
+    (λ names. hidden_of names (written_action s f.body)) (sym h.copies.vars) (ap (λ (m : Made). m.vars) h.rest)
+    (λ names. sym (body_hidden s f d vars body names h.there h.is h.below)) h.inner.hides
 
 passed_block : (e : Passing) (n : ℕ) (vars : List ℕ) (ys : List Action) (p : Pos) →
     passed_action e n (action (tree.Block vars) (terms []) (actions ys) p)
@@ -86,11 +87,12 @@ passed_block e n vars ys p =
     action_passed_is e n (tree.Block vars) [] ys p (λ x q r. absurd cc)
     ∙ ap (λ m. action (tree.Block (map e.number vars)) (terms []) (actions (passed_each_action e m ys)) p) z
 
-pub body_made : (s : Source) (f : FunDef) (old a b new : Made) (d : Stmt) (vars body js ls vs : List ℕ)
+body_passed : (s : Source) (f : FunDef) (old a b new : Made) (d : Stmt) (vars body js ls vs : List ℕ)
     (params : List VarDef) (before local other hid end j : ℕ) →
     BodySteps s f old a b new d vars body js ls vs params before local other hid end j →
     IsBody s (source_routine s f) old new j
-body_made s f old a b new d vars body js ls vs params before local other hid end j h = record {
+body_passed s f old a b new d vars body js ls vs params before local other hid end j h = record {
+  there = at_end b.stmts.items new.stmts.items _ j h.number h.pushed;
   is = λ ts names fits count.
       let r = source_routine s f in
       let e = passing names r in
@@ -101,9 +103,9 @@ body_made s f old a b new d vars body js ls vs params before local other hid end
       let hidden = length (named_variables r) in
       let local_copied : local ≡ copied = let x = h.local_is in let y = h.before_is in omega arith in
       let some : other - local ≡ length (copied_params r) = let x = h.other_is in omega arith in
-      let same_count : length a.vars.items ≡ n = ap (λ z. length z.items) h.vars_same in
+      let same_count : length a.vars.items ≡ n = ap (λ z. length z.items) h.copies.vars in
       let grown : end ≡ n + length (hidden_of_each names ys) =
-      h.end_is ∙ hides_count s a b (λ z. hidden_of_each z ys) ts e h.hides fits
+      h.end_is ∙ hides_count s a b (λ z. hidden_of_each z ys) ts e h.inner.hides fits
       ∙ ap (λ m. m + length (hidden_of_each names ys)) same_count in
       let others : end - hid ≡ length (hidden_of names r.body) =
       let x = h.hidden_is in
@@ -116,7 +118,7 @@ body_made s f old a b new d vars body js ls vs params before local other hid end
       let mid = map e.number vars in
       let copies = copies_of result copied (written_params r) in
       let one = h.copies.are ts e [] fits (no_actions_have ts old.exprs.items old.stmts.items) in
-      let two = h.inner.are ts e (copies_of before local (map (source_variable s) params)) fits one in
+      let two = h.inner.is.are ts e (copies_of before local (map (source_variable s) params)) fits one in
       let zs = copies_of before local (map (source_variable s) params)
       ++ passed_each_action e (length a.vars.items) ys in
       let made = action_made ts b.exprs.items b.stmts.items new.stmts.items
@@ -145,7 +147,25 @@ body_made s f old a b new d vars body js ls vs params before local other hid end
       ap (λ z. action (tree.Block vs) (terms []) (actions z) d.pos) zs_are
       ∙ ap (λ z. action (tree.Block z) (terms []) (actions (copies ++ passed_each_action e hidden ys)) d.pos) vs_are
       ∙ sym whole in
-      subst (λ z. HasAction ts new.exprs.items new.stmts.items j z) is (rw h.exprs made);
+      subst (λ z. HasAction ts new.exprs.items new.stmts.items j z) is (rw (ap (λ (m : Made). m.exprs) h.rest) made);
+  ordered = λ t us ws o.
+      in_stmt (length s.types.now.list.items) b new (record { kind = stmts.Block vs ls; pos = d.pos }) j [] ls h.pushed
+      (ap (λ (m : Made). m.exprs.items) h.rest) h.number refl refl us ws
+      (h.inner.is.ordered t us ws (h.copies.ordered t us ws o));
+}
+
+pub body_made : (s : Source) (f : FunDef) (old a b new : Made) (d : Stmt) (vars body js ls vs : List ℕ)
+    (params : List VarDef) (before local other hid end j : ℕ) →
+    BodySteps s f old a b new d vars body js ls vs params before local other hid end j →
+    AddsActions s old new (λ names. hidden_of names (written_action s f.body))
+    (IsBody s (source_routine s f) old new j)
+body_made s f old a b new d vars body js ls vs params before local other hid end j h = record {
+  exprs = subst (λ es. Extends old.exprs.items es) (sym (ap (λ (m : Made). m.exprs.items) h.rest))
+      (extends_then old.exprs.items a.exprs.items b.exprs.items h.copies.exprs h.inner.exprs);
+  stmts = extends_push old.stmts.items b.stmts.items new.stmts.items _
+      (extends_then old.stmts.items a.stmts.items b.stmts.items h.copies.stmts h.inner.stmts) h.pushed;
+  hides = body_hides s f old a b new d vars body js ls vs params before local other hid end j h;
+  is = body_passed s f old a b new d vars body js ls vs params before local other hid end j h;
 }
 
 -- ---- the function
@@ -164,9 +184,8 @@ pub record FunctionSteps (w : Whole) (s : Source) (f g : FunDef) (n : Standing) 
   pub numbers : s.numbers.now ≡ n.numbers.items
   pub standing : IsNamed w f (length f.vars) n (named_variables (written_routine w f))
   pub vars : old.vars.items ≡ n.vars.items
-  pub hides : Hides s old new (λ names. hidden_of names (written_action s f.body))
-  pub body : IsBody s (source_routine s f) old new g.body
-  pub there : g.body < length new.stmts.items
+  pub made : AddsActions s old new (λ names. hidden_of names (written_action s f.body))
+      (IsBody s (source_routine s f) old new g.body)
   pub name : g.name ≡ f.name
   pub pos : g.pos ≡ f.pos
   pub of : get_or w.types.now.numbers.items f.of 0 ≡ g.of
@@ -184,19 +203,26 @@ routine_same a b n p t k v x =
     ∙ ap (λ z. record b { body = z }) x
 
 pub function_made : (w : Whole) (s : Source) (f g : FunDef) (n : Standing) (old new : Made) →
-    FunctionSteps w s f g n old new → IsFunction w (written_routine w f) new g
+    FunctionSteps w s f g n old new → IsFunction w (written_routine w f) old new g
 function_made w s f g n old new h = record {
-  there = h.there;
+  exprs = h.made.exprs;
+  stmts = h.made.stmts;
+  there = h.made.is.there;
+  typed = λ z.
+      let hidden : VarsTyped w.types.now old.vars.items new.vars.items =
+      subst (λ t. VarsTyped t.now old.vars.items new.vars.items) h.types h.made.hides.typed in
+      (z.numbers f.of g.of h.of, rw (h.all) (hidden z (rw (h.vars) (h.standing.vars.typed z))));
+  ordered = subst (λ t. Takes t.now old new [] [] [] (g.body ∷ [])) h.types h.made.is.ordered;
   is = λ ts names more fits nm.
       let r = written_routine w f in
       let same : source_routine s f ≡ r = rw h.program refl in
       let fit = source_fits w s f n (named_variables r)
       (length f.vars) ts names h.program h.types h.names h.numbers h.standing fits nm in
-      let body : IsBody s r old new g.body = subst (λ x. IsBody s x old new g.body) same h.body in
+      let body : IsBody s r old new g.body = subst (λ x. IsBody s x old new g.body) same h.made.is in
       let count : length old.vars.items ≡ length (named_variables r) = ap length h.vars ∙ h.standing.vars.count in
       let made = body.is ts names fit count in
       let vars : map (variable_of ts) g.vars ≡ named_variables r ++ hidden_of names r.body =
-      ap (map (variable_of ts)) h.all ∙ h.hides.are ts (passing names r) fit
+      ap (map (variable_of ts)) h.all ∙ h.made.hides.are ts (passing names r) fit
       ∙ ap (λ zs. zs ++ hidden_of names (source_routine s f).body)
       (ap (map (variable_of ts)) h.vars ∙ h.standing.vars.is ts fits)
       ∙ ap (λ (x : Routine). named_variables r ++ hidden_of names x.body) same in
@@ -215,30 +241,44 @@ routines_kept ts xs ys (f ∷ fs) h =
     ap (λ b. record (routine_of ts xs f) { body = b } ∷ map (routine_of ts xs) fs) (h 0 f refl)
     ∙ ap (λ zs. routine_of ts ys f ∷ zs) (routines_kept ts xs ys fs (λ k g e. h (suc k) g e))
 
-pub no_functions : (w : Whole) (a : Made) → AreFunctions w [] a []
-no_functions w a = record { there = λ k f e. absurd cc; are = λ ts names more fits nm. refl }
-
-pub functions_push : (w : Whole) (rs : List Routine) (r : Routine) (a b : Made) (fs gs : List FunDef) (g : FunDef) →
-    AreFunctions w rs a fs → Extends a.exprs.items b.exprs.items → Extends a.stmts.items b.stmts.items →
-    IsFunction w r b g →
-    gs ≡ fs ++ g ∷ [] → AreFunctions w (rs ++ r ∷ []) b gs
-functions_push w rs r a b fs gs g h ext sext is e = record {
-  there = λ k f q.
-      ⊎_elim (λ x. let l = h.there k f x in let m = ap length sext.1 in
-      omega (arith, length-append a.stmts.items sext.0)) (λ x. rw (← x.1) is.there)
-      (get-push fs g k f (ap (λ zs. slice_get zs k) (sym e) ∙ q));
-  are = λ ts names more fits nm.
-      let now = actions_in ts (b.exprs.items ++ more) b.stmts.items in
-      let before = actions_in ts (a.exprs.items ++ (ext.0 ++ more)) a.stmts.items in
-      let kept : map (routine_of ts now) fs ≡ map (routine_of ts before) fs =
-      routines_kept ts now before fs
-      (λ k f q.
-      ap (λ ss. action_at (actions_in ts (b.exprs.items ++ more) ss) f.body) sext.1
-      ∙ forest_front (stmt_from (terms_in ts (b.exprs.items ++ more))) no_action a.stmts.items sext.0 f.body
-      (h.there k f q)
-      ∙ ap (λ zs. action_at (actions_in ts zs a.stmts.items) f.body) (longer a.exprs.items b.exprs.items more ext)) in
-      ap (map (routine_of ts now)) e ∙ map-append (routine_of ts now) fs (g ∷ [])
-      ∙ ap (λ zs. zs ++ routine_of ts now g ∷ []) (kept ∙ h.are ts names (ext.0 ++ more) fits nm)
-      ∙ ap (λ z. map (passed_routine names) rs ++ z ∷ []) (is.is ts names more fits nm)
-      ∙ sym (map-append (passed_routine names) rs (r ∷ []));
+pub no_functions : (w : Whole) (a : Made) → AreFunctions w [] a a []
+no_functions w a = record {
+  there = λ k f e. absurd cc;
+  typed = λ k f e. absurd cc;
+  ordered = λ t us vs o. o;
+  are = λ ts names more fits nm. refl;
 }
+
+pub functions_push : (w : Whole) (rs : List Routine) (r : Routine) (old a b : Made) (fs gs : List FunDef) (g : FunDef) →
+    AreFunctions w rs old a fs → IsFunction w r a b g →
+    gs ≡ fs ++ g ∷ [] → AreFunctions w (rs ++ r ∷ []) old b gs
+functions_push w rs r old a b fs gs g h is e =
+    let ext = is.exprs in
+    let sext = is.stmts in
+    record {
+      there = λ k f q.
+          ⊎_elim (λ x. let l = h.there k f x in let m = ap length sext.1 in
+          omega (arith, length-append a.stmts.items sext.0)) (λ x. rw (← x.1) is.there)
+          (get-push fs g k f (ap (λ zs. slice_get zs k) (sym e) ∙ q));
+      typed = λ k f q.
+          ⊎_elim (λ x. h.typed k f x) (λ x. subst (FunctionTyped w) x.1 is.typed)
+          (get-push fs g k f (ap (λ zs. slice_get zs k) (sym e) ∙ q));
+      ordered = λ t.
+          let body : FunDef → ℕ = λ f. f.body in
+          in_stmts (length w.types.now.list.items) old a b [] [] [] (map body fs) (map body gs) g.body (h.ordered t)
+          (is.ordered t) (ap (map body) e ∙ map-append body fs (g ∷ []));
+      are = λ ts names more fits nm.
+          let now = actions_in ts (b.exprs.items ++ more) b.stmts.items in
+          let before = actions_in ts (a.exprs.items ++ (ext.0 ++ more)) a.stmts.items in
+          let kept : map (routine_of ts now) fs ≡ map (routine_of ts before) fs =
+          routines_kept ts now before fs
+          (λ k f q.
+          ap (λ ss. action_at (actions_in ts (b.exprs.items ++ more) ss) f.body) sext.1
+          ∙ forest_front (stmt_from (terms_in ts (b.exprs.items ++ more))) no_action a.stmts.items sext.0 f.body
+          (h.there k f q)
+          ∙ ap (λ zs. action_at (actions_in ts zs a.stmts.items) f.body) (longer a.exprs.items b.exprs.items more ext)) in
+          ap (map (routine_of ts now)) e ∙ map-append (routine_of ts now) fs (g ∷ [])
+          ∙ ap (λ zs. zs ++ routine_of ts now g ∷ []) (kept ∙ h.are ts names (ext.0 ++ more) fits nm)
+          ∙ ap (λ z. map (passed_routine names) rs ++ z ∷ []) (is.is ts names more fits nm)
+          ∙ sym (map-append (passed_routine names) rs (r ∷ []));
+    }

@@ -13,14 +13,15 @@ use Rattle.c_tree.specs.Views.{values, parts}
 use Rattle.c_tree.specs.Passed.{Names, Passing, by_pointer, hidden_in, hidden_of, ahead, passed_form, passed_term}
 use Rattle.c_tree.specs.Passed.{passed_action, given_back}
 use Rattle.c_copy.specs.Copying.{Extends, AllBelow, stmt_form}
-use Rattle.c_copy.proofs.Copies.{action_same}
+use Rattle.c_copy.proofs.Copies.{action_same, extends_then, extends_push}
 use Rattle.c_passing.specs.declared.nodes.Source.{Source}
 use Rattle.c_passing.specs.declared.nodes.Made.{Made}
 use Rattle.c_passing.specs.Lists.{hidden_in_each, hidden_of_each, passed_each, passed_each_action}
 use Rattle.c_passing.specs.Passes.{written_type, written_term, written_action, Fits, HasTerms, HasAction, HasActions}
-use Rattle.c_passing.specs.Passes.{Hides, IsPassed, ArePassed, IsGivenBack, IsGivenValue, IsReturned, IsPassedAction}
-use Rattle.c_passing.specs.Passes.{ArePassedActions}
+use Rattle.c_passing.specs.Passes.{Hides, AddsTerms, IsPassed, ArePassed, AddsActions, IsGivenBack, IsGivenValue}
+use Rattle.c_passing.specs.Passes.{IsReturned, IsPassedAction, ArePassedActions}
 use Rattle.c_passing.proofs.Calling.{hides_then, hides_vars, hides_count}
+use Rattle.c_passing.proofs.Ordering.{in_then, in_stmt}
 use Rattle.c_passing.proofs.Stating.{written_action_is, hidden_action, GivesPlainly, action_passed_is}
 use Rattle.c_passing.proofs.Stating.{return_by_pointer}
 use Rattle.c_passing.proofs.Trees.{terms_more, action_made, no_actions_have, actions_more}
@@ -61,27 +62,23 @@ pub record Built (s : Source) (old a b c new : Made) (k j : ℕ) (d r : Stmt) (v
   pub there : slice_get s.program.now.stmts k ≡ Some d
   pub below : AllBelow k (parts d.kind)
   pub plainly : IsReturned s d.kind None
-  pub hides_first : Hides s old a (λ names. hidden_of_each names
-      (map (written_action s) (take (ahead (stmt_form d.kind)) (parts d.kind))))
-  pub hides_values : Hides s a b (λ names. hidden_in_each names (map (written_term s) (values d.kind)))
-  pub hides_last : Hides s b c (λ names. hidden_of_each names
-      (map (written_action s) (drop (ahead (stmt_form d.kind)) (parts d.kind))))
-  pub first : ArePassedActions s old a (map (written_action s) (take (ahead (stmt_form d.kind)) (parts d.kind))) [] js
-  pub operands : ArePassed s a b (map (written_term s) (values d.kind)) vs
-  pub last : ArePassedActions s b c (map (written_action s) (drop (ahead (stmt_form d.kind)) (parts d.kind))) js ls
-  pub exprs_between : Extends a.exprs.items b.exprs.items
-  pub stmts_between : b.stmts ≡ a.stmts
-  pub exprs_behind : Extends b.exprs.items c.exprs.items
+  pub front : AddsActions s old a
+      (λ names. hidden_of_each names (map (written_action s) (take (ahead (stmt_form d.kind)) (parts d.kind))))
+      (ArePassedActions s old a (map (written_action s) (take (ahead (stmt_form d.kind)) (parts d.kind))) [] js)
+  pub mid : AddsTerms s a b (λ names. hidden_in_each names (map (written_term s) (values d.kind)))
+      (ArePassed s a b (map (written_term s) (values d.kind)) vs)
+  pub back : AddsActions s b c
+      (λ names. hidden_of_each names (map (written_action s) (drop (ahead (stmt_form d.kind)) (parts d.kind))))
+      (ArePassedActions s b c (map (written_action s) (drop (ahead (stmt_form d.kind)) (parts d.kind))) js ls)
   pub values_are : values r.kind ≡ vs
   pub parts_are : parts r.kind ≡ ls
   pub form : (ts : List Ty) (e : Passing) → Fits s ts e → stmt_form r.kind ≡ passed_form e (stmt_form d.kind)
   pub place : r.pos ≡ d.pos
   pub pushed : new.stmts.items ≡ c.stmts.items ++ r ∷ []
   pub number : j ≡ length c.stmts.items
-  pub exprs : new.exprs ≡ c.exprs
-  pub vars : new.vars ≡ c.vars
+  pub rest : new ≡ record c { stmts = new.stmts }
 
-pub statement_hides : (s : Source) (old a b c new : Made) (k j : ℕ) (d r : Stmt) (vs js ls : List ℕ) →
+statement_hides : (s : Source) (old a b c new : Made) (k j : ℕ) (d r : Stmt) (vs js ls : List ℕ) →
     Built s old a b c new k j d r vs js ls → Hides s old new (λ names. hidden_of names (written_action s k))
 statement_hides s old a b c new k j d r vs js ls h =
     let n = ahead (stmt_form d.kind) in
@@ -89,10 +86,10 @@ statement_hides s old a b c new k j d r vs js ls h =
     let first : Names → List Variable = λ names. hidden_of_each names (map (written_action s) (take n ps)) in
     let mid : Names → List Variable = λ names. hidden_in_each names (map (written_term s) (values d.kind)) in
     let last : Names → List Variable = λ names. hidden_of_each names (map (written_action s) (drop n ps)) in
-    let both = hides_then s old a b first mid h.hides_first h.hides_values in
-    let all = hides_then s old b c (λ names. first names ++ mid names) last both h.hides_last in
+    let both = hides_then s old a b first mid h.front.hides h.mid.hides in
+    let all = hides_then s old b c (λ names. first names ++ mid names) last both h.back.hides in
     hides_vars s old c old new (λ names. (first names ++ mid names) ++ last names)
-    (λ names. hidden_of names (written_action s k)) refl h.vars
+    (λ names. hidden_of names (written_action s k)) refl (ap (λ (m : Made). m.vars) h.rest)
     (λ names.
     sym (ap (hidden_of names) (written_action_is s k d h.there h.below)
     ∙ hidden_action names (stmt_form d.kind) (map (written_term s) (values d.kind)) (map (written_action s) ps) d.pos
@@ -101,7 +98,7 @@ statement_hides s old a b c new k j d r vs js ls h =
     ∙ ap (λ ys. (first names ++ mid names) ++ hidden_of_each names ys) (drop-map (written_action s) n ps)))
     all
 
-pub statement_passed : (s : Source) (old a b c new : Made) (k j : ℕ) (d r : Stmt) (vs js ls : List ℕ) →
+statement_passed : (s : Source) (old a b c new : Made) (k j : ℕ) (d r : Stmt) (vs js ls : List ℕ) →
     Built s old a b c new k j d r vs js ls → IsPassedAction s old new (written_action s k) j
 statement_passed s old a b c new k j d r vs js ls h = record {
   is = λ ts e fits.
@@ -116,16 +113,16 @@ statement_passed s old a b c new k j d r vs js ls h = record {
       let v = length a.vars.items in
       let w = length b.vars.items in
       let v_is : v ≡ u + length (hidden_of_each e.names front) =
-      hides_count s old a (λ names. hidden_of_each names front) ts e h.hides_first fits in
+      hides_count s old a (λ names. hidden_of_each names front) ts e h.front.hides fits in
       let w_is : w ≡ v + length (hidden_in_each e.names xs) =
-      hides_count s a b (λ names. hidden_in_each names xs) ts e h.hides_values fits in
-      let one = h.first.are ts e [] fits (no_actions_have ts old.exprs.items old.stmts.items) in
+      hides_count s a b (λ names. hidden_in_each names xs) ts e h.mid.hides fits in
+      let one = h.front.is.are ts e [] fits (no_actions_have ts old.exprs.items old.stmts.items) in
       let one-b = actions_more ts a.exprs.items b.exprs.items a.stmts.items b.stmts.items js
-      (passed_each_action e u front) h.exprs_between
-      ([], ap (λ z. z.items) h.stmts_between ∙ sym (append-nil a.stmts.items)) one in
-      let two = h.last.are ts e (passed_each_action e u front) fits one-b in
-      let terms-c = terms_more ts b.exprs.items c.exprs.items vs (passed_each e v xs) h.exprs_behind
-      (h.operands.are ts e fits) in
+      (passed_each_action e u front) h.mid.extends
+      ([], ap (λ z. z.items) h.mid.stmts ∙ sym (append-nil a.stmts.items)) one in
+      let two = h.back.is.are ts e (passed_each_action e u front) fits one-b in
+      let terms-c = terms_more ts b.exprs.items c.exprs.items vs (passed_each e v xs) h.back.exprs
+      (h.mid.is.are ts e fits) in
       let zs = passed_each_action e u front ++ passed_each_action e w back in
       let made =
       action_made ts c.exprs.items c.stmts.items new.stmts.items r j (passed_each e v xs) zs h.pushed h.number
@@ -137,7 +134,27 @@ statement_passed s old a b c new k j d r vs js ls h = record {
       ∙ sym (ap (passed_action e u) (written_action_is s k d h.there h.below)
       ∙ action_passed_is e u f xs ys d.pos (gives_plainly s d.kind h.plainly)
       ∙ rw (take-map (written_action s) n ps, drop-map (written_action s) n ps, ← v_is, ← w_is) refl) in
-      subst (λ z. HasAction ts new.exprs.items new.stmts.items j z) is (rw h.exprs made);
+      subst (λ z. HasAction ts new.exprs.items new.stmts.items j z) is (rw (ap (λ (m : Made). m.exprs) h.rest) made);
+  ordered = λ t us ws o.
+      in_stmt (length s.types.now.list.items) c new r j vs ls h.pushed (ap (λ (m : Made). m.exprs.items) h.rest) h.number
+      h.values_are h.parts_are us ws
+      (h.back.is.ordered t (vs ++ us) ws (h.mid.is.ordered t us (js ++ ws) (h.front.is.ordered t us ws o)));
+}
+
+pub statement_made : (s : Source) (old a b c new : Made) (k j : ℕ) (d r : Stmt) (vs js ls : List ℕ) →
+    Built s old a b c new k j d r vs js ls →
+    AddsActions s old new (λ names. hidden_of names (written_action s k))
+    (IsPassedAction s old new (written_action s k) j)
+statement_made s old a b c new k j d r vs js ls h = record {
+  exprs = subst (λ es. Extends old.exprs.items es) (sym (ap (λ (m : Made). m.exprs.items) h.rest))
+      (extends_then old.exprs.items b.exprs.items c.exprs.items
+      (extends_then old.exprs.items a.exprs.items b.exprs.items h.front.exprs h.mid.extends) h.back.exprs);
+  stmts =
+      extends_push old.stmts.items c.stmts.items new.stmts.items r
+      (extends_then old.stmts.items a.stmts.items c.stmts.items h.front.stmts
+      (subst (λ ss. Extends ss.items c.stmts.items) h.mid.stmts h.back.stmts)) h.pushed;
+  hides = statement_hides s old a b c new k j d r vs js ls h;
+  is = statement_passed s old a b c new k j d r vs js ls h;
 }
 
 -- ---- and one that does
@@ -150,7 +167,7 @@ returned_is s k x d g q =
     ∙ ap (λ z. action (stmt_form z) (terms (map (written_term s) (values z)))
     (actions (map (written_action s) (parts z))) d.pos) q
 
-pub returned_hides : (s : Source) (old a new : Made) (k x : ℕ) (d : Stmt) → slice_get s.program.now.stmts k ≡ Some d →
+returned_hides : (s : Source) (old a new : Made) (k x : ℕ) (d : Stmt) → slice_get s.program.now.stmts k ≡ Some d →
     d.kind ≡ stmts.Return (Some x) → Hides s old a (λ names. hidden_in names (written_term s x)) → new.vars ≡ a.vars →
     Hides s old new (λ names. hidden_of names (written_action s k))
 returned_hides s old a new k x d g q h v =
@@ -160,7 +177,7 @@ returned_hides s old a new k x d g q h v =
     ∙ append-nil (hidden_in names (written_term s x) ++ []) ∙ append-nil (hidden_in names (written_term s x))))
     h
 
-pub returned_passed : (s : Source) (old a new : Made) (k x t value j : ℕ) (d : Stmt) →
+returned_passed : (s : Source) (old a new : Made) (k x t value j : ℕ) (d : Stmt) →
     slice_get s.program.now.stmts k ≡ Some d → IsReturned s d.kind (Some (x, t)) →
     IsPassed s old a (written_term s x) value → IsGivenBack s a new value t d.pos j →
     IsPassedAction s old new (written_action s k) j
@@ -173,6 +190,21 @@ returned_passed s old a new k x t value j d g r p h = record {
       ∙ sym (ap (passed_action e n) (returned_is s k x d g r.0)
       ∙ return_by_pointer e n (written_term s x) d.pos r.1) in
       subst (λ z. HasAction ts new.exprs.items new.stmts.items j z) is (h.is ts e y fits (p.is ts e fits));
+  ordered = λ z. in_then (length s.types.now.list.items) old a new [] [] (value ∷ []) [] [] (j ∷ []) (p.ordered z)
+      (h.ordered z);
+}
+
+pub returned_made : (s : Source) (old a new : Made) (k x t value j : ℕ) (d : Stmt) →
+    slice_get s.program.now.stmts k ≡ Some d → IsReturned s d.kind (Some (x, t)) →
+    AddsTerms s old a (λ names. hidden_in names (written_term s x)) (IsPassed s old a (written_term s x) value) →
+    IsGivenBack s a new value t d.pos j →
+    AddsActions s old new (λ names. hidden_of names (written_action s k))
+    (IsPassedAction s old new (written_action s k) j)
+returned_made s old a new k x t value j d g r p h = record {
+  exprs = extends_then old.exprs.items a.exprs.items new.exprs.items p.extends h.exprs;
+  stmts = subst (λ ss. Extends ss.items new.stmts.items) p.stmts h.stmts;
+  hides = returned_hides s old a new k x d g r.0 p.hides h.vars;
+  is = returned_passed s old a new k x t value j d g r p.is h;
 }
 
 -- ---- what is returned

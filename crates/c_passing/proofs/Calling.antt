@@ -1,6 +1,6 @@
 -- Hidden locals, arguments that go by pointers, and calls.
-use Rattle.std.proofs.Common.{◌≡◌, ℕ, ◌+◌, true, false, List, [], ◌∷◌, ◌++◌, length, get_or, map, Some, None, refl, sym}
-use Rattle.std.proofs.Common.{ap, ◌∙◌, length-append, append_assoc}
+use Rattle.std.proofs.Common.{◌≡◌, ℕ, ◌+◌, ◌<◌, true, false, List, [], ◌∷◌, ◌++◌, length, get_or, map, Some, None, refl, sym}
+use Rattle.std.proofs.Common.{ap, subst, ◌∙◌, length-append, append_assoc}
 use Rattle.std.specs.Prelude.{slice_get}
 use Rattle.std.proofs.lemmas.List.{append-nil, map-append, length-map}
 use Rattle.ck_base.specs.declared.positions.Pos.{Pos}
@@ -18,8 +18,11 @@ use Rattle.c_copy.proofs.Copies.{kind_is}
 use Rattle.c_passing.specs.declared.nodes.Source.{Source}
 use Rattle.c_passing.specs.declared.nodes.Made.{Made}
 use Rattle.c_passing.specs.Named.{name_in}
+use Rattle.c_passing.specs.declared.types.Types.{Types}
+use Rattle.c_passing.specs.Ordered.{VarsThere, TakesIn, Takes}
 use Rattle.c_passing.specs.Passes.{written_type, written_term, Fits, HasTerm, HasTerms, Hides, IsHidden}
 use Rattle.c_passing.proofs.Numbering.{tagged_goes, tagged_same, tagged_bare}
+use Rattle.c_passing.proofs.Ordering.{expr_first, vars_push, in_push}
 use Rattle.c_passing.proofs.Trees.{term_more, term_end}
 
 -- ---- hidden locals
@@ -28,6 +31,7 @@ pub hides_none : (s : Source) (a b : Made) → b.vars ≡ a.vars → Hides s a b
 hides_none s a b q = record {
   are = λ ts e f. ap (λ vs. map (variable_of ts) vs.items) q
       ∙ sym (append-nil (map (variable_of ts) a.vars.items));
+  typed = λ t h. subst (λ vs. VarsThere (length s.types.now.list.items) vs.items) (sym q) h;
 }
 
 pub hides_then : (s : Source) (a b c : Made) (f g : Names → List Variable) → Hides s a b f → Hides s b c g →
@@ -35,6 +39,7 @@ pub hides_then : (s : Source) (a b c : Made) (f g : Names → List Variable) →
 hides_then s a b c f g h i = record {
   are = λ ts e fits. i.are ts e fits ∙ ap (λ vs. vs ++ g e.names) (h.are ts e fits)
       ∙ append_assoc (map (variable_of ts) a.vars.items) (f e.names) (g e.names);
+  typed = λ t v. i.typed t (h.typed t v);
 }
 
 -- what else was made does not matter
@@ -45,6 +50,9 @@ hides_vars s a b c d f g q r e h = record {
       ap (λ vs. map (variable_of ts) vs.items) r ∙ h.are ts p fits
       ∙ ap (λ vs. map (variable_of ts) a.vars.items ++ vs) (e p.names)
       ∙ ap (λ vs. map (variable_of ts) vs.items ++ g p.names) (sym q);
+  typed = λ t v.
+      subst (λ vs. VarsThere (length s.types.now.list.items) vs.items) (sym r)
+      (h.typed t (subst (λ vs. VarsThere (length s.types.now.list.items) vs.items) q v));
 }
 
 -- how many variables there are then
@@ -104,6 +112,9 @@ hides_one s a b of t n p v h g q r = record {
       ap (map (variable_of ts)) r ∙ map-append (variable_of ts) a.vars.items (v ∷ [])
       ∙ ap (λ x. map (variable_of ts) a.vars.items ++ x ∷ []) (variable_same s ts e of t n p v fits h g q)
       ∙ ap (λ vs. map (variable_of ts) a.vars.items ++ vs) (sym (is_hidden e.names p (written_type s of) h.0));
+  typed = λ w vs.
+      vars_push (length s.types.now.list.items) a.vars.items b.vars.items v vs
+      (subst (λ (y : VarDef). y.of < length s.types.now.list.items) (sym q) (w.numbers t n g)) r;
 }
 
 -- the type of a written expression is that of its node
@@ -209,3 +220,45 @@ result_made s ts e a b c d h called t n list p k l j f ys fits g u hf hl bq kq c
     (term tree.Call (with_term f (terms ys)) (type_at ts 0) p)
     (leaf (tree.Var h) (type_at ts n) p) dq jq refl call-c place in
     record { there = comma.there; is = comma.is ∙ rw (tn, tv) refl }
+
+-- ---- in order
+
+pub address_ordered : (s : Types) (a b c d f : Made) (h value t n m : ℕ) (p : Pos) (k l i j : ℕ) →
+    get_or s.numbers.items t 0 ≡ n → get_or s.pointers.items t 0 ≡ m →
+    b.exprs.items ≡ a.exprs.items ++ record { kind = exprs.Var h; of = n; pos = p } ∷ [] →
+    b ≡ record a { exprs = b.exprs } → k ≡ length a.exprs.items →
+    c.exprs.items ≡ b.exprs.items ++ record { kind = exprs.Assign k value; of = n; pos = p } ∷ [] →
+    c ≡ record b { exprs = c.exprs } → l ≡ length b.exprs.items →
+    ((w : ℕ) → m < w → n < w → TakesIn w c d [] [] (i ∷ []) []) →
+    f.exprs.items ≡ d.exprs.items ++ record { kind = exprs.Comma l i; of = m; pos = p } ∷ [] →
+    f ≡ record d { exprs = f.exprs } → j ≡ length d.exprs.items → Takes s a f (value ∷ []) [] (j ∷ []) []
+address_ordered s a b c d f h value t n m p k l i j u v bq br kq cq cr lq x fq fr jq = λ z us vs o.
+    let w = length s.list.items in
+    let tn = z.numbers t n u in
+    let tm = z.pointers t m v in
+    let one = in_push w a b (record { kind = exprs.Var h; of = n; pos = p }) k [] bq
+    (ap (λ (y : Made). y.stmts.items) br) kq tn refl (value ∷ us) vs o in
+    let two = in_push w b c (record { kind = exprs.Assign k value; of = n; pos = p }) l (k ∷ value ∷ []) cq
+    (ap (λ (y : Made). y.stmts.items) cr) lq tn refl us vs one in
+    let three = expr_first w d.exprs.items d.stmts.items l (i ∷ []) us vs (x w tm tn (l ∷ us) vs two) in
+    in_push w d f (record { kind = exprs.Comma l i; of = m; pos = p }) j (l ∷ i ∷ []) fq
+    (ap (λ (y : Made). y.stmts.items) fr) jq tm refl us vs three
+
+pub result_ordered : (s : Types) (a b c d : Made) (h called t n : ℕ) (list : List ℕ) (p : Pos) (k l j : ℕ) →
+    get_or s.numbers.items t 0 ≡ n →
+    b.exprs.items ≡ a.exprs.items ++ record { kind = exprs.Call called list; of = 0; pos = p } ∷ [] →
+    b ≡ record a { exprs = b.exprs } → k ≡ length a.exprs.items →
+    c.exprs.items ≡ b.exprs.items ++ record { kind = exprs.Var h; of = n; pos = p } ∷ [] →
+    c ≡ record b { exprs = c.exprs } → l ≡ length b.exprs.items →
+    d.exprs.items ≡ c.exprs.items ++ record { kind = exprs.Comma k l; of = n; pos = p } ∷ [] →
+    d ≡ record c { exprs = d.exprs } → j ≡ length c.exprs.items → Takes s a d (called ∷ list) [] (j ∷ []) []
+result_ordered s a b c d h called t n list p k l j u bq br kq cq cr lq dq dr jq = λ z us vs o.
+    let w = length s.list.items in
+    let tn = z.numbers t n u in
+    let one = in_push w a b (record { kind = exprs.Call called list; of = 0; pos = p }) k (called ∷ list) bq
+    (ap (λ (y : Made). y.stmts.items) br) kq z.void refl us vs o in
+    let two = in_push w b c (record { kind = exprs.Var h; of = n; pos = p }) l [] cq
+    (ap (λ (y : Made). y.stmts.items) cr) lq tn refl (k ∷ us) vs one in
+    let three = expr_first w c.exprs.items c.stmts.items k (l ∷ []) us vs two in
+    in_push w c d (record { kind = exprs.Comma k l; of = n; pos = p }) j (k ∷ l ∷ []) dq
+    (ap (λ (y : Made). y.stmts.items) dr) jq tn refl us vs three

@@ -14,10 +14,12 @@ use Rattle.c_tree.specs.Types.{Ty, Void, Int, Cap, Pointer, Array, Tagged, Funct
 use Rattle.c_tree.specs.Views.{grow, type_from, type_at, types_of, tys, member_of}
 use Rattle.c_tree.specs.Passed.{by_pointer, passed, all_passed, passed_member, result_types}
 use Rattle.c_copy.proofs.Copies.{at_seam, forest_front, grow-append, length-grow}
-use Rattle.c_copy.proofs.Marking.{get-push}
+use Rattle.c_copy.specs.Copying.{AllBelow}
+use Rattle.c_copy.proofs.Items.{get-push}
+use Rattle.c_copy.proofs.Order.{below_push}
 use Rattle.c_passing.specs.declared.types.Types.{Types}
 use Rattle.c_passing.specs.Numbered.{type_in, is_record, const_of, gives_of, IsGivenIn, IsBare, IsNumber, IsPointer}
-use Rattle.c_passing.specs.Numbered.{StartsVoid, IsKept, Follows, AddsType, Keeps, passed_parameter, AreParameters}
+use Rattle.c_passing.specs.Numbered.{StartsVoid, IsKept, IsBehind, Follows, AddsType, Keeps, passed_parameter, AreParameters}
 use Rattle.c_passing.specs.Numbered.{AreRenumbered, IsWithMembers, AreListed, TypesFit}
 
 -- ---- lists of types
@@ -31,10 +33,12 @@ pub type_kept : (cs more : List CType) (k : ℕ) → k < length cs → type_in (
 type_kept cs more k lt = forest_front type_from Void cs more k lt
 
 get-append : {A : Type 0} (xs ys : List A) (k : ℕ) (x : A) → slice_get (xs ++ ys) k ≡ Some x →
-    (slice_get xs k ≡ Some x) ⊎ ((j : ℕ) × (slice_get ys j ≡ Some x))
-get-append [] ys k x e = inr (k, e)
+    (slice_get xs k ≡ Some x) ⊎ ((j : ℕ) × (slice_get ys j ≡ Some x) × (k ≡ length xs + j))
+get-append [] ys k x e = inr (k, e, omega arith)
 get-append (z ∷ xs) ys zero x e = inl e
-get-append (z ∷ xs) ys (suc k) x e = ⊎_elim (λ h. inl h) (λ h. inr h) (get-append xs ys k x e)
+get-append (z ∷ xs) ys (suc k) x e =
+    ⊎_elim (λ h. inl h) (λ h. inr (h.0, h.1, let q : k ≡ length xs + h.0 = h.2 in omega arith))
+    (get-append xs ys k x e)
 
 split_at : (cs : List CType) (k : ℕ) (c : CType) → slice_get cs k ≡ Some c → cs ≡ take k cs ++ c ∷ drop (suc k) cs
 split_at [] k c e = absurd cc
@@ -353,8 +357,10 @@ each_number P xs ys n i e l h p q k m g =
 pub follows_more : (types : List CType) (c : CType) (old new : Types) (cs : List CType) (n p : ℕ) → Follows types old →
     Keeps old new cs n p → IsNumber (types ++ c ∷ []) new.list.items (length types) n →
     IsPointer (types ++ c ∷ []) new.list.items (length types) p →
-    ((k : ℕ) (d : CType) → slice_get cs k ≡ Some d → IsKept (types ++ c ∷ []) d) → Follows (types ++ c ∷ []) new
-follows_more types c old new cs n p f k a b h =
+    ((k : ℕ) (d : CType) → slice_get cs k ≡ Some d → IsKept (types ++ c ∷ []) d) →
+    ((k m : ℕ) (d : CType) → slice_get cs k ≡ Some d → m ≡ length old.list.items + k → IsBehind m d) →
+    Follows (types ++ c ∷ []) new
+follows_more types c old new cs n p f k a b h i =
     let list = old.list.items in
     let now = new.list.items in
     let void = void_more list now cs k.list f.void in
@@ -373,6 +379,8 @@ follows_more types c old new cs n p f k a b h =
           (λ j lt. no_pointer (types ++ c ∷ []) now j 0 Void (past_more types c j lt) refl void.there);
       kept = λ j d e. ⊎_elim (λ g. kept_more types (c ∷ []) d (f.kept j d g)) (λ g. h g.0 d g.1)
           (get-append list cs j d (ap (λ zs. slice_get zs j) (sym k.list) ∙ e));
+      behind = λ j d e. ⊎_elim (λ g. f.behind j d g) (λ g. i g.0 j d g.1 g.2)
+          (get-append list cs j d (ap (λ zs. slice_get zs j) (sym k.list) ∙ e));
     }
 
 none_kept : (types : List CType) (k : ℕ) (c : CType) → slice_get [] k ≡ Some c → IsKept types c
@@ -387,6 +395,27 @@ two_kept : (types : List CType) (d : CType) (n : ℕ) → IsKept types d → (k 
     slice_get (d ∷ ctypes.Pointer n ∷ []) k ≡ Some c → IsKept types c
 two_kept types d n h zero c e = let q : d ≡ c = cc in subst (IsKept types) q h
 two_kept types d n h (suc k) c e = one_kept types (ctypes.Pointer n) tt k c e
+
+none_behind : (m k n : ℕ) (c : CType) → slice_get [] k ≡ Some c → n ≡ m + k → IsBehind n c
+none_behind m k n c e q = absurd cc
+
+one_behind : (m : ℕ) (d : CType) → IsBehind m d → (k n : ℕ) (c : CType) → slice_get (d ∷ []) k ≡ Some c → n ≡ m + k →
+    IsBehind n c
+one_behind m d h zero n c e q =
+    let same : d ≡ c = cc in
+    let here : m ≡ n = omega arith in
+    subst (λ x. IsBehind x c) here (subst (IsBehind m) same h)
+one_behind m d h (suc k) n c e q = absurd cc
+
+two_behind : (m : ℕ) (d : CType) → IsBehind m d → (k n : ℕ) (c : CType) →
+    slice_get (d ∷ ctypes.Pointer m ∷ []) k ≡ Some c → n ≡ m + k → IsBehind n c
+two_behind m d h zero n c e q = one_behind m d h zero n c e q
+two_behind m d h (suc k) n c e q =
+    let lt : m < m + 1 = omega arith in one_behind (m + 1) (ctypes.Pointer m) lt k n c e (omega arith)
+
+one_below : (n p : ℕ) → p < n → AllBelow n (p ∷ [])
+one_below n p lt zero a q = let same : p ≡ a = cc in subst (λ x. x < n) same lt
+one_below n p lt (suc j) a q = absurd cc
 
 -- ---- what is kept in steps
 
@@ -434,8 +463,9 @@ if_ok (Err e) P Q f h = tt
 pub plainly_follows : (types : List CType) (c : CType) (old new : Types) (d : CType) → Follows types old →
     Keeps old new (d ∷ []) (length old.list.items) (length old.list.items) →
     type_from d (type_in old.list.items) ≡ passed (type_from c (type_in types)) →
-    by_pointer (type_from c (type_in types)) ≡ false → IsKept (types ++ c ∷ []) d → Follows (types ++ c ∷ []) new
-plainly_follows types c old new d f k is b h =
+    by_pointer (type_from c (type_in types)) ≡ false → IsKept (types ++ c ∷ []) d →
+    IsBehind (length old.list.items) d → Follows (types ++ c ∷ []) new
+plainly_follows types c old new d f k is b h i =
     let list = old.list.items in
     let there : length list < length (list ++ d ∷ []) = omega (arith, length-append list (d ∷ [])) in
     let seam = type_seam types c [] in
@@ -443,14 +473,15 @@ plainly_follows types c old new d f k is b h =
     (rw (k.list) (record { there = there; is = type_seam list d [] ∙ is ∙ ap passed (sym seam) }))
     (rw (k.list) (no_pointer (types ++ c ∷ []) (list ++ d ∷ []) (length types) (length list)
     (type_from c (type_in types)) seam b there))
-    (one_kept (types ++ c ∷ []) d h)
+    (one_kept (types ++ c ∷ []) d h) (one_behind (length list) d i)
 
 -- a struct or union
 pub record_follows : (types : List CType) (c : CType) (old new : Types) (tag : ℕ) → Follows types old →
     Keeps old new (c ∷ ctypes.Pointer (length old.list.items) ∷ []) (length old.list.items)
     (length old.list.items + 1) →
-    ((go : ℕ → Ty) → type_from c go ≡ Tagged tag) → IsKept (types ++ c ∷ []) c → Follows (types ++ c ∷ []) new
-record_follows types c old new tag f k is h =
+    ((go : ℕ → Ty) → type_from c go ≡ Tagged tag) → IsKept (types ++ c ∷ []) c → ((m : ℕ) → IsBehind m c) →
+    Follows (types ++ c ∷ []) new
+record_follows types c old new tag f k is h i =
     let list = old.list.items in
     let n = length list in
     let p = ctypes.Pointer n in
@@ -466,7 +497,7 @@ record_follows types c old new tag f k is h =
     follows_more types c old new (c ∷ p ∷ []) n (n + 1) f k
     (rw (k.list) (record { there = omega arith; is = first ∙ ap passed (sym e) }))
     (rw (k.list) (record { there = omega arith; is = λ g. second ∙ ap (λ t. Pointer (bare t)) (sym e) }))
-    (two_kept (types ++ c ∷ []) c n h)
+    (two_kept (types ++ c ∷ []) c n h) (two_behind n c (i n))
 
 same_list : (xs ys : List CType) → ys ≡ xs ++ [] → xs ≡ ys
 same_list xs ys e = sym (e ∙ append-nil xs)
@@ -480,6 +511,7 @@ kept_follows types c old new n p f k a b =
     follows_more types c old new [] n p f k
     (subst (λ zs. IsNumber (types ++ c ∷ []) zs (length types) n) same a)
     (subst (λ zs. IsPointer (types ++ c ∷ []) zs (length types) p) same b) (none_kept (types ++ c ∷ []))
+    (none_behind (length old.list.items))
 
 -- ---- each kind of type
 
@@ -495,6 +527,7 @@ pub adds_pointer : (types : List CType) (old new : Types) (t n : ℕ) → get_or
     AddsType types old new (ctypes.Pointer t)
 adds_pointer types old new t n g k = λ f.
     plainly_follows types (ctypes.Pointer t) old new (ctypes.Pointer n) f k (ap Pointer (f.numbers t n g).is) refl tt
+    (f.numbers t n g).there
 
 pub adds_tagged_pointer : (types : List CType) (old new : Types) (t n : ℕ) → get_or old.pointers.items t 0 ≡ n →
     is_tagged (type_in types t) ≡ true → Keeps old new [] n n → AddsType types old new (ctypes.Pointer t)
@@ -514,7 +547,7 @@ pub adds_array : (types : List CType) (old new : Types) (t n m : ℕ) → get_or
     AddsType types old new (ctypes.Array t m)
 adds_array types old new t n m g k = λ f.
     plainly_follows types (ctypes.Array t m) old new (ctypes.Array n m) f k
-    (ap (λ x. Array x m) (f.numbers t n g).is) refl tt
+    (ap (λ x. Array x m) (f.numbers t n g).is) refl tt (f.numbers t n g).there
 
 const_goes : (t s : Ty) → by_pointer (Const t) ≡ true → (by_pointer t ≡ true → s ≡ Pointer (bare t)) →
     s ≡ Pointer (bare (Const t))
@@ -543,7 +576,7 @@ adds_const types old new t n p g h k = λ f.
           ∙ const_goes (type_in types t) (type_in list p) (ap by_pointer (sym is) ∙ b) q.is
           ∙ ap (λ x. Pointer (bare x)) (sym is);
     }))
-    (one_kept (types ++ ctypes.Const t ∷ []) d tt)
+    (one_kept (types ++ ctypes.Const t ∷ []) d tt) (one_behind (length list) d (f.numbers t n g).there)
 
 -- ---- functions
 
@@ -555,6 +588,7 @@ pub parameter_number : (types : List CType) (t : Types) (k n : ℕ) → get_or t
     by_pointer (type_in types k) ≡ false → AreParameters types t (k ∷ []) [] (n ∷ [])
 parameter_number types t k n g b = record {
   are = λ f. ap (λ x. x ∷ []) ((f.numbers k n g).is ∙ sym (by (type_in types k) b));
+  there = λ f h. one_below (length t.list.items) n (f.numbers k n g).there;
 }
   where
     by : (u : Ty) → by_pointer u ≡ false → passed_parameter u ≡ passed u
@@ -564,13 +598,14 @@ pub parameter_pointer : (types : List CType) (t : Types) (k n : ℕ) → get_or 
     by_pointer (type_in types k) ≡ true → AreParameters types t (k ∷ []) [] (n ∷ [])
 parameter_pointer types t k n g b = record {
   are = λ f. ap (λ x. x ∷ []) ((f.pointers k n g).is b ∙ sym (by (type_in types k) b));
+  there = λ f h. one_below (length t.list.items) n (f.pointers k n g).there;
 }
   where
     by : (u : Ty) → by_pointer u ≡ true → passed_parameter u ≡ Pointer (bare u)
     by u e = rw e refl
 
 pub no_parameters : (types : List CType) (t : Types) (ns : List ℕ) → AreParameters types t [] ns ns
-no_parameters types t ns = record { are = λ f. sym (append-nil (map (type_in t.list.items) ns)) }
+no_parameters types t ns = record { are = λ f. sym (append-nil (map (type_in t.list.items) ns)); there = λ f h. h }
 
 -- one parameter more
 pub parameters_push : (types : List CType) (t : Types) (ks before now after : List ℕ) (k n : ℕ) →
@@ -586,6 +621,9 @@ parameters_push types t ks before now after k n h i e = record {
       ∙ ap (λ zs. old ++ (us ++ zs)) (i.are f)
       ∙ ap (λ zs. old ++ zs) (sym (ap (map passed_parameter) (map-append (type_in types) ks (k ∷ []))
       ∙ map-append passed_parameter (map (type_in types) ks) (type_in types k ∷ [])));
+  there = λ f b.
+      let m = length t.list.items in
+      below_push m m now after n (omega arith) (h.there f b) (i.there f (λ j a q. absurd cc) 0 n refl) e;
 }
 
 passed_plainly : (r : Ty) (ps : Tys) → by_pointer r ≡ false →
@@ -609,7 +647,7 @@ adds_function types old new gives of ts after g b h k = λ f.
     ∙ ap (λ zs. Function (passed (type_in types gives)) (tys zs)) (h.are f)
     ∙ ap (Function (passed (type_in types gives))) (tys_passed us)
     ∙ sym (passed_plainly (type_in types gives) (tys us) b))
-    refl tt
+    refl tt ((f.numbers gives of g).there, h.there f (λ j a q. absurd cc))
 
 pub adds_result : (types : List CType) (old new : Types) (gives p : ℕ) (ts after : List ℕ) →
     get_or old.pointers.items gives 0 ≡ p → by_pointer (type_in types gives) ≡ true →
@@ -625,6 +663,7 @@ adds_result types old new gives p ts after g b h k = λ f.
     ∙ ap (λ zs. Function Void (also (Pointer (bare (type_in types gives))) zs)) (tys_passed us)
     ∙ sym (passed_by_pointer (type_in types gives) (tys us) b))
     refl tt
+    (f.void.there, h.there f (one_below (length old.list.items) p (f.pointers gives p g).there))
 
 -- ---- the other kinds
 
@@ -633,31 +672,31 @@ pub adds_struct : (types : List CType) (old new : Types) (tag : ℕ) (ms : List 
     (length old.list.items + 1) → AddsType types old new (ctypes.Struct tag ms)
 adds_struct types old new tag ms k =
     λ f. record_follows types (ctypes.Struct tag ms) old new tag f k (λ go. refl)
-    (length types, get_seam types (ctypes.Struct tag ms))
+    (length types, get_seam types (ctypes.Struct tag ms)) (λ m. tt)
 
 pub adds_union : (types : List CType) (old new : Types) (tag : ℕ) (ms : List Member) →
     Keeps old new (ctypes.Union tag ms ∷ ctypes.Pointer (length old.list.items) ∷ []) (length old.list.items)
     (length old.list.items + 1) → AddsType types old new (ctypes.Union tag ms)
 adds_union types old new tag ms k =
     λ f. record_follows types (ctypes.Union tag ms) old new tag f k (λ go. refl)
-    (length types, get_seam types (ctypes.Union tag ms))
+    (length types, get_seam types (ctypes.Union tag ms)) (λ m. tt)
 
 pub adds_incomplete : (types : List CType) (old new : Types) (tag : ℕ) →
     Keeps old new (ctypes.Incomplete tag ∷ ctypes.Pointer (length old.list.items) ∷ []) (length old.list.items)
     (length old.list.items + 1) → AddsType types old new (ctypes.Incomplete tag)
 adds_incomplete types old new tag k =
     λ f. record_follows types (ctypes.Incomplete tag) old new tag f k (λ go. refl)
-    (length types, get_seam types (ctypes.Incomplete tag))
+    (length types, get_seam types (ctypes.Incomplete tag)) (λ m. tt)
 
 pub adds_int : (types : List CType) (old new : Types) (k : IntKind) (n : ℕ) →
     Keeps old new (ctypes.Int k n ∷ []) (length old.list.items) (length old.list.items) →
     AddsType types old new (ctypes.Int k n)
-adds_int types old new k n q = λ f. plainly_follows types (ctypes.Int k n) old new (ctypes.Int k n) f q refl refl tt
+adds_int types old new k n q = λ f. plainly_follows types (ctypes.Int k n) old new (ctypes.Int k n) f q refl refl tt tt
 
 pub adds_cap : (types : List CType) (old new : Types) (s : Bool) →
     Keeps old new (ctypes.Cap s ∷ []) (length old.list.items) (length old.list.items) →
     AddsType types old new (ctypes.Cap s)
-adds_cap types old new s q = λ f. plainly_follows types (ctypes.Cap s) old new (ctypes.Cap s) f q refl refl tt
+adds_cap types old new s q = λ f. plainly_follows types (ctypes.Cap s) old new (ctypes.Cap s) f q refl refl tt tt
 
 -- ---- all types
 
@@ -674,6 +713,7 @@ starts t l n p =
       pointers = λ k m e. subst (IsPointer [] t.list.items k) (nothing k m (ap (λ zs. get_or zs k 0) (sym p) ∙ e))
           (no_pointer [] t.list.items k 0 Void (none k) refl void.there);
       kept = λ k c e. one_kept [] ctypes.Void tt k c (ap (λ zs. slice_get zs k) (sym l) ∙ e);
+      behind = λ k c e. one_behind 0 ctypes.Void tt k k c (ap (λ zs. slice_get zs k) (sym l) ∙ e) (omega arith);
     }
   where
     nothing : (k m : ℕ) → get_or [] k 0 ≡ m → 0 ≡ m
@@ -711,10 +751,13 @@ members_push numbers ms ns after m n h g e = record {
       ∙ ap (λ t. old ++ (m.name, t) ∷ []) (fits m.of n g)
       ∙ sym (ap (map passed_member) (map-append (member_of types) ms (m ∷ []))
       ∙ map-append passed_member (map (member_of types) ms) (member_of types m ∷ []));
+  there = λ size z j x q.
+      ⊎_elim (λ a. h.there size z j x a) (λ a. subst (λ (y : Member). y.of < size) a.1 (z m.of n g))
+      (get-push ns (record { name = m.name; of = n }) j x (ap (λ zs. slice_get zs j) (sym e) ∙ q));
 }
 
 pub no_members : (numbers : List ℕ) → AreRenumbered numbers [] []
-no_members numbers = record { are = λ types ts fits. refl }
+no_members numbers = record { are = λ types ts fits. refl; there = λ n z j m e. absurd cc }
 
 one_type : (c : CType) (ts : List Ty) →
     grow type_from Void (c ∷ []) ts ≡ ts ++ type_from c (λ k. slice_index_or ts k Void) ∷ []

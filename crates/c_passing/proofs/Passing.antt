@@ -1,7 +1,7 @@
 -- Expressions as they are run.
 use Rattle.std.proofs.Common.{◌≡◌, ℕ, ◌+◌, Bool, true, false, List, [], ◌∷◌, ◌++◌, length, get_or, map, Some, refl, sym}
 use Rattle.std.proofs.Common.{ap, subst, ◌∙◌, arith, length-append, append_assoc}
-use Rattle.std.specs.Prelude.{slice_get, Result, Ok, Err, IfOk, OnOk}
+use Rattle.std.specs.Prelude.{slice_get, Result, Ok, Err, OnOk}
 use Rattle.ck_base.specs.declared.refusal.NoMemory.{NoMemory}
 use Rattle.ck_base.specs.declared.positions.Pos.{Pos}
 use Rattle.ck_int.specs.declared.kinds.IntOp.{IntOp}
@@ -19,14 +19,16 @@ use Rattle.c_tree.proofs.Forest.{forest_reads}
 use Rattle.c_tree.specs.Programs.{shape_with}
 use Rattle.c_tree.specs.Programs as programs
 use Rattle.c_copy.specs.Copying.{Extends, AllBelow, expr_shape, terms_in, IsPlainWith}
-use Rattle.c_copy.proofs.Copies.{kind_is, map_seen, term_same}
+use Rattle.c_copy.proofs.Copies.{kind_is, map_seen, term_same, extends_then, extends_push}
 use Rattle.c_passing.specs.declared.nodes.Source.{Source}
 use Rattle.c_passing.specs.declared.nodes.Made.{Made}
 use Rattle.c_passing.specs.Lists.{hidden_in_each, hidden_for_each, passed_each, passed_each_argument}
 use Rattle.c_passing.specs.Passes.{written_type, written_term, written_call, Fits, HasTerm, HasTerms, Hides, IsHidden}
-use Rattle.c_passing.specs.Passes.{IsKindPassed, IsPassed, ArePassed, Makes, ArePassedArguments, IsByResult}
+use Rattle.c_passing.specs.Passes.{AddsTerms, IsKindPassed, IsPassed, ArePassed, Makes, ArePassedArguments, IsByResult}
 use Rattle.c_passing.specs.Passes.{IsPlainCall, IsCallByResult}
+use Rattle.c_passing.specs.Ordered.{TakesIn, Takes}
 use Rattle.c_passing.proofs.Hiding.{hidden_terms, hidden_arguments, passed_list, passed_arguments_list}
+use Rattle.c_passing.proofs.Ordering.{in_push, in_then, in_from, in_first}
 use Rattle.c_passing.proofs.Trees.{term_more, term_end, no_terms_have, terms_push}
 use Rattle.c_passing.proofs.Calling.{hides_then, hides_vars, hides_count, number_same, pointer_same, call_made}
 
@@ -66,35 +68,7 @@ pub hidden_other : (names : Names) (x : Shape) (xs : List Term) (t : Ty) (p : Po
 hidden_other names tree.Call xs t p h = absurd cc
 hidden_other names _ xs t p h = hidden_terms names xs
 
--- an expression that is no call, behind its operands
-pub expression_passed : (s : Source) (old mid new : Made) (k : ℕ) (e d : Expr) (js : List ℕ) (j : ℕ) →
-    slice_get s.program.now.exprs k ≡ Some e → AllBelow k (operands e.kind) →
-    calls (expr_shape (types_of s.program.now.types) e.kind) ≡ false →
-    ArePassed s old mid (map (written_term s) (operands e.kind)) js → IsKindPassed s e.kind js d.kind →
-    get_or s.types.now.numbers.items e.of 0 ≡ d.of → d.pos ≡ e.pos →
-    new.exprs.items ≡ mid.exprs.items ++ d ∷ [] → j ≡ length mid.exprs.items → IsPassed s old new (written_term s k) j
-expression_passed s old mid new k e d js j g b c h w t p q r = record {
-  is = λ ts f fits.
-      let n = length old.vars.items in
-      let xs = map (written_term s) (operands e.kind) in
-      let x = expr_shape (types_of s.program.now.types) e.kind in
-      let made = term_end ts mid.exprs.items new.exprs.items d j q r in
-      let inner : map (term_at (terms_in ts mid.exprs.items)) (operands d.kind) ≡ passed_each f n xs =
-      ap (map (term_at (terms_in ts mid.exprs.items))) w.operands ∙ (h.are ts f fits).are in
-      record {
-        there = made.there;
-        is =
-            made.is
-            ∙ term_same (expr_shape ts d.kind) (passed_shape f x)
-            (terms (map (term_at (terms_in ts mid.exprs.items)) (operands d.kind))) (terms (passed_each f n xs))
-            (type_at ts d.of) (passed (written_type s e.of)) d.pos e.pos
-            (w.shape ts f fits) (ap terms inner) (fits.types.numbers e.of d.of t) p
-            ∙ sym (passed_other f n x xs (written_type s e.of) e.pos c)
-            ∙ ap (passed_term f n) (sym (written_is s k e g b));
-      };
-}
-
-pub expression_hides : (s : Source) (old mid new : Made) (k : ℕ) (e : Expr) → slice_get s.program.now.exprs k ≡ Some e →
+expression_hides : (s : Source) (old mid new : Made) (k : ℕ) (e : Expr) → slice_get s.program.now.exprs k ≡ Some e →
     AllBelow k (operands e.kind) → calls (expr_shape (types_of s.program.now.types) e.kind) ≡ false →
     Hides s old mid (λ names. hidden_in_each names (map (written_term s) (operands e.kind))) → new.vars ≡ mid.vars →
     Hides s old new (λ names. hidden_in names (written_term s k))
@@ -104,6 +78,48 @@ expression_hides s old mid new k e g b c h q =
     (λ names. sym (ap (hidden_in names) (written_is s k e g b)
     ∙ hidden_other names (expr_shape (types_of s.program.now.types) e.kind)
     (map (written_term s) (operands e.kind)) (written_type s e.of) e.pos c)) h
+
+-- an expression that is no call, behind its operands
+pub expression_passed : (s : Source) (old mid new : Made) (k : ℕ) (e d : Expr) (js : List ℕ) (j : ℕ) →
+    slice_get s.program.now.exprs k ≡ Some e → AllBelow k (operands e.kind) →
+    calls (expr_shape (types_of s.program.now.types) e.kind) ≡ false →
+    AddsTerms s old mid (λ names. hidden_in_each names (map (written_term s) (operands e.kind)))
+    (ArePassed s old mid (map (written_term s) (operands e.kind)) js) → IsKindPassed s e.kind js d.kind →
+    get_or s.types.now.numbers.items e.of 0 ≡ d.of → d.pos ≡ e.pos →
+    new.exprs.items ≡ mid.exprs.items ++ d ∷ [] → new ≡ record mid { exprs = new.exprs } →
+    j ≡ length mid.exprs.items →
+    AddsTerms s old new (λ names. hidden_in names (written_term s k)) (IsPassed s old new (written_term s k) j)
+expression_passed s old mid new k e d js j g b c all w t p q rest r =
+    let h = all.is in
+    record {
+      extends = extends_push old.exprs.items mid.exprs.items new.exprs.items d all.extends q;
+      stmts = ap (λ (m : Made). m.stmts) rest ∙ all.stmts;
+      hides = expression_hides s old mid new k e g b c all.hides (ap (λ (m : Made). m.vars) rest);
+      is = record {
+        is = λ ts f fits.
+            let n = length old.vars.items in
+            let xs = map (written_term s) (operands e.kind) in
+            let x = expr_shape (types_of s.program.now.types) e.kind in
+            let made = term_end ts mid.exprs.items new.exprs.items d j q r in
+            let inner : map (term_at (terms_in ts mid.exprs.items)) (operands d.kind) ≡ passed_each f n xs =
+            ap (map (term_at (terms_in ts mid.exprs.items))) w.operands ∙ (h.are ts f fits).are in
+            record {
+              there = made.there;
+              is =
+                  made.is
+                  ∙ term_same (expr_shape ts d.kind) (passed_shape f x)
+                  (terms (map (term_at (terms_in ts mid.exprs.items)) (operands d.kind))) (terms (passed_each f n xs))
+                  (type_at ts d.of) (passed (written_type s e.of)) d.pos e.pos
+                  (w.shape ts f fits) (ap terms inner) (fits.types.numbers e.of d.of t) p
+                  ∙ sym (passed_other f n x xs (written_type s e.of) e.pos c)
+                  ∙ ap (passed_term f n) (sym (written_is s k e g b));
+            };
+        ordered = λ z.
+            let n = length s.types.now.list.items in
+            in_then n old mid new [] [] js [] (j ∷ []) [] (h.ordered z)
+            (in_push n mid new d j js q (ap (λ (m : Made). m.stmts.items) rest) r (z.numbers e.of d.of t) w.operands);
+      };
+    }
 
 -- ---- calls
 
@@ -153,89 +169,123 @@ by_pointer_call : (h : ℕ) (f : Term) (ys : Terms) (t : Ty) (p : Pos) → by_po
     call_with h f ys t p ≡ by_result h f ys (bare t) p
 by_pointer_call h f ys t p e = rw e refl
 
--- the steps of a call: what is called, the hidden locals of the arguments, that of the result, and the arguments with
--- the call
-pub record Steps (s : Source) (old a b c new : Made) (e : Expr) (f : ℕ) (xs : List ℕ) (called : ℕ) : Type 0 where
-  pub called_is : IsPassed s old a (written_term s f) called
-  pub first : Hides s old a (λ names. hidden_in names (written_term s f))
+-- the steps of a call: what is called, the hidden locals of the arguments, and that of the result
+pub record Steps (s : Source) (old a b c : Made) (e : Expr) (f : ℕ) (xs : List ℕ) (called : ℕ) : Type 0 where
+  pub first : AddsTerms s old a (λ names. hidden_in names (written_term s f))
+      (IsPassed s old a (written_term s f) called)
   pub second : Hides s a b (λ names. hidden_for_each names e.pos (map (written_term s) xs))
+  pub second_rest : b ≡ record a { vars = b.vars }
   pub third : Hides s b c (λ names. hidden_for names e.pos (written_type s e.of))
-  pub fourth : Hides s c new (λ names. hidden_in_each names (map (written_term s) xs))
-  pub exprs : c.exprs ≡ a.exprs
+  pub third_rest : c ≡ record b { vars = c.vars }
 
-pub call_hides : (s : Source) (old a b c new : Made) (e : Expr) (f : ℕ) (xs : List ℕ) (called : ℕ) →
-    Steps s old a b c new e f xs called → Hides s old new (λ names. hidden_in names (written_call s e f xs))
-call_hides s old a b c new e f xs called st =
+-- what is behind a call: the arguments with the call
+abbrev CallBehind : Source → Made → Made → List ℕ → Type 0 → Type 0
+CallBehind s c new xs P = AddsTerms s c new (λ names. hidden_in_each names (map (written_term s) xs)) P
+
+call_hides : (s : Source) (old a b c new : Made) (e : Expr) (f : ℕ) (xs : List ℕ) (called : ℕ) →
+    Steps s old a b c e f xs called → Hides s c new (λ names. hidden_in_each names (map (written_term s) xs)) →
+    Hides s old new (λ names. hidden_in names (written_call s e f xs))
+call_hides s old a b c new e f xs called st fourth =
     let ys = map (written_term s) xs in
     let p = e.pos in
     let t = written_type s e.of in
     let one = hides_then s old a b (λ names. hidden_in names (written_term s f))
-    (λ names. hidden_for_each names p ys) st.first st.second in
+    (λ names. hidden_for_each names p ys) st.first.hides st.second in
     let two = hides_then s old b c (λ names. hidden_in names (written_term s f) ++ hidden_for_each names p ys)
     (λ names. hidden_for names p t) one st.third in
     let all = hides_then s old c new (λ names. (hidden_in names (written_term s f) ++ hidden_for_each names p ys)
-    ++ hidden_for names p t) (λ names. hidden_in_each names ys) two st.fourth in
+    ++ hidden_for names p t) (λ names. hidden_in_each names ys) two fourth in
     hides_vars s old new old new (λ names. ((hidden_in names (written_term s f) ++ hidden_for_each names p ys)
     ++ hidden_for names p t) ++ hidden_in_each names ys)
     (λ names. hidden_in names (written_call s e f xs)) refl refl
     (λ names. sym (hidden_call names (written_term s f) ys t p)) all
 
-counted : (s : Source) (old a b c new : Made) (e : Expr) (f : ℕ) (xs : List ℕ) (called : ℕ) (ts : List Ty)
-    (g : Passing) → Steps s old a b c new e f xs called → Fits s ts g →
+counted : (s : Source) (old a b c : Made) (e : Expr) (f : ℕ) (xs : List ℕ) (called : ℕ) (ts : List Ty)
+    (g : Passing) → Steps s old a b c e f xs called → Fits s ts g →
     Counts g (length old.vars.items) (written_term s f) (map (written_term s) xs) (written_type s e.of) e.pos
     (length a.vars.items) (length b.vars.items) (length c.vars.items)
-counted s old a b c new e f xs called ts g st fits = record {
-  own_is = hides_count s old a (λ names. hidden_in names (written_term s f)) ts g st.first fits;
+counted s old a b c e f xs called ts g st fits = record {
+  own_is = hides_count s old a (λ names. hidden_in names (written_term s f)) ts g st.first.hides fits;
   hidden_is = hides_count s a b (λ names. hidden_for_each names e.pos (map (written_term s) xs)) ts g st.second fits;
   inner_is = hides_count s b c (λ names. hidden_for names e.pos (written_type s e.of)) ts g st.third fits;
 }
 
-pub plain_call_passed : (s : Source) (old a b c new : Made) (e : Expr) (f : ℕ) (xs : List ℕ) (called j : ℕ) →
-    Steps s old a b c new e f xs called → by_pointer (written_type s e.of) ≡ false →
-    IsPlainCall s c new e called (length a.vars.items) xs j → IsPassed s old new (written_call s e f xs) j
-plain_call_passed s old a b c new e f xs called j st n h = record {
-  is = λ ts g fits.
-      let x = st.called_is.is ts g fits in
-      let y : HasTerm ts c.exprs.items called (passed_term g (length old.vars.items) (written_term s f)) =
-      rw st.exprs x in
-      let z = h.is ts g (passed_term g (length old.vars.items) (written_term s f)) fits y in
-      let ys = map (written_term s) xs in
-      record {
-        there = z.there;
-        is =
-            z.is
-            ∙ sym (passed_call g (length old.vars.items) (written_term s f) ys (written_type s e.of) e.pos
-            (length a.vars.items) (length b.vars.items) (length c.vars.items)
-            (counted s old a b c new e f xs called ts g st fits)
-            ∙ plainly (length b.vars.items) (passed_term g (length old.vars.items) (written_term s f))
-            (terms (passed_each_argument g (length a.vars.items) (length c.vars.items) e.pos ys))
-            (written_type s e.of) e.pos n);
+-- the call, where the expression and its order are known
+call_adds : (s : Source) (old a b c new : Made) (e : Expr) (f : ℕ) (xs : List ℕ) (called j : ℕ) (P : Type 0) →
+    Steps s old a b c e f xs called → CallBehind s c new xs P →
+    Takes s.types.now c new (called ∷ []) [] (j ∷ []) [] →
+    ((ts : List Ty) (g : Passing) → Fits s ts g →
+    HasTerm ts c.exprs.items called (passed_term g (length old.vars.items) (written_term s f)) →
+    HasTerm ts new.exprs.items j (passed_term g (length old.vars.items) (written_call s e f xs))) →
+    AddsTerms s old new (λ names. hidden_in names (written_call s e f xs))
+    (IsPassed s old new (written_call s e f xs) j)
+call_adds s old a b c new e f xs called j P st h takes is =
+    let exprs_same : c.exprs ≡ a.exprs =
+    ap (λ (m : Made). m.exprs) st.third_rest ∙ ap (λ (m : Made). m.exprs) st.second_rest in
+    let stmts_same : c.stmts ≡ a.stmts =
+    ap (λ (m : Made). m.stmts) st.third_rest ∙ ap (λ (m : Made). m.stmts) st.second_rest in
+    record {
+      extends = extends_then old.exprs.items a.exprs.items new.exprs.items st.first.extends
+          (subst (λ es. Extends es.items new.exprs.items) exprs_same h.extends);
+      stmts = h.stmts ∙ stmts_same ∙ st.first.stmts;
+      hides = call_hides s old a b c new e f xs called st h.hides;
+      is = record {
+        is = λ ts g fits.
+            let x = st.first.is.is ts g fits in
+            is ts g fits (rw exprs_same x);
+        ordered = λ z.
+            let n = length s.types.now.list.items in
+            in_then n old a new [] [] (called ∷ []) [] (j ∷ []) [] (st.first.is.ordered z)
+            (in_from n a c new (called ∷ []) [] (j ∷ []) [] (ap (λ vs. vs.items) exprs_same)
+            (ap (λ vs. vs.items) stmts_same) (takes z));
       };
-}
+    }
+
+pub plain_call_passed : (s : Source) (old a b c new : Made) (e : Expr) (f : ℕ) (xs : List ℕ) (called j : ℕ) →
+    Steps s old a b c e f xs called → by_pointer (written_type s e.of) ≡ false →
+    CallBehind s c new xs (IsPlainCall s c new e called (length a.vars.items) xs j) →
+    AddsTerms s old new (λ names. hidden_in names (written_call s e f xs))
+    (IsPassed s old new (written_call s e f xs) j)
+plain_call_passed s old a b c new e f xs called j st n h =
+    call_adds s old a b c new e f xs called j (IsPlainCall s c new e called (length a.vars.items) xs j) st h h.is.ordered
+    (λ ts g fits y.
+    let z = h.is.is ts g (passed_term g (length old.vars.items) (written_term s f)) fits y in
+    let ys = map (written_term s) xs in
+    record {
+      there = z.there;
+      is =
+          z.is
+          ∙ sym (passed_call g (length old.vars.items) (written_term s f) ys (written_type s e.of) e.pos
+          (length a.vars.items) (length b.vars.items) (length c.vars.items)
+          (counted s old a b c e f xs called ts g st fits)
+          ∙ plainly (length b.vars.items) (passed_term g (length old.vars.items) (written_term s f))
+          (terms (passed_each_argument g (length a.vars.items) (length c.vars.items) e.pos ys))
+          (written_type s e.of) e.pos n);
+    })
 
 pub result_call_passed : (s : Source) (old a b c new : Made) (e : Expr) (f : ℕ) (xs : List ℕ) (called t j : ℕ) →
-    Steps s old a b c new e f xs called → IsHidden s e.of (Some t) →
-    IsCallByResult s c new e called (length a.vars.items) (length b.vars.items) t xs j →
-    IsPassed s old new (written_call s e f xs) j
-result_call_passed s old a b c new e f xs called t j st n h = record {
-  is = λ ts g fits.
-      let x = st.called_is.is ts g fits in
-      let m = length old.vars.items in
-      let y : HasTerm ts c.exprs.items called (passed_term g m (written_term s f)) = rw st.exprs x in
-      let z = h.is ts g (passed_term g m (written_term s f)) fits y in
-      let ys = terms (passed_each_argument g (length a.vars.items) (length c.vars.items) e.pos
-      (map (written_term s) xs)) in
-      record {
-        there = z.there;
-        is =
-            z.is ∙ ap (λ u. by_result (length b.vars.items) (passed_term g m (written_term s f)) ys u e.pos) n.1
-            ∙ sym (passed_call g m (written_term s f) (map (written_term s) xs) (written_type s e.of) e.pos
-            (length a.vars.items) (length b.vars.items) (length c.vars.items)
-            (counted s old a b c new e f xs called ts g st fits)
-            ∙ by_pointer_call (length b.vars.items) (passed_term g m (written_term s f)) ys
-            (written_type s e.of) e.pos n.0);
-      };
-}
+    Steps s old a b c e f xs called → IsHidden s e.of (Some t) →
+    CallBehind s c new xs (IsCallByResult s c new e called (length a.vars.items) (length b.vars.items) t xs j) →
+    AddsTerms s old new (λ names. hidden_in names (written_call s e f xs))
+    (IsPassed s old new (written_call s e f xs) j)
+result_call_passed s old a b c new e f xs called t j st n h =
+    call_adds s old a b c new e f xs called j
+    (IsCallByResult s c new e called (length a.vars.items) (length b.vars.items) t xs j) st h h.is.ordered
+    (λ ts g fits y.
+    let m = length old.vars.items in
+    let z = h.is.is ts g (passed_term g m (written_term s f)) fits y in
+    let ys = terms (passed_each_argument g (length a.vars.items) (length c.vars.items) e.pos
+    (map (written_term s) xs)) in
+    record {
+      there = z.there;
+      is =
+          z.is ∙ ap (λ u. by_result (length b.vars.items) (passed_term g m (written_term s f)) ys u e.pos) n.1
+          ∙ sym (passed_call g m (written_term s f) (map (written_term s) xs) (written_type s e.of) e.pos
+          (length a.vars.items) (length b.vars.items) (length c.vars.items)
+          (counted s old a b c e f xs called ts g st fits)
+          ∙ by_pointer_call (length b.vars.items) (passed_term g m (written_term s f)) ys
+          (written_type s e.of) e.pos n.0);
+    })
 
 -- ---- the steps of one
 
@@ -247,59 +297,81 @@ written_call_is s k e f xs g b q =
     (written_type s e.of) e.pos) q
 
 pub plain_call_made : (s : Source) (old a new : Made) (e : Expr) (called own of : ℕ) (xs list : List ℕ) (j : ℕ) →
-    get_or s.types.now.numbers.items e.of 0 ≡ of → Extends old.exprs.items a.exprs.items →
-    ArePassedArguments s old a own e.pos (map (written_term s) xs) [] list →
+    get_or s.types.now.numbers.items e.of 0 ≡ of →
+    CallBehind s old a xs (ArePassedArguments s old a own e.pos (map (written_term s) xs) [] list) →
     new.exprs.items ≡ a.exprs.items ++ record { kind = exprs.Call called list; of = of; pos = e.pos } ∷ [] →
-    j ≡ length a.exprs.items → IsPlainCall s old new e called own xs j
-plain_call_made s old a new e called own of xs list j g ext args q r = record {
-  is = λ ts p f fits hf.
-      let ys = passed_each_argument p own (length old.vars.items) e.pos (map (written_term s) xs) in
-      let made =
-      call_made ts a.exprs.items new.exprs.items called of j list e.pos f ys q r
-      (term_more ts old.exprs.items a.exprs.items called f ext hf)
-      (args.are ts p [] fits (no_terms_have ts old.exprs.items)) in
-      record {
-        there = made.there;
-        is = made.is
-            ∙ ap (λ t. term tree.Call (with_term f (terms ys)) t e.pos) (fits.types.numbers e.of of g);
+    new ≡ record a { exprs = new.exprs } → j ≡ length a.exprs.items →
+    CallBehind s old new xs (IsPlainCall s old new e called own xs j)
+plain_call_made s old a new e called own of xs list j g args q rest r =
+    let d : Expr = record { kind = exprs.Call called list; of = of; pos = e.pos } in
+    let hidden : Names → List Variable = λ names. hidden_in_each names (map (written_term s) xs) in
+    record {
+      extends = extends_push old.exprs.items a.exprs.items new.exprs.items d args.extends q;
+      stmts = ap (λ (m : Made). m.stmts) rest ∙ args.stmts;
+      hides = hides_vars s old a old new hidden hidden refl (ap (λ (m : Made). m.vars) rest) (λ names. refl) args.hides;
+      is = record {
+        is = λ ts p f fits hf.
+            let ys = passed_each_argument p own (length old.vars.items) e.pos (map (written_term s) xs) in
+            let made =
+            call_made ts a.exprs.items new.exprs.items called of j list e.pos f ys q r
+            (term_more ts old.exprs.items a.exprs.items called f args.extends hf)
+            (args.is.are ts p [] fits (no_terms_have ts old.exprs.items)) in
+            record {
+              there = made.there;
+              is = made.is
+                  ∙ ap (λ t. term tree.Call (with_term f (terms ys)) t e.pos) (fits.types.numbers e.of of g);
+            };
+        ordered = λ z.
+            let n = length s.types.now.list.items in
+            in_first n old a new called list (j ∷ []) [] (args.is.ordered z)
+            (in_push n a new d j (called ∷ list) q (ap (λ (m : Made). m.stmts.items) rest) r (z.numbers e.of of g) refl);
       };
-}
+    }
 
 pub result_call_made : (s : Source) (old a b new : Made) (e : Expr) (called own hid t n m address : ℕ)
     (xs first list : List ℕ) (j : ℕ) → is_tagged (written_type s t) ≡ true →
-    get_or s.types.now.numbers.items t 0 ≡ n →
-    get_or s.types.now.pointers.items t 0 ≡ m → Extends old.exprs.items a.exprs.items → a.vars ≡ old.vars →
-    Makes a (λ ts. step tree.Address (leaf (tree.Var hid) (type_at ts n) e.pos) (type_at ts m) e.pos) address →
-    first ≡ address ∷ [] → Extends a.exprs.items b.exprs.items →
-    ArePassedArguments s a b own e.pos (map (written_term s) xs) first list →
-    IsByResult s b new hid called list t e.pos j → IsCallByResult s old new e called own hid t xs j
-result_call_made s old a b new e called own hid t n m address xs first list j tag g u ext vars made q sext args r =
+    get_or s.types.now.numbers.items t 0 ≡ n → get_or s.types.now.pointers.items t 0 ≡ m →
+    Makes old a m n (λ ts. step tree.Address (leaf (tree.Var hid) (type_at ts n) e.pos) (type_at ts m) e.pos) address →
+    first ≡ address ∷ [] →
+    CallBehind s a b xs (ArePassedArguments s a b own e.pos (map (written_term s) xs) first list) →
+    IsByResult s b new hid called list t e.pos j →
+    CallBehind s old new xs (IsCallByResult s old new e called own hid t xs j)
+result_call_made s old a b new e called own hid t n m address xs first list j tag g u made q args r =
+    let hidden : Names → List Variable = λ names. hidden_in_each names (map (written_term s) xs) in
+    let vars : a.vars ≡ old.vars = ap (λ (z : Made). z.vars) made.rest in
     record {
-      is = λ ts p f fits hf.
-          let w = written_type s t in
-          let ys = passed_each_argument p own (length a.vars.items) e.pos (map (written_term s) xs) in
-          let f-b = term_more ts a.exprs.items b.exprs.items called f sext
-          (term_more ts old.exprs.items a.exprs.items called f ext hf) in
-          let tn = number_same s ts p t n fits tag g in
-          let tm = pointer_same s ts p t m fits tag u in
-          let there : HasTerm ts a.exprs.items address (address_of hid w e.pos) =
-          record { there = (made.is ts).there; is = (made.is ts).is ∙ rw (tn, tm) refl } in
-          let one : HasTerms ts a.exprs.items first (address_of hid w e.pos ∷ []) =
-          terms_push ts a.exprs.items [] first address [] (address_of hid w e.pos) q
-          (no_terms_have ts a.exprs.items) there in
-          let all = r.is ts p f (address_of hid w e.pos ∷ ys) fits f-b
-          (args.are ts p (address_of hid w e.pos ∷ []) fits one) in
-          let count : length a.vars.items ≡ length old.vars.items = ap (λ z. length z.items) vars in
-          subst (λ (z : ℕ). HasTerm ts new.exprs.items j
-          (by_result hid f (terms (passed_each_argument p own z e.pos (map (written_term s) xs))) w e.pos)) count all;
+      extends = extends_then old.exprs.items b.exprs.items new.exprs.items
+          (extends_then old.exprs.items a.exprs.items b.exprs.items made.extends args.extends) r.extends;
+      stmts = ap (λ (z : Made). z.stmts) r.rest ∙ args.stmts ∙ ap (λ (z : Made). z.stmts) made.rest;
+      hides = hides_vars s a b old new hidden hidden (sym vars) (ap (λ (z : Made). z.vars) r.rest) (λ names. refl)
+          args.hides;
+      is = record {
+        is = λ ts p f fits hf.
+            let w = written_type s t in
+            let ys = passed_each_argument p own (length a.vars.items) e.pos (map (written_term s) xs) in
+            let f-b = term_more ts a.exprs.items b.exprs.items called f args.extends
+            (term_more ts old.exprs.items a.exprs.items called f made.extends hf) in
+            let tn = number_same s ts p t n fits tag g in
+            let tm = pointer_same s ts p t m fits tag u in
+            let there : HasTerm ts a.exprs.items address (address_of hid w e.pos) =
+            record { there = (made.is ts).there; is = (made.is ts).is ∙ rw (tn, tm) refl } in
+            let one : HasTerms ts a.exprs.items first (address_of hid w e.pos ∷ []) =
+            terms_push ts a.exprs.items [] first address [] (address_of hid w e.pos) q
+            (no_terms_have ts a.exprs.items) there in
+            let all = r.is ts p f (address_of hid w e.pos ∷ ys) fits f-b
+            (args.is.are ts p (address_of hid w e.pos ∷ []) fits one) in
+            let count : length a.vars.items ≡ length old.vars.items = ap (λ z. length z.items) vars in
+            subst (λ (z : ℕ). HasTerm ts new.exprs.items j
+            (by_result hid f (terms (passed_each_argument p own z e.pos (map (written_term s) xs))) w e.pos)) count all;
+        ordered = λ z.
+            let k = length s.types.now.list.items in
+            in_first k old b new called list (j ∷ []) []
+            (in_then k old a b [] [] (address ∷ []) [] list [] (made.ordered k (z.pointers t m u) (z.numbers t n g))
+            (subst (λ zs. TakesIn k a b zs [] list []) q (args.is.ordered z))) (r.ordered z);
+      };
     }
 
 -- ---- expressions of a kind with operands
-
-pub both_ok : {V : Type 0} (r : Result V NoMemory) (P : Type 0) (Q R : V → Type 0) → (P → (v : V) → Q v → R v) →
-    OnOk r P → IfOk r Q → IfOk r R
-both_ok (Ok v) P Q R f p q = f p v q
-both_ok (Err e) P Q R f p q = tt
 
 inner_shape : (ts us : List Ty) (e : Passing) (n : programs.Numbers) (k : ExprKind) →
     ((m : ℕ) → k ≡ exprs.Constant m → ⊥) → ((m : ℕ) → k ≡ exprs.Literal m → ⊥) → ((m : ℕ) → k ≡ exprs.Var m → ⊥) →

@@ -1,7 +1,7 @@
 -- What a pointer points to, and what is put there and copied from there.
 use Rattle.std.proofs.Common.{◌≡◌, ℕ, zero, suc, ◌+◌, ◌<◌, Bool, true, false, cond, List, [], ◌∷◌, ◌++◌, length, get_or}
-use Rattle.std.proofs.Common.{take, map, Some, None, refl, sym, ap, subst, ◌∙◌, arith, length-append, append_assoc}
-use Rattle.std.specs.Prelude.{slice_get, flat_map}
+use Rattle.std.proofs.Common.{take, map, None, refl, sym, ap, subst, ◌∙◌, arith, length-append, append_assoc}
+use Rattle.std.specs.Prelude.{flat_map}
 use Rattle.std.proofs.lemmas.List.{append-nil, map-append, length-map, take_more, length-take-le}
 use Rattle.ck_base.specs.declared.positions.Pos.{Pos}
 use Rattle.c_tree.specs.declared.typed.Expr.{Expr}
@@ -15,7 +15,7 @@ use Rattle.c_tree.specs.Terms.{Term, leaf, step, join, Action, Variable, numbers
 use Rattle.c_tree.specs.Views.{type_at}
 use Rattle.c_tree.specs.Passed.{Passing, by_pointer, behind, copied_param, param_copy}
 use Rattle.c_copy.specs.Copying.{Extends}
-use Rattle.c_copy.proofs.Copies.{extends_then}
+use Rattle.c_copy.proofs.Copies.{extends_same, extends_then, extends_push}
 use Rattle.c_passing.specs.declared.nodes.Source.{Source}
 use Rattle.c_passing.specs.declared.nodes.Made.{Made}
 use Rattle.c_passing.specs.Numbered.{IsBare}
@@ -23,6 +23,7 @@ use Rattle.c_passing.specs.Lists.{copies_of}
 use Rattle.c_passing.specs.Passes.{written_type, Fits, HasTerm, HasTerms, HasAction, HasActions, Makes, IsGivenBack}
 use Rattle.c_passing.specs.Routines.{source_variable, IsParamCopy, AreParamCopies}
 use Rattle.c_passing.proofs.Calling.{number_same, pointer_same, step_made, join_made}
+use Rattle.c_passing.proofs.Ordering.{stmt_first, in_push, in_stmt, in_stmts}
 use Rattle.c_passing.proofs.Trees.{term_more, no_terms_have, terms_push, action_more, action_made, no_actions_have}
 use Rattle.c_passing.proofs.Trees.{actions_more, actions_push}
 
@@ -31,11 +32,11 @@ abbrev pub pointed : (k pointer of : ℕ) → Pos → List Ty → Term
 pointed k pointer of p = λ ts. step tree.Deref
     (step tree.Load (leaf (tree.Var k) (type_at ts pointer) p) (type_at ts pointer) p) (type_at ts of) p
 
-pub behind_made : (s : Source) (ts : List Ty) (e : Passing) (a : Made) (k t n m : ℕ) (p : Pos) (j : ℕ) → Fits s ts e →
+pub behind_made : (s : Source) (ts : List Ty) (e : Passing) (old a : Made) (k t n m : ℕ) (p : Pos) (j : ℕ) → Fits s ts e →
     is_tagged (written_type s t) ≡ true → get_or s.types.now.numbers.items t 0 ≡ n →
-    get_or s.types.now.pointers.items t 0 ≡ m → Makes a (pointed k m n p) j →
+    get_or s.types.now.pointers.items t 0 ≡ m → Makes old a m n (pointed k m n p) j →
     HasTerm ts a.exprs.items j (behind k (written_type s t) p)
-behind_made s ts e a k t n m p j fits g u v h =
+behind_made s ts e old a k t n m p j fits g u v h =
     let tn = number_same s ts e t n fits g u in
     let tm = pointer_same s ts e t m fits g v in
     record { there = (h.is ts).there; is = (h.is ts).is ∙ rw (tn, tm) refl }
@@ -56,8 +57,7 @@ pub record GivesBack (s : Source) (old a b c d new : Made) (value t n m place as
     Type 0 where
   pub number : get_or s.types.now.numbers.items t 0 ≡ n
   pub pointer : get_or s.types.now.pointers.items t 0 ≡ m
-  pub extends : Extends old.exprs.items a.exprs.items
-  pub behind : Makes a (pointed 0 m n p) place
+  pub behind : Makes old a m n (pointed 0 m n p) place
   pub assign : b.exprs.items ≡ a.exprs.items ++ record { kind = exprs.Assign place value; of = n; pos = p } ∷ []
   pub assigned_is : assigned ≡ length a.exprs.items
   pub evaluate : c.stmts.items ≡ b.stmts.items ++ record { kind = stmts.Expr assigned; pos = p } ∷ []
@@ -66,80 +66,132 @@ pub record GivesBack (s : Source) (old a b c d new : Made) (value t n m place as
   pub second_is : second ≡ length c.stmts.items
   pub block : new.stmts.items ≡ d.stmts.items ++ record { kind = stmts.Block [] (first ∷ second ∷ []); pos = p } ∷ []
   pub number_is : j ≡ length d.stmts.items
-  pub exprs : new.exprs.items ≡ b.exprs.items
+  pub assign_rest : b ≡ record a { exprs = b.exprs }
+  pub first_rest : c ≡ record b { stmts = c.stmts }
+  pub second_rest : d ≡ record c { stmts = d.stmts }
+  pub block_rest : new ≡ record d { stmts = new.stmts }
 
 pub given_back_made : (s : Source) (old a b c d new : Made) (value t n m place assigned first second j : ℕ) (p : Pos) →
     is_tagged (written_type s t) ≡ true →
     GivesBack s old a b c d new value t n m place assigned first second j p → IsGivenBack s old new value t p j
-given_back_made s old a b c d new value t n m place assigned first second j p g st = record {
-  is = λ ts e y fits hv.
-      let es = b.exprs.items in
-      let w = written_type s t in
-      let value-a = term_more ts old.exprs.items a.exprs.items value y st.extends hv in
-      let place-a = behind_made s ts e a 0 t n m p place fits g st.number st.pointer st.behind in
-      let made = join_made ts a.exprs.items es
-      (record { kind = exprs.Assign place value; of = n; pos = p }) place value assigned
-      (behind 0 w p) y st.assign st.assigned_is refl place-a value-a in
-      let assign : HasTerm ts es assigned (join tree.Assign (behind 0 w p) y w p) =
-      record {
-        there = made.there;
-        is = made.is
-            ∙ ap (λ u. join tree.Assign (behind 0 w p) y u p) (number_same s ts e t n fits g st.number);
-      } in
-      let one =
-      action_made ts es b.stmts.items c.stmts.items (record { kind = stmts.Expr assigned; pos = p }) first
-      (join tree.Assign (behind 0 w p) y w p ∷ []) [] st.evaluate st.first_is
-      (one_has ts es assigned (join tree.Assign (behind 0 w p) y w p) assign) (no_actions_have ts es b.stmts.items) in
-      let two = action_made ts es c.stmts.items d.stmts.items (record { kind = stmts.Return None; pos = p }) second []
-      [] st.leave st.second_is (no_terms_have ts es) (no_actions_have ts es c.stmts.items) in
-      let one-d = action_more ts es es c.stmts.items d.stmts.items first _ ([], sym (append-nil es))
-      (_, st.leave) one in
-      let all =
-      action_made ts es d.stmts.items new.stmts.items
-      (record { kind = stmts.Block [] (first ∷ second ∷ []); pos = p }) j [] (_ ∷ _ ∷ []) st.block st.number_is
-      (no_terms_have ts es)
-      (two_have ts es d.stmts.items first second _ _ one-d two) in
-      rw st.exprs all;
-}
+given_back_made s old a b c d new value t n m place assigned first second j p g st =
+    let in_exprs : Made → List Expr = λ x. x.exprs.items in
+    let in_stmts : Made → List Stmt = λ x. x.stmts.items in
+    let same_c : c.exprs.items ≡ b.exprs.items = ap in_exprs st.first_rest in
+    let same_d : d.exprs.items ≡ c.exprs.items = ap in_exprs st.second_rest in
+    let same_new : new.exprs.items ≡ d.exprs.items = ap in_exprs st.block_rest in
+    let same : new.exprs.items ≡ b.exprs.items = same_new ∙ same_d ∙ same_c in
+    let kept : b.stmts.items ≡ a.stmts.items = ap in_stmts st.assign_rest in
+    record {
+      exprs = subst (Extends old.exprs.items) (sym same)
+          (extends_push old.exprs.items a.exprs.items b.exprs.items _ st.behind.extends st.assign);
+      stmts =
+          extends_push old.stmts.items d.stmts.items new.stmts.items _
+          (extends_push old.stmts.items c.stmts.items d.stmts.items _
+          (extends_push old.stmts.items b.stmts.items c.stmts.items _
+          ([], kept ∙ ap in_stmts st.behind.rest ∙ sym (append-nil old.stmts.items)) st.evaluate) st.leave) st.block;
+      vars = ap (λ (x : Made). x.vars) st.block_rest ∙ ap (λ (x : Made). x.vars) st.second_rest
+          ∙ ap (λ (x : Made). x.vars) st.first_rest ∙ ap (λ (x : Made). x.vars) st.assign_rest
+          ∙ ap (λ (x : Made). x.vars) st.behind.rest;
+      is = λ ts e y fits hv.
+          let es = b.exprs.items in
+          let w = written_type s t in
+          let value-a = term_more ts old.exprs.items a.exprs.items value y st.behind.extends hv in
+          let place-a = behind_made s ts e old a 0 t n m p place fits g st.number st.pointer st.behind in
+          let made = join_made ts a.exprs.items es
+          (record { kind = exprs.Assign place value; of = n; pos = p }) place value assigned
+          (behind 0 w p) y st.assign st.assigned_is refl place-a value-a in
+          let assign : HasTerm ts es assigned (join tree.Assign (behind 0 w p) y w p) =
+          record {
+            there = made.there;
+            is = made.is
+                ∙ ap (λ u. join tree.Assign (behind 0 w p) y u p) (number_same s ts e t n fits g st.number);
+          } in
+          let one =
+          action_made ts es b.stmts.items c.stmts.items (record { kind = stmts.Expr assigned; pos = p }) first
+          (join tree.Assign (behind 0 w p) y w p ∷ []) [] st.evaluate st.first_is
+          (one_has ts es assigned (join tree.Assign (behind 0 w p) y w p) assign) (no_actions_have ts es b.stmts.items) in
+          let two = action_made ts es c.stmts.items d.stmts.items (record { kind = stmts.Return None; pos = p }) second []
+          [] st.leave st.second_is (no_terms_have ts es) (no_actions_have ts es c.stmts.items) in
+          let one-d = action_more ts es es c.stmts.items d.stmts.items first _ ([], sym (append-nil es))
+          (_, st.leave) one in
+          let all =
+          action_made ts es d.stmts.items new.stmts.items
+          (record { kind = stmts.Block [] (first ∷ second ∷ []); pos = p }) j [] (_ ∷ _ ∷ []) st.block st.number_is
+          (no_terms_have ts es)
+          (two_have ts es d.stmts.items first second _ _ one-d two) in
+          rw same all;
+      ordered = λ z us vs o.
+          let k = length s.types.now.list.items in
+          let tn = z.numbers t n st.number in
+          let one = in_push k a b (record { kind = exprs.Assign place value; of = n; pos = p }) assigned
+          (place ∷ value ∷ []) st.assign kept st.assigned_is tn refl us vs
+          (st.behind.ordered k (z.pointers t m st.pointer) tn (value ∷ us) vs o) in
+          let two = in_stmt k b c (record { kind = stmts.Expr assigned; pos = p }) first (assigned ∷ []) [] st.evaluate
+          same_c st.first_is refl refl us vs one in
+          let three = in_stmt k c d (record { kind = stmts.Return None; pos = p }) second [] [] st.leave same_d
+          st.second_is refl refl us (first ∷ vs) two in
+          let four = stmt_first k d.exprs.items d.stmts.items first us (second ∷ []) vs three in
+          in_stmt k d new (record { kind = stmts.Block [] (first ∷ second ∷ []); pos = p }) j [] (first ∷ second ∷ [])
+          st.block same_new st.number_is refl refl us vs four;
+    }
 
 -- ---- a parameter is copied
 
-pub record CopiesParam (s : Source) (a b new : Made) (v : VarDef) (from to t n m place value j : ℕ) : Type 0 where
+pub record CopiesParam (s : Source) (old a b new : Made) (v : VarDef) (from to t n m place value j : ℕ) : Type 0 where
   pub bare : IsBare s.program.now.types v.of t
   pub number : get_or s.types.now.numbers.items t 0 ≡ n
   pub pointer : get_or s.types.now.pointers.items t 0 ≡ m
-  pub behind : Makes a (pointed from m n v.pos) place
+  pub behind : Makes old a m n (pointed from m n v.pos) place
   pub load : b.exprs.items ≡ a.exprs.items ++ record { kind = exprs.Load place; of = n; pos = v.pos } ∷ []
   pub value_is : value ≡ length a.exprs.items
   pub init : new.stmts.items ≡ b.stmts.items ++ record { kind = stmts.Init to 0 value; pos = v.pos } ∷ []
   pub number_is : j ≡ length b.stmts.items
-  pub exprs : new.exprs.items ≡ b.exprs.items
+  pub load_rest : b ≡ record a { exprs = b.exprs }
+  pub init_rest : new ≡ record b { stmts = new.stmts }
 
 pub param_copy_made : (s : Source) (old a b new : Made) (v : VarDef) (from to t n m place value j : ℕ) →
-    by_pointer (written_type s v.of) ≡ true → CopiesParam s a b new v from to t n m place value j →
+    by_pointer (written_type s v.of) ≡ true → CopiesParam s old a b new v from to t n m place value j →
     IsParamCopy s old new v from to j
-param_copy_made s old a b new v from to t n m place value j g st = record {
-  is = λ ts e fits.
-      let es = b.exprs.items in
-      let u = written_type s t in
-      let tagged : is_tagged u ≡ true = st.bare.same ∙ g in
-      let is : u ≡ bare (written_type s v.of) = st.bare.is g in
-      let place-a = behind_made s ts e a from t n m v.pos place fits tagged st.number st.pointer st.behind in
-      let made = step_made ts a.exprs.items es (record { kind = exprs.Load place; of = n; pos = v.pos }) place value
-      (behind from u v.pos) st.load st.value_is refl place-a in
-      let load : HasTerm ts es value (step tree.Load (behind from u v.pos) u v.pos) =
-      record {
-        there = made.there;
-        is = made.is
-            ∙ ap (λ x. step tree.Load (behind from u v.pos) x v.pos)
-            (number_same s ts e t n fits tagged st.number);
-      } in
-      let all =
-      action_made ts es b.stmts.items new.stmts.items (record { kind = stmts.Init to 0 value; pos = v.pos }) j
-      (step tree.Load (behind from u v.pos) u v.pos ∷ []) [] st.init st.number_is
-      (one_has ts es value (step tree.Load (behind from u v.pos) u v.pos) load) (no_actions_have ts es b.stmts.items) in
-      rw (st.exprs, ← is) all;
-}
+param_copy_made s old a b new v from to t n m place value j g st =
+    let same : new.exprs.items ≡ b.exprs.items = ap (λ (x : Made). x.exprs.items) st.init_rest in
+    let kept : b.stmts.items ≡ a.stmts.items = ap (λ (x : Made). x.stmts.items) st.load_rest in
+    record {
+      exprs = subst (Extends old.exprs.items) (sym same)
+          (extends_push old.exprs.items a.exprs.items b.exprs.items _ st.behind.extends st.load);
+      stmts =
+          extends_push old.stmts.items b.stmts.items new.stmts.items _
+          ([], kept ∙ ap (λ (x : Made). x.stmts.items) st.behind.rest ∙ sym (append-nil old.stmts.items)) st.init;
+      vars = ap (λ (x : Made). x.vars) st.init_rest ∙ ap (λ (x : Made). x.vars) st.load_rest
+          ∙ ap (λ (x : Made). x.vars) st.behind.rest;
+      is = λ ts e fits.
+          let es = b.exprs.items in
+          let u = written_type s t in
+          let tagged : is_tagged u ≡ true = st.bare.same ∙ g in
+          let is : u ≡ bare (written_type s v.of) = st.bare.is g in
+          let place-a = behind_made s ts e old a from t n m v.pos place fits tagged st.number st.pointer st.behind in
+          let made = step_made ts a.exprs.items es (record { kind = exprs.Load place; of = n; pos = v.pos }) place value
+          (behind from u v.pos) st.load st.value_is refl place-a in
+          let load : HasTerm ts es value (step tree.Load (behind from u v.pos) u v.pos) =
+          record {
+            there = made.there;
+            is = made.is
+                ∙ ap (λ x. step tree.Load (behind from u v.pos) x v.pos)
+                (number_same s ts e t n fits tagged st.number);
+          } in
+          let all =
+          action_made ts es b.stmts.items new.stmts.items (record { kind = stmts.Init to 0 value; pos = v.pos }) j
+          (step tree.Load (behind from u v.pos) u v.pos ∷ []) [] st.init st.number_is
+          (one_has ts es value (step tree.Load (behind from u v.pos) u v.pos) load) (no_actions_have ts es b.stmts.items) in
+          rw (same, ← is) all;
+      ordered = λ z us vs o.
+          let k = length s.types.now.list.items in
+          let tn = z.numbers t n st.number in
+          let one = in_push k a b (record { kind = exprs.Load place; of = n; pos = v.pos }) value (place ∷ []) st.load
+          kept st.value_is tn refl us vs (st.behind.ordered k (z.pointers t m st.pointer) tn us vs o) in
+          in_stmt k b new (record { kind = stmts.Init to 0 value; pos = v.pos }) j (value ∷ []) [] st.init same
+          st.number_is refl refl us vs one;
+    }
 
 -- ---- the copies of parameters
 
@@ -171,15 +223,22 @@ copies_push from to k j (x ∷ vs) v p q =
         rw e (h to (q ∙ omega arith))
 
 pub no_copies : (s : Source) (a : Made) (from to : ℕ) (js : List ℕ) → AreParamCopies s a a from to [] js js
-no_copies s a from to js = record { are = λ ts e ys fits h. rw (append-nil ys) h }
+no_copies s a from to js = record {
+  exprs = extends_same a.exprs.items;
+  stmts = extends_same a.stmts.items;
+  vars = refl;
+  are = λ ts e ys fits h. rw (append-nil ys) h;
+  ordered = λ t us vs o. o;
+}
 
 pub pointed_copied : (s : Source) (a b c : Made) (from to k j : ℕ) (vs : List Variable) (v : VarDef)
-    (before js ls : List ℕ) (i : ℕ) → AreParamCopies s a b from to vs before js → Extends b.exprs.items c.exprs.items →
-    Extends b.stmts.items c.stmts.items →
-    IsParamCopy s b c v k j i → by_pointer (written_type s v.of) ≡ true → k ≡ from + length vs →
+    (before js ls : List ℕ) (i : ℕ) → AreParamCopies s a b from to vs before js → IsParamCopy s b c v k j i → by_pointer (written_type s v.of) ≡ true → k ≡ from + length vs →
     j ≡ to + length (flat_map copied_param vs) → ls ≡ js ++ i ∷ [] →
     AreParamCopies s a c from to (vs ++ source_variable s v ∷ []) before ls
-pointed_copied s a b c from to k j vs v before js ls i h ext sext copy g p q l = record {
+pointed_copied s a b c from to k j vs v before js ls i h copy g p q l = record {
+  exprs = extends_then a.exprs.items b.exprs.items c.exprs.items h.exprs copy.exprs;
+  stmts = extends_then a.stmts.items b.stmts.items c.stmts.items h.stmts copy.stmts;
+  vars = copy.vars ∙ h.vars;
   are = λ ts e ys fits had.
       let x = source_variable s v in
       let one : copy_of k j x ≡ param_copy k j x ∷ [] = rw g refl in
@@ -187,14 +246,18 @@ pointed_copied s a b c from to k j vs v before js ls i h ext sext copy g p q l =
       ap (λ zs. ys ++ zs) (copies_push from to k j vs x p q ∙ ap (λ zs. copies_of from to vs ++ zs) one)
       ∙ sym (append_assoc ys (copies_of from to vs) (param_copy k j x ∷ [])) in
       rw all (actions_push ts c.exprs.items c.stmts.items js ls i (ys ++ copies_of from to vs) (param_copy k j x) l
-      (actions_more ts b.exprs.items c.exprs.items b.stmts.items c.stmts.items js (ys ++ copies_of from to vs) ext sext
+      (actions_more ts b.exprs.items c.exprs.items b.stmts.items c.stmts.items js (ys ++ copies_of from to vs) copy.exprs copy.stmts
       (h.are ts e ys fits had)) (copy.is ts e fits));
+  ordered = λ t. in_stmts (length s.types.now.list.items) a b c [] before [] js ls i (h.ordered t) (copy.ordered t) l;
 }
 
 pub plain_copied : (s : Source) (a b : Made) (from to : ℕ) (vs : List Variable) (v : VarDef) (before js : List ℕ) →
     AreParamCopies s a b from to vs before js → by_pointer (written_type s v.of) ≡ false →
     AreParamCopies s a b from to (vs ++ source_variable s v ∷ []) before js
 plain_copied s a b from to vs v before js h g = record {
+  exprs = h.exprs;
+  stmts = h.stmts;
+  vars = h.vars;
   are = λ ts e ys fits had.
       let x = source_variable s v in
       let none : copy_of (from + length vs) (to + length (flat_map copied_param vs)) x ≡ [] = rw g refl in
@@ -202,6 +265,7 @@ plain_copied s a b from to vs v before js h g = record {
       copies_push from to (from + length vs) (to + length (flat_map copied_param vs)) vs x refl refl
       ∙ ap (λ zs. copies_of from to vs ++ zs) none ∙ append-nil (copies_of from to vs) in
       rw all (h.are ts e ys fits had);
+  ordered = h.ordered;
 }
 
 -- how many there are then
@@ -225,9 +289,6 @@ copied_count s vs v n m p q =
 -- what holds of the copies so far
 pub record Copies (s : Source) (old now : Made) (first local : ℕ) (params : List VarDef) (i from to : ℕ)
     (before js : List ℕ) : Type 0 where
-  pub exprs : Extends old.exprs.items now.exprs.items
-  pub stmts : Extends old.stmts.items now.stmts.items
-  pub vars : now.vars ≡ old.vars
   pub from_is : from ≡ first + i
   pub to_is : to ≡ local + length (flat_map copied_param (map (source_variable s) (take i params)))
   pub are : AreParamCopies s old now first local (map (source_variable s) (take i params)) before js
@@ -245,10 +306,9 @@ seen_length s params i lt = length-map (take i params) (source_variable s) ∙ l
 pub copies_pointed : (s : Source) (a b c : Made) (first local : ℕ) (params : List VarDef) (i from to : ℕ) (d v : VarDef)
     (before js ls : List ℕ) (j : ℕ) → Copies s a b first local params i from to before js → i < length params →
     v ≡ get_or params i d →
-    by_pointer (written_type s v.of) ≡ true → Extends b.exprs.items c.exprs.items →
-    Extends b.stmts.items c.stmts.items → c.vars ≡ b.vars → IsParamCopy s b c v from to j → ls ≡ js ++ j ∷ [] →
+    by_pointer (written_type s v.of) ≡ true → IsParamCopy s b c v from to j → ls ≡ js ++ j ∷ [] →
     Copies s a c first local params (i + 1) (from + 1) (to + 1) before ls
-copies_pointed s a b c first local params i from to d v before js ls j h lt q g ext sext vars copy l =
+copies_pointed s a b c first local params i from to d v before js ls j h lt q g copy l =
     let vs = map (source_variable s) (take i params) in
     let turn = sym (params_turn s params i d v lt q) in
     let x = source_variable s v in
@@ -261,13 +321,10 @@ copies_pointed s a b c first local params i from to d v before js ls j h lt q g 
     let size = seen_length s params i lt in
     let at : from ≡ first + length vs = let f = h.from_is in omega arith in
     record {
-      exprs = extends_then a.exprs.items b.exprs.items c.exprs.items h.exprs ext;
-      stmts = extends_then a.stmts.items b.stmts.items c.stmts.items h.stmts sext;
-      vars = vars ∙ h.vars;
       from_is = let f = h.from_is in omega arith;
       to_is = let t = h.to_is in omega arith;
       are = subst (λ zs. AreParamCopies s a c first local zs before ls) turn
-          (pointed_copied s a b c first local from to vs v before js ls j h.are ext sext copy g at h.to_is l);
+          (pointed_copied s a b c first local from to vs v before js ls j h.are copy g at h.to_is l);
     }
 
 pub copies_plain : (s : Source) (a b : Made) (first local : ℕ) (params : List VarDef) (i from to : ℕ) (d v : VarDef)
@@ -285,9 +342,6 @@ copies_plain s a b first local params i from to d v before js h lt q g =
     ≡ length (flat_map copied_param (map (source_variable s) (take (i + 1) params))) =
     ap (λ zs. length (flat_map copied_param zs)) turn in
     record {
-      exprs = h.exprs;
-      stmts = h.stmts;
-      vars = h.vars;
       from_is = let f = h.from_is in omega arith;
       to_is = let t = h.to_is in omega arith;
       are = subst (λ zs. AreParamCopies s a b first local zs before js) turn

@@ -15,13 +15,15 @@ use Rattle.c_tree.specs.Views.{variable_of}
 use Rattle.c_tree.specs.Passed.{by_pointer, passed, result_variable, passed_variable, passed_param, copied_param}
 use Rattle.c_tree.specs.Passed.{copied_params, result_pointer, written_params, named_variables, param_number}
 use Rattle.c_tree.specs.Passed.{variable_number}
-use Rattle.c_copy.proofs.Marking.{get-push}
+use Rattle.c_copy.proofs.Items.{get-push}
+use Rattle.c_passing.proofs.Within.{taken}
 use Rattle.c_passing.specs.declared.functions.Whole.{Whole}
 use Rattle.c_passing.specs.declared.functions.Standing.{Standing}
 use Rattle.c_passing.specs.Numbered.{type_in, IsGivenIn}
 use Rattle.c_passing.specs.Routines.{written_routine, written_variable, AreRun, IsRun, IsNamed, named_so_far, AddsParam}
 use Rattle.c_passing.specs.Routines.{HasParams, HasLocals}
 use Rattle.c_passing.proofs.Hiding.{hidden_push}
+use Rattle.c_passing.proofs.Ordering.{vars_push}
 
 -- ---- variables as they are run
 
@@ -31,10 +33,11 @@ run_push w xs ys v vs x h i e = record {
   count = let l = h.count in ap length e ∙ omega (arith, length-append xs (v ∷ []), length-append vs (x ∷ []));
   is = λ ts f. ap (map (variable_of ts)) e ∙ map-append (variable_of ts) xs (v ∷ [])
       ∙ ap (λ zs. zs ++ variable_of ts v ∷ []) (h.is ts f) ∙ ap (λ z. vs ++ z ∷ []) (i.is ts f);
+  typed = λ t. vars_push (length w.types.now.list.items) xs ys v (h.typed t) (i.typed t) e;
 }
 
 pub none_run : (w : Whole) (xs : List VarDef) → xs ≡ [] → AreRun w xs []
-none_run w xs e = rw e (record { count = refl; is = λ ts f. refl })
+none_run w xs e = rw e (record { count = refl; is = λ ts f. refl; typed = λ t k v g. absurd cc })
 
 pub run_same : (w : Whole) (xs : List VarDef) (vs us : List Variable) → vs ≡ us → AreRun w xs vs → AreRun w xs us
 run_same w xs vs us e h = subst (AreRun w xs) e h
@@ -212,7 +215,7 @@ pointed_added w old new v local k at p a run b c n vs = λ f e lt le h.
       vars =
           run_same w new.vars.items (named_so_far r k ++ x ∷ []) (named_so_far r (k + 1)) (sym more)
           (run_push w old.vars.items new.vars.items local (named_so_far r k) x h.vars
-          (record { is = λ ts g. run.is ts g ∙ copied_same x p }) vs);
+          (record { is = λ ts g. run.is ts g ∙ copied_same x p; typed = run.typed }) vs);
     }
 
 -- another one
@@ -341,6 +344,7 @@ pub local_run : (w : Whole) (v : VarDef) (n : ℕ) → get_or w.types.now.number
 local_run w v n g = record {
   is = λ ts f. ap (λ t. record (written_variable w v) { of = t })
       (f.types.numbers v.of n g);
+  typed = λ t. t.numbers v.of n g;
 }
 
 pub param_pointed : (w : Whole) (v : VarDef) (n : ℕ) → by_pointer (written_variable w v).of ≡ true →
@@ -350,11 +354,12 @@ param_pointed w v n p g =
     record {
       is = λ ts f. rw p (ap (λ t. record (written_variable w v) { of = t; simple = true })
           (f.types.pointers v.of n g p));
+      typed = λ t. t.pointers v.of n g;
     }
 
 pub param_plain : (w : Whole) (v x : VarDef) → by_pointer (written_variable w v).of ≡ false →
     IsRun w x (passed_variable (written_variable w v)) → IsRun w x (passed_param (written_variable w v))
-param_plain w v x p h = record { is = λ ts f. h.is ts f ∙ sym (plainly (written_variable w v) p) }
+param_plain w v x p h = record { is = λ ts f. h.is ts f ∙ sym (plainly (written_variable w v) p); typed = h.typed }
   where
     plainly : (u : Variable) → by_pointer u.of ≡ false → passed_param u ≡ passed_variable u
     plainly u e = rw e refl
@@ -378,7 +383,10 @@ result_run w f k n xs ys h g e q =
     let r = written_routine w f in
     let v : VarDef = record { name = f.name; pos = f.pos; of = n; simple = true } in
     let one : IsRun w v (result_variable r (Pointer (bare (type_in w.program.now.types k)))) =
-    record { is = λ ts t. ap (λ z. result_variable r z) (t.types.pointers k n g h.1) } in
+    record {
+      is = λ ts t. ap (λ z. result_variable r z) (t.types.pointers k n g h.1);
+      typed = λ t. t.pointers k n g;
+    } in
     run_same w ys ([] ++ result_variable r (Pointer (bare (type_in w.program.now.types k))) ∷ []) (result_pointer r)
     (sym (one_result w f k h)) (run_push w xs ys v [] _ (none_run w xs e) one q)
 
@@ -404,12 +412,6 @@ params_turn w params i d v x xs ys vs lt q h e all =
 pub no_params_run : (w : Whole) (xs : List VarDef) (vs : List Variable) → AreRun w xs vs → AreRun w xs (vs ++ [])
 no_params_run w xs vs h = run_same w xs vs (vs ++ []) (sym (append-nil vs)) h
 
-got : {A : Type 0} (xs : List A) (n k : ℕ) (x : A) → slice_get (take n xs) k ≡ Some x → slice_get xs k ≡ Some x
-got xs zero k x e = absurd cc
-got [] (suc n) k x e = absurd cc
-got (y ∷ ys) (suc n) zero x e = e
-got (y ∷ ys) (suc n) (suc k) x e = got ys n k x e
-
 pub param_turn : (w : Whole) (params : List VarDef) (old now new : Standing) (d v : VarDef) (k at : ℕ) →
     k < length params → at ≡ k → v ≡ get_or params k d → AddsParam w now new v at →
     ((f : FunDef) → HasParams w f params → IsNamed w f 0 old (named_so_far (written_routine w f) 0) →
@@ -423,4 +425,4 @@ param_turn w params old now new d v k at lt same q added h f hp start =
     let within : k < m = omega arith in
     let there : slice_get (take m f.vars) k ≡ Some v =
     ap (λ (zs : List VarDef). slice_get zs k) (sym hp.0) ∙ slice_get-get_or params k d lt ∙ ap Some (sym q) in
-    add f (got f.vars m k v there) within hp.1 (h f hp start)
+    add f (taken m f.vars k v there) within hp.1 (h f hp start)

@@ -11,7 +11,7 @@ use Rattle.c_tree.specs.Views.{type_at, expr_from, no_term, term_at, stmt_from, 
 use Rattle.c_tree.specs.Views.{parts}
 use Rattle.c_copy.specs.Copying.{AllBelow, Extends, expr_shape, stmt_form, terms_in, actions_in}
 use Rattle.c_copy.proofs.Copies.{at_seam, forest_front, map_seen, kind_is, action_is, longer}
-use Rattle.c_copy.proofs.Marking.{get-push}
+use Rattle.c_copy.proofs.Items.{get-push}
 use Rattle.c_passing.specs.Passes.{HasTerm, HasTerms, HasAction, HasActions}
 
 -- ---- expressions

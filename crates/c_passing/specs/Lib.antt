@@ -1,5 +1,6 @@
-pub mod Numbered
-pub mod Named
 pub mod Lists
+pub mod Named
+pub mod Numbered
+pub mod Ordered
 pub mod Passes
 pub mod Routines

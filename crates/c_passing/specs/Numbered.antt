@@ -1,5 +1,5 @@
 -- What stands for the types of a program.
-use Rattle.std.specs.Prelude.{◌≡◌, ℕ, ◌+◌, ◌<◌, Bool, true, false, List, ◌∷◌, [], ◌++◌, length, map, Option, Some, None}
+use Rattle.std.specs.Prelude.{◌≡◌, ℕ, ◌<◌, Bool, true, false, List, ◌∷◌, [], ◌++◌, length, map, Option, Some, None}
 use Rattle.std.specs.Prelude.{slice_get, slice_index, if◌then◌else◌}
 use Rattle.c_tree.specs.declared.typed.CType.{CType}
 use Rattle.c_tree.specs.declared.typed.CType.TheVariants as ctypes
@@ -7,7 +7,9 @@ use Rattle.c_tree.specs.declared.typed.Member.{Member}
 use Rattle.c_tree.specs.Types.{Ty, Void, Pointer, bare, is_tagged}
 use Rattle.c_tree.specs.Views.{type_at, types_of, member_of}
 use Rattle.c_tree.specs.Passed.{by_pointer, passed, passed_member, result_types}
+use Rattle.c_copy.specs.Copying.{AllBelow}
 use Rattle.c_passing.specs.declared.types.Types.{Types}
+use Rattle.c_passing.specs.Ordered.{AreThere}
 
 -- the type that a number names in a list
 abbrev pub type_in : List CType → ℕ → Ty
@@ -62,6 +64,14 @@ IsKept types (ctypes.Union tag ms) = (j : ℕ) × (slice_get types j ≡ Some (c
 IsKept types (ctypes.Incomplete tag) = (j : ℕ) × (slice_get types j ≡ Some (ctypes.Incomplete tag))
 IsKept types c = Unit {0}
 
+-- a type at a number names types before it, but for members
+abbrev pub IsBehind : ℕ → CType → Type 0
+IsBehind k (ctypes.Pointer t) = t < k
+IsBehind k (ctypes.Array t n) = t < k
+IsBehind k (ctypes.Const t) = t < k
+IsBehind k (ctypes.Function t ps) = (t < k) × AllBelow k ps
+IsBehind k c = Unit {0}
+
 -- what stands for some written types
 pub record Follows (types : List CType) (t : Types) : Type 0 where
   pub void : StartsVoid t.list.items
@@ -70,6 +80,7 @@ pub record Follows (types : List CType) (t : Types) : Type 0 where
   pub numbers : (k n : ℕ) → slice_index t.numbers.items k ≡ n → IsNumber types t.list.items k n
   pub pointers : (k n : ℕ) → slice_index t.pointers.items k ≡ n → IsPointer types t.list.items k n
   pub kept : (k : ℕ) (c : CType) → slice_get t.list.items k ≡ Some c → IsKept types c
+  pub behind : (k : ℕ) (c : CType) → slice_get t.list.items k ≡ Some c → IsBehind k c
 
 -- what stands for one more, which is this one, comes behind
 abbrev pub AddsType : List CType → Types → Types → CType → Type 0
@@ -90,12 +101,14 @@ pub record AreParameters (types : List CType) (t : Types) (ks before after : Lis
   pub are : Follows types t →
       map (type_in t.list.items) after ≡ map (type_in t.list.items) before
       ++ map passed_parameter (map (type_in types) ks)
+  pub there : Follows types t → AllBelow (length t.list.items) before → AllBelow (length t.list.items) after
 
 -- the members of a struct or union, with the numbers of what stands for their types
 pub record AreRenumbered (numbers : List ℕ) (ms ns : List Member) : Type 0 where
   pub are : (types ts : List Ty) →
       ((k n : ℕ) → slice_index numbers k ≡ n → type_at ts n ≡ passed (type_at types k)) →
       map (member_of ts) ns ≡ map passed_member (map (member_of types) ms)
+  pub there : (n : ℕ) → AreThere n numbers → (j : ℕ) (m : Member) → slice_get ns j ≡ Some m → m.of < n
 
 abbrev pub IsWithMembers : List ℕ → CType → CType → Type 0
 IsWithMembers numbers (ctypes.Struct tag ms) d =

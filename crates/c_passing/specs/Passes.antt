@@ -1,23 +1,29 @@
 -- What is made of an expression, of a statement, and of lists of them.
-use Rattle.std.specs.Prelude.{◌≡◌, ℕ, ◌+◌, ◌<◌, true, false, List, ◌++◌, length, map, Option, Some, None, slice_get}
+use Rattle.std.specs.Prelude.{◌≡◌, ℕ, ◌+◌, ◌<◌, true, false, List, [], ◌∷◌, ◌++◌, length, map, Option, Some, None}
+use Rattle.std.specs.Prelude.{slice_get}
 use Rattle.ck_base.specs.declared.positions.Pos.{Pos}
 use Rattle.c_tree.specs.declared.typed.Expr.{Expr}
 use Rattle.c_tree.specs.declared.typed.ExprKind.{ExprKind}
+use Rattle.c_tree.specs.declared.typed.ExprKind.TheVariants as exprs
 use Rattle.c_tree.specs.declared.typed.Stmt.{Stmt}
 use Rattle.c_tree.specs.declared.typed.StmtKind.{StmtKind}
 use Rattle.c_tree.specs.declared.typed.StmtKind.TheVariants as stmts
 use Rattle.c_tree.specs.Types.{Ty, Void, bare}
 use Rattle.c_tree.specs.Terms as tree
-use Rattle.c_tree.specs.Terms.{Term, Terms, terms, with_term, term, leaf, step, join, Action, Variable}
+use Rattle.c_tree.specs.Terms.{Shape, Form, Term, Terms, terms, with_term, term, leaf, step, join, Action}
+use Rattle.c_tree.specs.Terms.{Variable}
 use Rattle.c_tree.specs.Views.{types_of, terms_of, term_at, actions_of, action_at, variable_of, operands, values, parts}
 use Rattle.c_tree.specs.Passed.{Names, Passing, by_pointer, passed_shape, passed_form, passed, passed_term}
 use Rattle.c_tree.specs.Passed.{passed_action, by_address, by_result, given_back}
-use Rattle.c_copy.specs.Copying.{expr_shape, stmt_form, terms_in, actions_in, AllBelow}
+use Rattle.c_copy.specs.Copying.{expr_shape, stmt_form, terms_in, actions_in, AllBelow, Extends}
+use Rattle.c_copy.specs.Order.{PartsBefore}
+use Rattle.c_copy.specs.Standing.{StandsIn, ActionStandsIn}
 use Rattle.c_passing.specs.declared.nodes.Source.{Source}
 use Rattle.c_passing.specs.declared.nodes.Made.{Made}
 use Rattle.c_passing.specs.Numbered.{type_in, TypesFit}
 use Rattle.c_passing.specs.Named.{name_in}
 use Rattle.c_passing.specs.Lists.{hidden_for_each, passed_each, passed_each_argument, passed_each_action}
+use Rattle.c_passing.specs.Ordered.{TakesIn, Takes, VarsTyped}
 
 -- ---- what is written
 
@@ -35,6 +41,41 @@ pub record Fits (s : Source) (ts : List Ty) (e : Passing) : Type 0 where
   pub types : TypesFit s.program.now.types s.types.now ts
   pub names : (p : Pos) → e.names p ≡ name_in s.names.now p
   pub numbers : (k v : ℕ) → slice_get s.numbers.now k ≡ Some v → e.number k ≡ v
+
+-- ---- numbers that name what is there
+
+-- a variable is one of so many
+abbrev pub VarWithin : ℕ → Shape → Type 0
+VarWithin n (tree.Var k) = k < n
+VarWithin n x = Unit {0}
+
+abbrev pub KindWithin : ℕ → ExprKind → Type 0
+KindWithin n (exprs.Var k) = k < n
+KindWithin n k = Unit {0}
+
+abbrev pub FormWithin : ℕ → Form → Type 0
+FormWithin n (tree.Init k offset) = k < n
+FormWithin n (tree.Block vars) = AllBelow n vars
+FormWithin n (tree.For vars k a b) = AllBelow n vars
+FormWithin n (tree.Switch vars labels) = AllBelow n vars
+FormWithin n f = Unit {0}
+
+-- each part of an expression is there, and its variables have new numbers
+abbrev pub TermWithin : Source → ℕ → Type 0
+TermWithin s k = StandsIn (VarWithin (length s.numbers.now)) s.program.now.exprs k
+
+abbrev pub TermsWithin : Source → List ℕ → Type 0
+TermsWithin s ks = (j a : ℕ) → slice_get ks j ≡ Some a → TermWithin s a
+
+-- so are those of a statement
+pub record ActionWithin (s : Source) (k : ℕ) : Type 0 where
+  pub there : k < length s.program.now.stmts
+  pub order : PartsBefore s.program.now.stmts
+  pub stands : ActionStandsIn (VarWithin (length s.numbers.now)) (FormWithin (length s.numbers.now))
+      s.program.now.exprs s.program.now.stmts k
+
+abbrev pub ActionsWithin : Source → List ℕ → Type 0
+ActionsWithin s ks = (j a : ℕ) → slice_get ks j ≡ Some a → ActionWithin s a
 
 -- ---- trees that stand in lists
 
@@ -58,10 +99,11 @@ pub record HasActions (ts : List Ty) (es : List Expr) (ss : List Stmt) (js : Lis
 
 -- ---- hidden locals
 
--- these hidden locals are added
+-- these hidden locals are added, of types that are there
 pub record Hides (s : Source) (old new : Made) (vs : Names → List Variable) : Type 0 where
   pub are : (ts : List Ty) (e : Passing) → Fits s ts e →
       map (variable_of ts) new.vars.items ≡ map (variable_of ts) old.vars.items ++ vs e.names
+  pub typed : VarsTyped s.types.now old.vars.items new.vars.items
 
 -- the type of the hidden local for a value of a type, if there is one
 abbrev pub IsHidden : Source → ℕ → Option ℕ → Type 0
@@ -70,9 +112,19 @@ IsHidden s of (Some t) = (by_pointer (written_type s of) ≡ true) × (written_t
 
 -- ---- expressions
 
--- an expression that does not depend on what is known
-pub record Makes (new : Made) (make : List Ty → Term) (j : ℕ) : Type 0 where
+-- an expression is made of nothing, with these types, that does not depend on what is known
+pub record Makes (old new : Made) (pointer of : ℕ) (make : List Ty → Term) (j : ℕ) : Type 0 where
+  pub extends : Extends old.exprs.items new.exprs.items
+  pub rest : new ≡ record old { exprs = new.exprs }
+  pub ordered : (n : ℕ) → pointer < n → of < n → TakesIn n old new [] [] (j ∷ []) []
   pub is : (ts : List Ty) → HasTerm ts new.exprs.items j (make ts)
+
+-- expressions are made, with these hidden locals, and what they are
+pub record AddsTerms (s : Source) (old new : Made) (vs : Names → List Variable) (P : Type 0) : Type 0 where
+  pub extends : Extends old.exprs.items new.exprs.items
+  pub stmts : new.stmts ≡ old.stmts
+  pub hides : Hides s old new vs
+  pub is : P
 
 -- the same expression with these operands, as it is run
 pub record IsKindPassed (s : Source) (old : ExprKind) (xs : List ℕ) (new : ExprKind) : Type 0 where
@@ -84,10 +136,13 @@ pub record IsKindPassed (s : Source) (old : ExprKind) (xs : List ℕ) (new : Exp
 pub record IsPassed (s : Source) (old new : Made) (x : Term) (j : ℕ) : Type 0 where
   pub is : (ts : List Ty) (e : Passing) → Fits s ts e →
       HasTerm ts new.exprs.items j (passed_term e (length old.vars.items) x)
+  pub ordered : Takes s.types.now old new [] [] (j ∷ []) []
 
 pub record ArePassed (s : Source) (old new : Made) (xs : List Term) (js : List ℕ) : Type 0 where
+  pub count : length js ≡ length xs
   pub are : (ts : List Ty) (e : Passing) → Fits s ts e →
       HasTerms ts new.exprs.items js (passed_each e (length old.vars.items) xs)
+  pub ordered : Takes s.types.now old new [] [] js []
 
 -- a written call
 abbrev pub written_call : Source → Expr → (f : ℕ) → List ℕ → Term
@@ -96,8 +151,11 @@ written_call s e f xs = term tree.Call (with_term (written_term s f) (terms (map
 
 -- an argument that goes by a pointer
 pub record IsByAddress (s : Source) (old new : Made) (h value t : ℕ) (p : Pos) (j : ℕ) : Type 0 where
+  pub extends : Extends old.exprs.items new.exprs.items
+  pub rest : new ≡ record old { exprs = new.exprs }
   pub is : (ts : List Ty) (e : Passing) (y : Term) → Fits s ts e → HasTerm ts old.exprs.items value y →
       HasTerm ts new.exprs.items j (by_address h y (written_type s t) p)
+  pub ordered : Takes s.types.now old new (value ∷ []) [] (j ∷ []) []
 
 -- a number comes behind those of the hidden locals for the arguments of a call at a place, which begin at another one
 pub record AreCounted (s : Source) (first : ℕ) (p : Pos) (xs : List Term) (next : ℕ) : Type 0 where
@@ -108,14 +166,18 @@ pub record ArePassedArguments (s : Source) (old new : Made) (first : ℕ) (p : P
     (before after : List ℕ) : Type 0 where
   pub are : (ts : List Ty) (e : Passing) (ys : List Term) → Fits s ts e → HasTerms ts old.exprs.items before ys →
       HasTerms ts new.exprs.items after (ys ++ passed_each_argument e first (length old.vars.items) p xs)
+  pub ordered : Takes s.types.now old new before [] after []
 
 -- the hidden local of its result stands for a call
 pub record IsByResult (s : Source) (old new : Made) (h called : ℕ) (list : List ℕ) (t : ℕ) (p : Pos) (j : ℕ) :
     Type 0 where
+  pub extends : Extends old.exprs.items new.exprs.items
+  pub rest : new ≡ record old { exprs = new.exprs }
   pub is : (ts : List Ty) (e : Passing) (f : Term) (ys : List Term) → Fits s ts e →
       HasTerm ts old.exprs.items called f → HasTerms ts old.exprs.items list ys →
       HasTerm ts new.exprs.items j (join tree.Comma (term tree.Call (with_term f (terms ys)) Void p)
       (leaf (tree.Var h) (written_type s t) p) (written_type s t) p)
+  pub ordered : Takes s.types.now old new (called ∷ list) [] (j ∷ []) []
 
 -- calls of what stands at a number, whose first own hidden local has a number too: one without a result by a pointer
 pub record IsPlainCall (s : Source) (old new : Made) (e : Expr) (called own : ℕ) (xs : List ℕ) (j : ℕ) : Type 0 where
@@ -123,6 +185,7 @@ pub record IsPlainCall (s : Source) (old new : Made) (e : Expr) (called own : �
       HasTerm ts new.exprs.items j
       (term tree.Call (with_term f (terms (passed_each_argument g own (length old.vars.items) e.pos
       (map (written_term s) xs)))) (passed (written_type s e.of)) e.pos)
+  pub ordered : Takes s.types.now old new (called ∷ []) [] (j ∷ []) []
 
 -- and one with it
 pub record IsCallByResult (s : Source) (old new : Made) (e : Expr) (called own hidden t : ℕ) (xs : List ℕ) (j : ℕ) :
@@ -131,8 +194,16 @@ pub record IsCallByResult (s : Source) (old new : Made) (e : Expr) (called own h
       HasTerm ts new.exprs.items j (by_result hidden f
       (terms (passed_each_argument g own (length old.vars.items) e.pos (map (written_term s) xs)))
       (written_type s t) e.pos)
+  pub ordered : Takes s.types.now old new (called ∷ []) [] (j ∷ []) []
 
 -- ---- statements
+
+-- statements are made with their expressions and these hidden locals, and what they are
+pub record AddsActions (s : Source) (old new : Made) (vs : Names → List Variable) (P : Type 0) : Type 0 where
+  pub exprs : Extends old.exprs.items new.exprs.items
+  pub stmts : Extends old.stmts.items new.stmts.items
+  pub hides : Hides s old new vs
+  pub is : P
 
 -- the new numbers of variables
 pub record AreVariables (s : Source) (ks vs : List ℕ) : Type 0 where
@@ -146,8 +217,12 @@ pub record IsRenumbered (s : Source) (old new : StmtKind) : Type 0 where
 
 -- `return` of a value by a pointer
 pub record IsGivenBack (s : Source) (old new : Made) (value t : ℕ) (p : Pos) (j : ℕ) : Type 0 where
+  pub exprs : Extends old.exprs.items new.exprs.items
+  pub stmts : Extends old.stmts.items new.stmts.items
+  pub vars : new.vars ≡ old.vars
   pub is : (ts : List Ty) (e : Passing) (y : Term) → Fits s ts e → HasTerm ts old.exprs.items value y →
       HasAction ts new.exprs.items new.stmts.items j (given_back y (written_type s t) p)
+  pub ordered : Takes s.types.now old new (value ∷ []) [] [] (j ∷ [])
 
 -- an expression, and its type, if it is given back by a pointer
 abbrev pub IsGivenValue : Source → ℕ → Option (ℕ × ℕ) → Type 0
@@ -167,9 +242,12 @@ IsReturned s k (Some x) =
 pub record IsPassedAction (s : Source) (old new : Made) (x : Action) (j : ℕ) : Type 0 where
   pub is : (ts : List Ty) (e : Passing) → Fits s ts e →
       HasAction ts new.exprs.items new.stmts.items j (passed_action e (length old.vars.items) x)
+  pub ordered : Takes s.types.now old new [] [] [] (j ∷ [])
 
 -- statements go behind the others
 pub record ArePassedActions (s : Source) (old new : Made) (xs : List Action) (before after : List ℕ) : Type 0 where
+  pub count : length after ≡ length before + length xs
   pub are : (ts : List Ty) (e : Passing) (ys : List Action) → Fits s ts e →
       HasActions ts old.exprs.items old.stmts.items before ys →
       HasActions ts new.exprs.items new.stmts.items after (ys ++ passed_each_action e (length old.vars.items) xs)
+  pub ordered : Takes s.types.now old new [] before [] after

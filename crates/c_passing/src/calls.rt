@@ -1,11 +1,11 @@
 //! Calls: hidden locals, and arguments and results that go by pointers.
 
-ghost use Rattle.std.specs.Prelude.{◌≡◌, true, Some, IfOk, OnOk, map, slice_get};
+ghost use Rattle.std.specs.Prelude.{◌≡◌, true, Some, IfOk, OnOk, map};
 ghost use Rattle.c_tree.specs.Types.{is_tagged};
 ghost use Rattle.c_tree.specs.Passed.{hidden_for};
-ghost use Rattle.c_copy.specs.Copying.{Extends};
 ghost use Rattle.c_passing.specs.Lists.{hidden_for_each};
-ghost use Rattle.c_passing.specs.Passes.{written_type, written_term, IsHidden, Hides, IsByAddress, IsByResult};
+ghost use Rattle.c_passing.specs.Passes.{written_type, written_term, TermsWithin, IsHidden, Hides, IsByAddress};
+ghost use Rattle.c_passing.specs.Passes.{IsByResult};
 
 use crate::nodes::{Made, Source};
 use crate::types::{VOID, bare, by_pointer};
@@ -51,12 +51,13 @@ pub(crate) fn hide_arguments(
     pos: Pos,
     out: &mut Made,
 ) -> Result<(), NoMemory>
+    requires { TermsWithin source.now xs.now }
     ensures hides { OnOk result (Hides source.now out.old out.new
         (λ names. hidden_for_each names pos (map (written_term source.now) xs.now))) }
     ensures rest { OnOk result (out.new ≡ record out.old { vars = out.new.vars }) }
 {
     for x in xs {
-        let e = source.expr(*x)?;
+        let e = source.expr(*x);
         hide(source, e.of, pos, out)?;
     }
     Ok(())
@@ -72,9 +73,7 @@ pub(crate) fn by_address(
     out: &mut Made,
 ) -> Result<u32, NoMemory>
     requires { is_tagged (written_type source.now t) ≡ true }
-    ensures extends { OnOk result (Extends out.old.exprs.items out.new.exprs.items) }
-    ensures rest { OnOk result (out.new ≡ record out.old { exprs = out.new.exprs }) }
-    ensures is { IfOk result (IsByAddress source.now out.old out.new h value t pos) }
+    ensures { IfOk result (IsByAddress source.now out.old out.new h value t pos) }
 {
     let of = source.types.number(t);
     let pointer = source.types.pointer(t);
@@ -95,9 +94,7 @@ pub(crate) fn by_result(
     out: &mut Made,
 ) -> Result<u32, NoMemory>
     requires { is_tagged (written_type source.now t) ≡ true }
-    ensures extends { OnOk result (Extends out.old.exprs.items out.new.exprs.items) }
-    ensures rest { OnOk result (out.new ≡ record out.old { exprs = out.new.exprs }) }
-    ensures is { IfOk result (IsByResult source.now out.old out.new h called list.items t pos) }
+    ensures { IfOk result (IsByResult source.now out.old out.new h called list.items t pos) }
 {
     let of = source.types.number(t);
     let kind = ExprKind::Call(called, Sequence::from_vec(list));

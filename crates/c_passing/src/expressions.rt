@@ -4,22 +4,23 @@ ghost use Rattle.std.specs.Prelude.{◌≡◌, true, IfOk, OnOk, length, map};
 ghost use Rattle.c_tree.specs.Types.{is_tagged};
 ghost use Rattle.c_tree.specs.Views.{operands};
 ghost use Rattle.c_tree.specs.Passed.{hidden_in};
-ghost use Rattle.c_copy.specs.Copying.{Extends};
 ghost use Rattle.c_passing.specs.Lists.{hidden_in_each};
-ghost use Rattle.c_passing.specs.Passes.{written_type, written_term, written_call, Hides, IsKindPassed, IsPassed};
+ghost use Rattle.c_passing.specs.Passes.{written_type, written_term, written_call, KindWithin, TermWithin, TermsWithin};
+ghost use Rattle.c_passing.specs.Passes.{AddsTerms, IsKindPassed, IsPassed};
 ghost use Rattle.c_passing.specs.Passes.{ArePassed, ArePassedArguments, IsPlainCall, IsCallByResult};
 
 use crate::calls::{by_address, by_result, hidden_type, hide, hide_arguments};
 use crate::counts::after;
 use crate::nodes::{Made, Source};
-use c_copy::{all_below, inner_with, operands, two};
+use c_copy::{inner_with, operands, two};
 use c_tree::{Expr, ExprKind};
 use ck_base::{NoMemory, Pos, Sequence};
 
 // The same kind of expression with as many operands, these. A compound assignment is computed in the type that stands
 // for its type.
 fn kind_with(source: &Source<'_>, kind: &ExprKind, xs: &[u32]) -> Result<ExprKind, NoMemory>
-    requires { length xs.now ≡ length (operands kind.now) }
+    requires count { length xs.now ≡ length (operands kind.now) }
+    requires within { KindWithin (length source.now.numbers.now) kind.now }
     ensures { IfOk result (IsKindPassed source.now kind.now xs.now) }
 {
     match kind {
@@ -28,7 +29,7 @@ fn kind_with(source: &Source<'_>, kind: &ExprKind, xs: &[u32]) -> Result<ExprKin
         ExprKind::Global(k) => Ok(ExprKind::Global(*k)),
         ExprKind::Fun(k) => Ok(ExprKind::Fun(*k)),
         ExprKind::Var(k) => {
-            let v = source.variable(*k)?;
+            let v = source.variable(*k);
             Ok(ExprKind::Var(v))
         }
         ExprKind::Compound(o, _, _, of) => {
@@ -50,17 +51,16 @@ fn arguments(
     out: &mut Made,
     list: &mut Vec<u32>,
 ) -> Result<(), NoMemory>
-    ensures extends { OnOk result (Extends out.old.exprs.items out.new.exprs.items) }
-    ensures stmts { OnOk result (out.new.stmts ≡ out.old.stmts) }
-    ensures hides { OnOk result (Hides source.now out.old out.new
-        (λ names. hidden_in_each names (map (written_term source.now) xs.now))) }
-    ensures are { OnOk result (ArePassedArguments source.now out.old out.new first pos
-        (map (written_term source.now) xs.now) list.old.items list.new.items) }
+    requires { TermsWithin source.now xs.now }
+    ensures { OnOk result (AddsTerms source.now out.old out.new
+        (λ names. hidden_in_each names (map (written_term source.now) xs.now))
+        (ArePassedArguments source.now out.old out.new first pos (map (written_term source.now) xs.now)
+        list.old.items list.new.items)) }
 {
     let mut h = first;
     for x in xs {
         let value = expression(source, *x, out)?;
-        let e = source.expr(*x)?;
+        let e = source.expr(*x);
         match hidden_type(source, e.of) {
             None => list.push(value)?,
             Some(t) => {
@@ -83,11 +83,10 @@ fn call_plainly(
     xs: &[u32],
     out: &mut Made,
 ) -> Result<u32, NoMemory>
-    ensures extends { OnOk result (Extends out.old.exprs.items out.new.exprs.items) }
-    ensures stmts { OnOk result (out.new.stmts ≡ out.old.stmts) }
-    ensures hides { OnOk result (Hides source.now out.old out.new
-        (λ names. hidden_in_each names (map (written_term source.now) xs.now))) }
-    ensures is { IfOk result (IsPlainCall source.now out.old out.new e.now called own xs.now) }
+    requires { TermsWithin source.now xs.now }
+    ensures { IfOk result (λ j. AddsTerms source.now out.old out.new
+        (λ names. hidden_in_each names (map (written_term source.now) xs.now))
+        (IsPlainCall source.now out.old out.new e.now called own xs.now j)) }
 {
     let mut list = Vec::new(source.alloc);
     arguments(source, own, xs, e.pos, out, &mut list)?;
@@ -108,12 +107,11 @@ fn call_by_result(
     xs: &[u32],
     out: &mut Made,
 ) -> Result<u32, NoMemory>
-    requires { is_tagged (written_type source.now t) ≡ true }
-    ensures extends { OnOk result (Extends out.old.exprs.items out.new.exprs.items) }
-    ensures stmts { OnOk result (out.new.stmts ≡ out.old.stmts) }
-    ensures hides { OnOk result (Hides source.now out.old out.new
-        (λ names. hidden_in_each names (map (written_term source.now) xs.now))) }
-    ensures is { IfOk result (IsCallByResult source.now out.old out.new e.now called own hidden t xs.now) }
+    requires tagged { is_tagged (written_type source.now t) ≡ true }
+    requires within { TermsWithin source.now xs.now }
+    ensures { IfOk result (λ j. AddsTerms source.now out.old out.new
+        (λ names. hidden_in_each names (map (written_term source.now) xs.now))
+        (IsCallByResult source.now out.old out.new e.now called own hidden t xs.now j)) }
 {
     let of = source.types.number(t);
     let pointer = source.types.pointer(t);
@@ -127,11 +125,11 @@ fn call_by_result(
 // A call of `f` as it is run.
 #[cycle(expressions)]
 fn call(source: &Source<'_>, e: &Expr, f: u32, xs: &[u32], out: &mut Made) -> Result<u32, NoMemory>
-    ensures extends { OnOk result (Extends out.old.exprs.items out.new.exprs.items) }
-    ensures stmts { OnOk result (out.new.stmts ≡ out.old.stmts) }
-    ensures hides { OnOk result (Hides source.now out.old out.new
-        (λ names. hidden_in names (written_call source.now e.now f xs.now))) }
-    ensures is { IfOk result (IsPassed source.now out.old out.new (written_call source.now e.now f xs.now)) }
+    requires called { TermWithin source.now f }
+    requires within { TermsWithin source.now xs.now }
+    ensures { IfOk result (λ j. AddsTerms source.now out.old out.new
+        (λ names. hidden_in names (written_call source.now e.now f xs.now))
+        (IsPassed source.now out.old out.new (written_call source.now e.now f xs.now) j)) }
 {
     let called = expression(source, f, out)?;
     let own = out.next_var()?;
@@ -147,15 +145,13 @@ fn call(source: &Source<'_>, e: &Expr, f: u32, xs: &[u32], out: &mut Made) -> Re
 /// The number of expression `k` as it is run, which stands behind its operands at the end of the list.
 #[cycle(expressions)]
 pub(crate) fn expression(source: &Source<'_>, k: u32, out: &mut Made) -> Result<u32, NoMemory>
-    ensures extends { OnOk result (Extends out.old.exprs.items out.new.exprs.items) }
-    ensures stmts { OnOk result (out.new.stmts ≡ out.old.stmts) }
-    ensures hides { OnOk result (Hides source.now out.old out.new
-        (λ names. hidden_in names (written_term source.now k))) }
-    ensures is { IfOk result (IsPassed source.now out.old out.new (written_term source.now k)) }
+    requires { TermWithin source.now k }
+    ensures { IfOk result (λ j. AddsTerms source.now out.old out.new
+        (λ names. hidden_in names (written_term source.now k))
+        (IsPassed source.now out.old out.new (written_term source.now k) j)) }
 {
-    let e = source.expr(k)?;
+    let e = source.expr(k);
     let ks = operands(source.alloc, &e.kind)?;
-    all_below(ks.as_slice(), k as usize)?;
     match &e.kind {
         ExprKind::Call(f, xs) => call(source, e, *f, xs.as_slice(), out),
         _ => {
@@ -174,13 +170,10 @@ pub(crate) fn expressions(
     ks: &[u32],
     out: &mut Made,
 ) -> Result<Vec<u32>, NoMemory>
-    ensures extends { OnOk result (Extends out.old.exprs.items out.new.exprs.items) }
-    ensures stmts { OnOk result (out.new.stmts ≡ out.old.stmts) }
-    ensures hides { OnOk result (Hides source.now out.old out.new
-        (λ names. hidden_in_each names (map (written_term source.now) ks.now))) }
-    ensures count { IfOk result (λ js. length js.items ≡ length ks.now) }
-    ensures are { IfOk result (λ js. ArePassed source.now out.old out.new
-        (map (written_term source.now) ks.now) js.items) }
+    requires { TermsWithin source.now ks.now }
+    ensures { IfOk result (λ js. AddsTerms source.now out.old out.new
+        (λ names. hidden_in_each names (map (written_term source.now) ks.now))
+        (ArePassed source.now out.old out.new (map (written_term source.now) ks.now) js.items)) }
 {
     let mut js = Vec::new(source.alloc);
     for k in ks {

@@ -1,12 +1,12 @@
 //! Functions as they are run.
 
-ghost use Rattle.std.specs.Prelude.{◌≡◌, ◌<◌, ◌≤◌, ◌-◌, ◌++◌, [], true, List, IfOk, OnOk, length, map, take, drop};
+ghost use Rattle.std.specs.Prelude.{◌≡◌, ◌≤◌, ◌-◌, ◌++◌, [], true, List, IfOk, OnOk, length, map, take, drop};
 ghost use Rattle.c_tree.specs.declared.typed.FunDef.{FunDef as Function};
 ghost use Rattle.c_tree.specs.Terms.{numbers_from, Variable};
 ghost use Rattle.c_tree.specs.Passed.{by_pointer, named_variables, passed_param, passed_variable, result_pointer};
 ghost use Rattle.c_tree.specs.Passed.{copied_params, hidden_of};
-ghost use Rattle.c_copy.specs.Copying.{Extends};
-ghost use Rattle.c_passing.specs.Passes.{written_type, written_action, Hides};
+ghost use Rattle.c_copy.specs.Copying.{AllBelow};
+ghost use Rattle.c_passing.specs.Passes.{written_type, written_action, AddsActions};
 ghost use Rattle.c_passing.specs.Routines.{written_routine, written_variable, source_routine, source_variable, HasBody};
 ghost use Rattle.c_passing.specs.Routines.{AreRun, IsRun, IsNamed, named_so_far, AddsParam, HasParams, HasLocals};
 ghost use Rattle.c_passing.specs.Routines.{IsParamCopy, AreParamCopies, AreBlockVars, IsBody, IsFunction};
@@ -16,7 +16,6 @@ use crate::names::Names;
 use crate::nodes::{Made, Source};
 use crate::statements::{statements, variables};
 use crate::types::{Types, bare, by_pointer, given_by_pointer};
-use c_copy::all_below;
 use c_tree::{ExprKind, FunDef, StmtKind, Typed, VarDef};
 use ck_base::{NoMemory, Sequence};
 use std::alloc::Global;
@@ -195,10 +194,7 @@ fn param_copy(
     out: &mut Made,
 ) -> Result<u32, NoMemory>
     requires { by_pointer (written_type source.now v.of) ≡ true }
-    ensures exprs { OnOk result (Extends out.old.exprs.items out.new.exprs.items) }
-    ensures stmts { OnOk result (Extends out.old.stmts.items out.new.stmts.items) }
-    ensures vars { OnOk result (out.new.vars ≡ out.old.vars) }
-    ensures is { IfOk result (IsParamCopy source.now out.old out.new v from to) }
+    ensures { IfOk result (IsParamCopy source.now out.old out.new v from to) }
 {
     let t = bare(source.written_types(), v.of);
     let of = source.types.number(t);
@@ -222,10 +218,7 @@ fn param_copies(
     out: &mut Made,
     body: &mut Vec<u32>,
 ) -> Result<(), NoMemory>
-    ensures exprs { OnOk result (Extends out.old.exprs.items out.new.exprs.items) }
-    ensures stmts { OnOk result (Extends out.old.stmts.items out.new.stmts.items) }
-    ensures vars { OnOk result (out.new.vars ≡ out.old.vars) }
-    ensures are { OnOk result (AreParamCopies source.now out.old out.new first local
+    ensures { OnOk result (AreParamCopies source.now out.old out.new first local
         (map (source_variable source.now) params.now) body.old.items body.new.items) }
 {
     let mut from = first;
@@ -259,6 +252,7 @@ fn block_vars(
     vars: &[u32],
     hidden: (u32, u32),
 ) -> Result<Vec<u32>, NoMemory>
+    requires { AllBelow (length source.now.numbers.now) vars.now }
     ensures { IfOk result (λ v. AreBlockVars source.now copied vars.now hidden v.items) }
 {
     let declared = variables(source, vars)?;
@@ -278,19 +272,16 @@ fn body(
     out: &mut Made,
 ) -> Result<u32, NoMemory>
     requires fits { HasBody source.now.program.now f.now }
+    requires numbers { length source.now.numbers.now ≡ length f.now.vars }
     requires before { before ≡ length (result_pointer (source_routine source.now f.now)) }
     requires copied { copied ≡ length (copied_params (source_routine source.now f.now)) }
-    ensures exprs { OnOk result (Extends out.old.exprs.items out.new.exprs.items) }
-    ensures stmts { OnOk result (Extends out.old.stmts.items out.new.stmts.items) }
-    ensures hides { OnOk result (Hides source.now out.old out.new
-        (λ names. hidden_of names (written_action source.now f.now.body))) }
-    ensures there { IfOk result (λ j. j < length out.new.stmts.items) }
-    ensures is { IfOk result (IsBody source.now (source_routine source.now f.now) out.old out.new) }
+    ensures { IfOk result (λ j. AddsActions source.now out.old out.new
+        (λ names. hidden_of names (written_action source.now f.now.body))
+        (IsBody source.now (source_routine source.now f.now) out.old out.new j)) }
 {
-    let s = source.stmt(f.body)?;
+    let s = source.stmt(f.body);
     match &s.kind {
         StmtKind::Block { vars, body } => {
-            all_below(body.as_slice(), f.body as usize)?;
             let (params, _) = written_vars(f);
             let written = count(params.len())?;
             let local = sum(written, before)?;
@@ -322,9 +313,7 @@ fn numbers_below(alloc: Global, n: u32) -> Result<Vec<u32>, NoMemory>
 /// A function as it is run. Its variables are taken out of what was made.
 pub(crate) fn function(whole: &Whole<'_>, f: &FunDef, out: &mut Made) -> Result<FunDef, NoMemory>
     requires { HasBody whole.now.program.now f.now }
-    ensures exprs { OnOk result (Extends out.old.exprs.items out.new.exprs.items) }
-    ensures stmts { OnOk result (Extends out.old.stmts.items out.new.stmts.items) }
-    ensures is { IfOk result (IsFunction whole.now (written_routine whole.now f.now) out.new) }
+    ensures { IfOk result (IsFunction whole.now (written_routine whole.now f.now) out.old out.new) }
 {
     let Standing {
         before,

@@ -1,11 +1,10 @@
 //! What is passed, and the expressions and statements that are made for it.
 
-ghost use Rattle.std.specs.Prelude.{◌≡◌, ◌++◌, ◌∷◌, [], Some, IfOk, OnOk, length, slice_get};
+ghost use Rattle.std.specs.Prelude.{◌≡◌, ◌++◌, ◌∷◌, ◌<◌, [], Some, IfOk, OnOk, length, slice_get};
 ghost use Rattle.c_tree.specs.Terms.{leaf, step};
 ghost use Rattle.c_tree.specs.Terms as tree;
 ghost use Rattle.c_tree.specs.Views.{type_at};
 ghost use Rattle.c_tree.specs.Passed.{behind};
-ghost use Rattle.c_copy.specs.Copying.{Extends};
 ghost use Rattle.c_passing.specs.Passes.{Makes};
 
 use crate::names::Names;
@@ -41,31 +40,34 @@ impl<'a> Source<'a> {
         self.program.types.as_slice()
     }
 
-    pub(crate) fn expr(&self, k: u32) -> Result<&'a Expr, NoMemory>
-        ensures { IfOk result (λ e. slice_get self.now.program.now.exprs k ≡ Some e.now) }
+    pub(crate) fn expr(&self, k: u32) -> &'a Expr
+        requires { k < length self.now.program.now.exprs }
+        ensures { slice_get self.now.program.now.exprs k ≡ Some result.now }
     {
         match self.program.exprs.as_slice().get(k as usize) {
-            Some(e) => Ok(e),
-            None => Err(NoMemory),
+            Some(e) => e,
+            None => unreachable!(),
         }
     }
 
-    pub(crate) fn stmt(&self, k: u32) -> Result<&'a Stmt, NoMemory>
-        ensures { IfOk result (λ s. slice_get self.now.program.now.stmts k ≡ Some s.now) }
+    pub(crate) fn stmt(&self, k: u32) -> &'a Stmt
+        requires { k < length self.now.program.now.stmts }
+        ensures { slice_get self.now.program.now.stmts k ≡ Some result.now }
     {
         match self.program.stmts.as_slice().get(k as usize) {
-            Some(s) => Ok(s),
-            None => Err(NoMemory),
+            Some(s) => s,
+            None => unreachable!(),
         }
     }
 
     /// The new number of a variable.
-    pub(crate) fn variable(&self, k: u32) -> Result<u32, NoMemory>
-        ensures { IfOk result (λ v. slice_get self.now.numbers.now k ≡ Some v) }
+    pub(crate) fn variable(&self, k: u32) -> u32
+        requires { k < length self.now.numbers.now }
+        ensures { slice_get self.now.numbers.now k ≡ Some result }
     {
         match self.numbers.get(k as usize).copied() {
-            Some(v) => Ok(v),
-            None => Err(NoMemory),
+            Some(v) => v,
+            None => unreachable!(),
         }
     }
 }
@@ -123,9 +125,7 @@ impl Made {
         of: u32,
         pos: Pos,
     ) -> Result<u32, NoMemory>
-        ensures extends { OnOk result (Extends self.old.exprs.items self.new.exprs.items) }
-        ensures rest { OnOk result (self.new ≡ record self.old { exprs = self.new.exprs }) }
-        ensures is { IfOk result (Makes self.new
+        ensures { IfOk result (Makes self.old self.new pointer of
             (λ ts. step tree.Deref (step tree.Load (leaf (tree.Var k) (type_at ts pointer) pos)
             (type_at ts pointer) pos) (type_at ts of) pos)) }
     {
@@ -142,9 +142,7 @@ impl Made {
         of: u32,
         pos: Pos,
     ) -> Result<u32, NoMemory>
-        ensures extends { OnOk result (Extends self.old.exprs.items self.new.exprs.items) }
-        ensures rest { OnOk result (self.new ≡ record self.old { exprs = self.new.exprs }) }
-        ensures is { IfOk result (Makes self.new
+        ensures { IfOk result (Makes self.old self.new pointer of
             (λ ts. step tree.Address (leaf (tree.Var k) (type_at ts of) pos) (type_at ts pointer) pos)) }
     {
         let place = self.push_expr(ExprKind::Var(k), of, pos)?;

@@ -17,7 +17,7 @@ use std::alloc::Global;
 fn functions(whole: &Whole<'_>, out: &mut Made) -> Result<Vec<FunDef>, NoMemory>
     requires { HaveBodies whole.now.program.now }
     ensures { IfOk result (λ fs. AreFunctions whole.now
-        (map (written_routine whole.now) whole.now.program.now.funs) out.new fs.items) }
+        (map (written_routine whole.now) whole.now.program.now.funs) out.old out.new fs.items) }
 {
     let mut list = Vec::new(whole.alloc);
     for f in whole.program.funs.as_slice() {

@@ -1,19 +1,20 @@
 //! Statements as they are run.
 
-ghost use Rattle.std.specs.Prelude.{◌≡◌, ◌+◌, ◌≤◌, true, IfOk, OnOk, length, map};
+ghost use Rattle.std.specs.Prelude.{◌≡◌, ◌<◌, ◌≤◌, true, IfOk, OnOk, length, map};
 ghost use Rattle.c_tree.specs.declared.typed.StmtKind.TheVariants as StmtKinds;
 ghost use Rattle.c_tree.specs.Types.{is_tagged};
-ghost use Rattle.c_tree.specs.Views.{parts};
+ghost use Rattle.c_tree.specs.Views.{values, parts, listed, same_number};
 ghost use Rattle.c_tree.specs.Passed.{ahead, hidden_of};
-ghost use Rattle.c_copy.specs.Copying.{Extends, stmt_form};
+ghost use Rattle.c_copy.specs.Copying.{AllBelow, stmt_form};
 ghost use Rattle.c_passing.specs.Lists.{hidden_of_each};
-ghost use Rattle.c_passing.specs.Passes.{written_type, written_action, Hides, AreVariables, IsRenumbered, IsGivenBack};
+ghost use Rattle.c_passing.specs.Passes.{written_type, written_action, FormWithin, ActionWithin, ActionsWithin};
+ghost use Rattle.c_passing.specs.Passes.{AreVariables, IsRenumbered, AddsActions, IsGivenBack};
 ghost use Rattle.c_passing.specs.Passes.{IsGivenValue, IsReturned, IsPassedAction, ArePassedActions};
 
 use crate::expressions::{expression, expressions};
 use crate::nodes::{Made, Source};
 use crate::types::{bare, by_pointer};
-use c_copy::{all_below, parts, stmt_with, values};
+use c_copy::{parts, stmt_with, values};
 use c_tree::{ExprKind, StmtKind};
 use ck_base::{NoMemory, Pos, Sequence};
 
@@ -31,11 +32,12 @@ fn ahead(kind: &StmtKind) -> usize
 
 /// The new numbers of variables.
 pub(crate) fn variables(source: &Source<'_>, ks: &[u32]) -> Result<Vec<u32>, NoMemory>
+    requires { AllBelow (length source.now.numbers.now) ks.now }
     ensures { IfOk result (λ v. AreVariables source.now ks.now v.items) }
 {
     let mut list = Vec::new(source.alloc);
     for k in ks {
-        let v = source.variable(*k)?;
+        let v = source.variable(*k);
         list.push(v)?;
     }
     Ok(list)
@@ -43,11 +45,12 @@ pub(crate) fn variables(source: &Source<'_>, ks: &[u32]) -> Result<Vec<u32>, NoM
 
 // A statement with the new numbers of its variables.
 fn renumbered(source: &Source<'_>, kind: StmtKind) -> Result<StmtKind, NoMemory>
+    requires { FormWithin (length source.now.numbers.now) (stmt_form kind) }
     ensures { IfOk result (IsRenumbered source.now kind) }
 {
     match kind {
         StmtKind::Init { var, offset, value } => {
-            let var = source.variable(var)?;
+            let var = source.variable(var);
             Ok(StmtKind::Init { var, offset, value })
         }
         StmtKind::Block { vars, body } => {
@@ -100,10 +103,7 @@ fn give_back(
     out: &mut Made,
 ) -> Result<u32, NoMemory>
     requires { is_tagged (written_type source.now t) ≡ true }
-    ensures exprs { OnOk result (Extends out.old.exprs.items out.new.exprs.items) }
-    ensures stmts { OnOk result (Extends out.old.stmts.items out.new.stmts.items) }
-    ensures vars { OnOk result (out.new.vars ≡ out.old.vars) }
-    ensures is { IfOk result (IsGivenBack source.now out.old out.new value t pos) }
+    ensures { IfOk result (IsGivenBack source.now out.old out.new value t pos) }
 {
     let of = source.types.number(t);
     let pointer = source.types.pointer(t);
@@ -122,56 +122,57 @@ fn give_back(
 }
 
 // The value that is given back by a pointer, and its type.
-fn given_back(source: &Source<'_>, a: u32) -> Result<Option<(u32, u32)>, NoMemory>
-    ensures { IfOk result (IsGivenValue source.now a) }
+fn given_back(source: &Source<'_>, a: u32) -> Option<(u32, u32)>
+    requires { a < length source.now.program.now.exprs }
+    ensures { IsGivenValue source.now a result }
 {
-    let e = source.expr(a)?;
+    let e = source.expr(a);
     let types = source.written_types();
     if by_pointer(types, e.of) {
-        Ok(Some((a, bare(types, e.of))))
+        Some((a, bare(types, e.of)))
     } else {
-        Ok(None)
+        None
     }
 }
 
 // The same of what `return` has, if it has a value.
-fn of_return(source: &Source<'_>, value: Option<u32>) -> Result<Option<(u32, u32)>, NoMemory>
-    ensures { IfOk result (IsReturned source.now (StmtKinds.Return value)) }
+fn of_return(source: &Source<'_>, value: Option<u32>) -> Option<(u32, u32)>
+    requires { AllBelow (length source.now.program.now.exprs) (listed same_number value) }
+    ensures { IsReturned source.now (StmtKinds.Return value) result }
 {
     match value {
-        None => Ok(None),
+        None => None,
         Some(a) => given_back(source, a),
     }
 }
 
 // The same of a statement.
-fn returned(source: &Source<'_>, kind: &StmtKind) -> Result<Option<(u32, u32)>, NoMemory>
-    ensures { IfOk result (IsReturned source.now kind.now) }
+fn returned(source: &Source<'_>, kind: &StmtKind) -> Option<(u32, u32)>
+    requires { AllBelow (length source.now.program.now.exprs) (values kind.now) }
+    ensures { IsReturned source.now kind.now result }
 {
     match kind {
         StmtKind::Return(value) => of_return(source, *value),
-        _ => Ok(None),
+        _ => None,
     }
 }
 
 /// The number of statement `k` as it is run, which stands behind its parts at the end of the list.
 #[cycle(statements)]
 pub(crate) fn statement(source: &Source<'_>, k: u32, out: &mut Made) -> Result<u32, NoMemory>
-    ensures exprs { OnOk result (Extends out.old.exprs.items out.new.exprs.items) }
-    ensures stmts { OnOk result (Extends out.old.stmts.items out.new.stmts.items) }
-    ensures hides { OnOk result (Hides source.now out.old out.new
-        (λ names. hidden_of names (written_action source.now k))) }
-    ensures is { IfOk result (IsPassedAction source.now out.old out.new (written_action source.now k)) }
+    requires { ActionWithin source.now k }
+    ensures { IfOk result (λ j. AddsActions source.now out.old out.new
+        (λ names. hidden_of names (written_action source.now k))
+        (IsPassedAction source.now out.old out.new (written_action source.now k) j)) }
 {
-    let s = source.stmt(k)?;
-    match returned(source, &s.kind)? {
+    let s = source.stmt(k);
+    match returned(source, &s.kind) {
         Some((a, t)) => {
             let value = expression(source, a, out)?;
             give_back(source, value, t, s.pos, out)
         }
         None => {
             let ks = parts(source.alloc, &s.kind)?;
-            all_below(ks.as_slice(), k as usize)?;
             let (first, last) = ks.as_slice().split_at(ahead(&s.kind));
             let mut js = Vec::new(source.alloc);
             statements(source, first, out, &mut js)?;
@@ -193,13 +194,11 @@ pub(crate) fn statements(
     out: &mut Made,
     js: &mut Vec<u32>,
 ) -> Result<(), NoMemory>
-    ensures exprs { OnOk result (Extends out.old.exprs.items out.new.exprs.items) }
-    ensures stmts { OnOk result (Extends out.old.stmts.items out.new.stmts.items) }
-    ensures hides { OnOk result (Hides source.now out.old out.new
-        (λ names. hidden_of_each names (map (written_action source.now) ks.now))) }
-    ensures count { OnOk result (length js.new.items ≡ length js.old.items + length ks.now) }
-    ensures are { OnOk result (ArePassedActions source.now out.old out.new
-        (map (written_action source.now) ks.now) js.old.items js.new.items) }
+    requires { ActionsWithin source.now ks.now }
+    ensures { OnOk result (AddsActions source.now out.old out.new
+        (λ names. hidden_of_each names (map (written_action source.now) ks.now))
+        (ArePassedActions source.now out.old out.new (map (written_action source.now) ks.now)
+        js.old.items js.new.items)) }
 {
     for k in ks {
         let j = statement(source, *k, out)?;

@@ -16,9 +16,8 @@ use Rattle.c_elaborator.specs.declared.work.Work.{Work}
 use Rattle.c_elaborator.specs.Parts.{IsPart, AreParts}
 use Rattle.c_readings.specs.Kids.{HasEnds}
 use Rattle.c_readings.specs.Specifying.{within, row_of, function_of}
-use Rattle.c_readings.proofs.Kids.{cut, no_parts, have_first, have_others}
+use Rattle.c_readings.proofs.Kids.{cut, no_parts}
 use Rattle.c_readings.proofs.Gathering.{readings_more, readings_nil}
-use Rattle.c_elaborator.specs.Parts.{HasPart, HaveParts}
 
 -- ---- lists of readings
 
@@ -166,12 +165,6 @@ ended w (j ∷ k ∷ ks) before last h xs p =
           ∙ function_behind t xs (reading c.head) (reading d.head) (readings d.tail) s
           ∙ ap (λ (rs : List Reading). function_of rs (reading d.head) s) (sym all);
     }
-
-pub have_ends : (w : Work) (ks before : List ℕ) (last : ℕ) → HasEnds ks before last → HaveParts w ks →
-    HaveParts w before × HasPart w last
-have_ends w ks before last h p =
-    let e = ended w ks before last h p.syntax p.are in
-    (record { syntax = e.first; are = e.are }, record { syntax = e.part; is = e.is })
 
 -- ---- other productions
 

@@ -24,15 +24,14 @@ use Rattle.c_tree.specs.Programs.{reading, readings, reading_of}
 use Rattle.c_elaborator.specs.declared.work.Work.{Work}
 use Rattle.c_elaborator.specs.Work.{Shows}
 use Rattle.c_elaborator.specs.Answers.{quietly, Answers, Done}
-use Rattle.c_elaborator.specs.Parts.{IsPart, HasPart, AreParts}
+use Rattle.c_elaborator.specs.Parts.{IsPart, AreParts}
 use Rattle.c_elaborator.proofs.Sequencing.{quiet_law, then, failed, gave, answers_at}
-use Rattle.c_elaborator.specs.Parts.{HaveParts}
 use Rattle.c_readings.specs.Kids.{HasNot}
 use Rattle.c_readings.specs.Gathered.{Two, both, with_one, with_two, with_three, operand_of, type_of, one_operand}
 use Rattle.c_readings.specs.Gathered.{one_value, one_type, two_values, place_and_value, three_values, type_and_value}
 use Rattle.c_readings.specs.Gathered.{assigning}
 use Rattle.c_readings.proofs.Among.{bind_ext}
-use Rattle.c_readings.proofs.Kids.{Opened, cut, no_parts, count, counted, have_first, have_others}
+use Rattle.c_readings.proofs.Kids.{Opened, cut, no_parts, count, counted}
 
 -- ---- the parts of the syntax
 
@@ -207,21 +206,6 @@ pub refused_three : {A : Type 0} (w : Work) (ks : List ℕ) (d : Reading → Rea
     HasNot 3 ks → (xs : Syns) → AreParts w ks xs → (s : State) → Shows w s →
     with_three d p (readings xs) s ≡ refuse 120 p s
 refused_three w ks d p h xs k s z = not_three d p (readings xs) s (λ e. h (sym (parts_length w ks xs k) ∙ e))
-
-pub have_one : (w : Work) (ks : List ℕ) (a : ℕ) → ks ≡ a ∷ [] → HaveParts w ks → HasPart w a
-have_one w ks a e h = have_first w a [] (subst (λ (z : List ℕ). HaveParts w z) e h)
-
-pub have_two : (w : Work) (ks : List ℕ) (a b : ℕ) → ks ≡ a ∷ b ∷ [] → HaveParts w ks → HasPart w a × HasPart w b
-have_two w ks a b e h =
-    let k = subst (λ (z : List ℕ). HaveParts w z) e h in
-    (have_first w a (b ∷ []) k, have_first w b [] (have_others w a (b ∷ []) k))
-
-pub have_three : (w : Work) (ks : List ℕ) (a b c : ℕ) → ks ≡ a ∷ b ∷ c ∷ [] → HaveParts w ks →
-    HasPart w a × HasPart w b × HasPart w c
-have_three w ks a b c e h =
-    let k = subst (λ (z : List ℕ). HaveParts w z) e h in
-    let l = have_others w a (b ∷ c ∷ []) k in
-    (have_first w a (b ∷ c ∷ []) k, have_first w b (c ∷ []) l, have_first w c [] (have_others w b (c ∷ []) l))
 
 -- ---- constructs
 

@@ -16,7 +16,7 @@ use Rattle.c_elaborator.specs.declared.work.Work.{Work}
 use Rattle.c_elaborator.specs.Answers.{Keeps}
 use Rattle.c_elaborator.specs.Parts.{TokenFits, IsWritten, AreWritten, IsPart, AreParts, HasPart}
 use Rattle.c_elaborator.specs.Parts.{HaveParts}
-use Rattle.c_readings.specs.Kids.{HasNode, IsNode}
+use Rattle.c_readings.specs.Kids.{IsNode}
 
 -- ---- a part stays one while the work grows
 
@@ -87,15 +87,6 @@ counted w (k ∷ ks) xs p = let c = cut w k ks xs p in ap count c.is ∙ ap suc 
 
 pub have_first : (w : Work) (k : ℕ) (ks : List ℕ) → HaveParts w (k ∷ ks) → HasPart w k
 have_first w k ks h = let c = cut w k ks h.syntax h.are in record { syntax = c.head; is = c.first }
-
-pub have_others : (w : Work) (k : ℕ) (ks : List ℕ) → HaveParts w (k ∷ ks) → HaveParts w ks
-have_others w k ks h = let c = cut w k ks h.syntax h.are in record { syntax = c.tail; are = c.others }
-
-pub have_kept : (u v : Work) (ks : List ℕ) → Keeps u v → HaveParts u ks → HaveParts v ks
-have_kept u v ks h p = record { syntax = p.syntax; are = parts_kept u v ks p.syntax h p.are }
-
-pub has_kept : (u v : Work) (k : ℕ) → Keeps u v → HasPart u k → HasPart v k
-has_kept u v k h p = record { syntax = p.syntax; is = part_kept u v k p.syntax h p.is }
 
 -- ---- a node
 
@@ -182,9 +173,3 @@ opened w k x n p g =
         parts = record { stand = m.5; spelled = s.1; written = r.1 };
       };
     }
-
-pub have_kids : (w : Work) (k : ℕ) (n : Node) → HasPart w k → slice_get w.tree.now.nodes k ≡ Some n → HaveParts w n.kids
-have_kids w k n h g = let o = opened w k h.syntax n h.is g in record { syntax = o.parts; are = o.node.parts }
-
-pub has_node : (w : Work) (k : ℕ) (n : Node) → HasPart w k → slice_get w.tree.now.nodes k ≡ Some n → HasNode w n
-has_node w k n h g = let o = opened w k h.syntax n h.is g in record { token = o.token; syntax = o.parts; is = o.node }

@@ -2,6 +2,7 @@ pub mod Among
 pub mod Arguments
 pub mod Calling
 pub mod Declaring
+pub mod Depth
 pub mod Folding
 pub mod Gathering
 pub mod Kids
@@ -14,3 +15,4 @@ pub mod Selecting
 pub mod Specifiers
 pub mod Specifying
 pub mod Tagging
+pub mod Within

@@ -2,3 +2,4 @@ pub mod Folding
 pub mod Gathered
 pub mod Kids
 pub mod Specifying
+pub mod Within

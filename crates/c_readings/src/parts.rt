@@ -1,7 +1,7 @@
 //! Expressions, type names, specifiers and declarators: one function for each construct, which reads its parts from
-//! left to right and then asks its rule (C11 6.5, 6.7). `depth` bounds how deep they go: at 0 memory is wanting.
+//! left to right and then asks its rule (C11 6.5, 6.7). `depth` bounds how deep they go.
 
-ghost use Rattle.std.specs.Prelude.{◌≡◌, ◌==◌, ◌++◌, ◌∷◌, [], List, length, pos, IfOk, OnOk};
+ghost use Rattle.std.specs.Prelude.{◌≡◌, ◌==◌, ◌++◌, ◌∷◌, [], List, length, pos, OnOk};
 ghost use Rattle.ck_base.specs.Tokens.{Lexeme};
 ghost use Rattle.c_tree.specs.declared.syntax.NodeKind.TheVariants as kinds;
 ghost use Rattle.c_tree.specs.Syntax.{Syn, Syns, node as syntax};
@@ -20,12 +20,12 @@ ghost use Rattle.c_expressions.specs.Nodes.{IsWhole};
 ghost use Rattle.c_elaborator.specs.Answers.{Answers, quietly, OperandThere, IsOperand, TypeThere, IsType};
 ghost use Rattle.c_elaborator.specs.Answers.{NothingThere};
 ghost use Rattle.c_elaborator.specs.Answers.{IsNothing};
-ghost use Rattle.c_elaborator.specs.Parts.{IsPart, HasPart, AreParts, token_of};
+ghost use Rattle.c_elaborator.specs.Parts.{IsPart, AreParts, token_of};
 ghost use Rattle.c_declarators.specs.Parts.{in_any, SpecifiedThere, IsSpecified, ConstantThere, IsConstant};
 ghost use Rattle.c_declarators.specs.Parts.{NumberThere, IsNumber, AreMembers, AllMembersThere, AreAllMembers};
 ghost use Rattle.c_declarators.specs.Parts.{ParamThere, IsParam, DerivedThere, ShowsDerived, CountThere, IsCount};
-ghost use Rattle.c_elaborator.specs.Parts.{HaveParts};
 ghost use Rattle.c_readings.specs.Kids.{HasNode, IsNode};
+ghost use Rattle.c_readings.specs.Within.{PartWithin, PartsWithin};
 ghost use Rattle.c_readings.specs.Gathered.{operand_of, type_of, one_operand, one_value, one_type, both, two_values};
 ghost use Rattle.c_readings.specs.Gathered.{place_and_value, three_values, type_and_value, assigning, two_in};
 ghost use Rattle.c_readings.specs.Gathered.{PairThere};
@@ -79,14 +79,11 @@ pub struct Casting {
 #[cycle(parts)]
 pub fn operand(work: &mut Work<'_>, k: u32, depth: u32) -> Result<Operand, Refusal>
     requires whole { IsWhole work.old.nodes }
-    requires part { HasPart work.old k }
+    requires part { PartWithin work.old depth k }
     ensures { (x : Syn) → IsPart work.old k x →
         Answers quietly work.old work.new (reading x).operand OperandThere IsOperand result }
 {
-    if depth == 0 {
-        return Err(Refusal::NoMemory);
-    }
-    let node = node_at(work, k)?;
+    let node = node_at(work, k);
     expression(work, node, depth - 1)
 }
 
@@ -95,7 +92,7 @@ pub fn operand(work: &mut Work<'_>, k: u32, depth: u32) -> Result<Operand, Refus
 fn expression(work: &mut Work<'_>, node: &Node, depth: u32) -> Result<Operand, Refusal>
     requires whole { IsWhole work.old.nodes }
     requires node { HasNode work.old node.now }
-    requires parts { HaveParts work.old node.now.kids }
+    requires parts { PartsWithin work.old depth node.now.kids }
     ensures { (t : Lexeme) (xs : Syns) → IsNode work.old node.now t xs →
         Answers quietly work.old work.new (expression_of node.now.kind t xs (readings xs)) OperandThere IsOperand
         result }
@@ -127,7 +124,7 @@ fn expression(work: &mut Work<'_>, node: &Node, depth: u32) -> Result<Operand, R
 #[cycle(parts)]
 pub fn value_of(work: &mut Work<'_>, k: u32, depth: u32) -> Result<Operand, Refusal>
     requires whole { IsWhole work.old.nodes }
-    requires part { HasPart work.old k }
+    requires part { PartWithin work.old depth k }
     ensures { (x : Syn) → IsPart work.old k x →
         Answers quietly work.old work.new (read_value (reading x)) OperandThere IsOperand result }
 {
@@ -138,7 +135,7 @@ pub fn value_of(work: &mut Work<'_>, k: u32, depth: u32) -> Result<Operand, Refu
 #[cycle(parts)]
 fn one_operand(work: &mut Work<'_>, kids: &[u32], pos: Pos, depth: u32) -> Result<Operand, Refusal>
     requires whole { IsWhole work.old.nodes }
-    requires parts { HaveParts work.old kids.now }
+    requires parts { PartsWithin work.old depth kids.now }
     ensures { (xs : Syns) → AreParts work.old kids.now xs →
         Answers quietly work.old work.new (one_operand pos (readings xs)) OperandThere IsOperand result }
 {
@@ -152,8 +149,8 @@ fn one_operand(work: &mut Work<'_>, kids: &[u32], pos: Pos, depth: u32) -> Resul
 #[cycle(parts)]
 fn values_of(work: &mut Work<'_>, a: u32, b: u32, depth: u32) -> Result<Pair, Refusal>
     requires whole { IsWhole work.old.nodes }
-    requires first { HasPart work.old a }
-    requires second { HasPart work.old b }
+    requires first { PartWithin work.old depth a }
+    requires second { PartWithin work.old depth b }
     ensures { (x y : Syn) → IsPart work.old a x → IsPart work.old b y →
         Answers quietly work.old work.new (both (read_value (reading x)) (read_value (reading y))) PairThere IsPair
         result }
@@ -166,7 +163,7 @@ fn values_of(work: &mut Work<'_>, a: u32, b: u32, depth: u32) -> Result<Pair, Re
 #[cycle(parts)]
 fn two_values(work: &mut Work<'_>, kids: &[u32], pos: Pos, depth: u32) -> Result<Pair, Refusal>
     requires whole { IsWhole work.old.nodes }
-    requires parts { HaveParts work.old kids.now }
+    requires parts { PartsWithin work.old depth kids.now }
     ensures { (xs : Syns) → AreParts work.old kids.now xs →
         Answers quietly work.old work.new (two_values pos (readings xs)) PairThere IsPair result }
 {
@@ -185,7 +182,7 @@ fn parenthesized(
     depth: u32,
 ) -> Result<Operand, Refusal>
     requires whole { IsWhole work.old.nodes }
-    requires parts { HaveParts work.old kids.now }
+    requires parts { PartsWithin work.old depth kids.now }
     ensures { (t : Lexeme) (xs : Syns) → t.pos ≡ pos → AreParts work.old kids.now xs →
         Answers quietly work.old work.new (expression_of kinds.Parenthesized t xs (readings xs)) OperandThere
         IsOperand result }
@@ -200,7 +197,7 @@ fn parenthesized(
 #[cycle(parts)]
 fn index(work: &mut Work<'_>, kids: &[u32], pos: Pos, depth: u32) -> Result<Operand, Refusal>
     requires whole { IsWhole work.old.nodes }
-    requires parts { HaveParts work.old kids.now }
+    requires parts { PartsWithin work.old depth kids.now }
     ensures { (t : Lexeme) (xs : Syns) → t.pos ≡ pos → AreParts work.old kids.now xs →
         Answers quietly work.old work.new (expression_of kinds.Index t xs (readings xs)) OperandThere IsOperand result }
 {
@@ -217,7 +214,7 @@ fn infix(
     depth: u32,
 ) -> Result<Operand, Refusal>
     requires whole { IsWhole work.old.nodes }
-    requires parts { HaveParts work.old kids.now }
+    requires parts { PartsWithin work.old depth kids.now }
     ensures { (t : Lexeme) (xs : Syns) → t.pos ≡ pos → AreParts work.old kids.now xs →
         Answers quietly work.old work.new (expression_of (kinds.Infix op) t xs (readings xs)) OperandThere IsOperand
         result }
@@ -229,7 +226,7 @@ fn infix(
 #[cycle(parts)]
 fn one_value(work: &mut Work<'_>, kids: &[u32], pos: Pos, depth: u32) -> Result<Operand, Refusal>
     requires whole { IsWhole work.old.nodes }
-    requires parts { HaveParts work.old kids.now }
+    requires parts { PartsWithin work.old depth kids.now }
     ensures { (xs : Syns) → AreParts work.old kids.now xs →
         Answers quietly work.old work.new (one_value pos (readings xs)) OperandThere IsOperand result }
 {
@@ -243,8 +240,8 @@ fn one_value(work: &mut Work<'_>, kids: &[u32], pos: Pos, depth: u32) -> Result<
 #[cycle(parts)]
 fn place_with_value(work: &mut Work<'_>, a: u32, b: u32, depth: u32) -> Result<Pair, Refusal>
     requires whole { IsWhole work.old.nodes }
-    requires first { HasPart work.old a }
-    requires second { HasPart work.old b }
+    requires first { PartWithin work.old depth a }
+    requires second { PartWithin work.old depth b }
     ensures { (x y : Syn) → IsPart work.old a x → IsPart work.old b y →
         Answers quietly work.old work.new (both (operand_of (reading x)) (read_value (reading y))) PairThere IsPair
         result }
@@ -257,7 +254,7 @@ fn place_with_value(work: &mut Work<'_>, a: u32, b: u32, depth: u32) -> Result<P
 #[cycle(parts)]
 fn place_and_value(work: &mut Work<'_>, kids: &[u32], pos: Pos, depth: u32) -> Result<Pair, Refusal>
     requires whole { IsWhole work.old.nodes }
-    requires parts { HaveParts work.old kids.now }
+    requires parts { PartsWithin work.old depth kids.now }
     ensures { (xs : Syns) → AreParts work.old kids.now xs →
         Answers quietly work.old work.new (place_and_value pos (readings xs)) PairThere IsPair result }
 {
@@ -277,9 +274,9 @@ fn values_of_three(
     depth: u32,
 ) -> Result<Triple, Refusal>
     requires whole { IsWhole work.old.nodes }
-    requires first { HasPart work.old a }
-    requires second { HasPart work.old b }
-    requires third { HasPart work.old c }
+    requires first { PartWithin work.old depth a }
+    requires second { PartWithin work.old depth b }
+    requires third { PartWithin work.old depth c }
     ensures { (x y z : Syn) → IsPart work.old a x → IsPart work.old b y → IsPart work.old c z →
         Answers quietly work.old work.new (both (read_value (reading x))
         (both (read_value (reading y)) (read_value (reading z)))) TripleThere IsTriple result }
@@ -292,7 +289,7 @@ fn values_of_three(
 #[cycle(parts)]
 fn three_values(work: &mut Work<'_>, kids: &[u32], pos: Pos, depth: u32) -> Result<Triple, Refusal>
     requires whole { IsWhole work.old.nodes }
-    requires parts { HaveParts work.old kids.now }
+    requires parts { PartsWithin work.old depth kids.now }
     ensures { (xs : Syns) → AreParts work.old kids.now xs →
         Answers quietly work.old work.new (three_values pos (readings xs)) TripleThere IsTriple result }
 {
@@ -305,7 +302,7 @@ fn three_values(work: &mut Work<'_>, kids: &[u32], pos: Pos, depth: u32) -> Resu
 #[cycle(parts)]
 fn one_type(work: &mut Work<'_>, kids: &[u32], pos: Pos, depth: u32) -> Result<u32, Refusal>
     requires whole { IsWhole work.old.nodes }
-    requires parts { HaveParts work.old kids.now }
+    requires parts { PartsWithin work.old depth kids.now }
     ensures { (xs : Syns) → AreParts work.old kids.now xs →
         Answers quietly work.old work.new (one_type pos (readings xs)) TypeThere IsType result }
 {
@@ -319,8 +316,8 @@ fn one_type(work: &mut Work<'_>, kids: &[u32], pos: Pos, depth: u32) -> Result<u
 #[cycle(parts)]
 fn type_with_value(work: &mut Work<'_>, a: u32, b: u32, depth: u32) -> Result<Casting, Refusal>
     requires whole { IsWhole work.old.nodes }
-    requires first { HasPart work.old a }
-    requires second { HasPart work.old b }
+    requires first { PartWithin work.old depth a }
+    requires second { PartWithin work.old depth b }
     ensures { (x y : Syn) → IsPart work.old a x → IsPart work.old b y →
         Answers quietly work.old work.new (both (type_of (reading x)) (read_value (reading y))) CastThere IsCast
         result }
@@ -338,7 +335,7 @@ fn type_and_value(
     depth: u32,
 ) -> Result<Casting, Refusal>
     requires whole { IsWhole work.old.nodes }
-    requires parts { HaveParts work.old kids.now }
+    requires parts { PartsWithin work.old depth kids.now }
     ensures { (xs : Syns) → AreParts work.old kids.now xs →
         Answers quietly work.old work.new (type_and_value pos (readings xs)) CastThere IsCast result }
 {
@@ -351,7 +348,7 @@ fn type_and_value(
 #[cycle(parts)]
 fn conditional(work: &mut Work<'_>, kids: &[u32], pos: Pos, depth: u32) -> Result<Operand, Refusal>
     requires whole { IsWhole work.old.nodes }
-    requires parts { HaveParts work.old kids.now }
+    requires parts { PartsWithin work.old depth kids.now }
     ensures { (t : Lexeme) (xs : Syns) → t.pos ≡ pos → AreParts work.old kids.now xs →
         Answers quietly work.old work.new (expression_of kinds.Conditional t xs (readings xs)) OperandThere IsOperand
         result }
@@ -381,7 +378,7 @@ fn assignment(
     depth: u32,
 ) -> Result<Operand, Refusal>
     requires whole { IsWhole work.old.nodes }
-    requires parts { HaveParts work.old kids.now }
+    requires parts { PartsWithin work.old depth kids.now }
     ensures { (t : Lexeme) (xs : Syns) → t.pos ≡ pos → AreParts work.old kids.now xs →
         Answers quietly work.old work.new (expression_of (kinds.Assignment op) t xs (readings xs)) OperandThere
         IsOperand result }
@@ -399,7 +396,7 @@ fn postfix(
     depth: u32,
 ) -> Result<Operand, Refusal>
     requires whole { IsWhole work.old.nodes }
-    requires parts { HaveParts work.old kids.now }
+    requires parts { PartsWithin work.old depth kids.now }
     ensures { (t : Lexeme) (xs : Syns) → t.pos ≡ pos → AreParts work.old kids.now xs →
         Answers quietly work.old work.new (expression_of (kinds.Postfix op) t xs (readings xs)) OperandThere IsOperand
         result }
@@ -418,7 +415,7 @@ fn step_in_front(
     depth: u32,
 ) -> Result<Operand, Refusal>
     requires whole { IsWhole work.old.nodes }
-    requires parts { HaveParts work.old kids.now }
+    requires parts { PartsWithin work.old depth kids.now }
     ensures { (t : Lexeme) (xs : Syns) → t.pos ≡ pos → AreParts work.old kids.now xs →
         Answers quietly work.old work.new (expression_of (kinds.Prefix (prefixes.Step op)) t xs (readings xs))
         OperandThere IsOperand result }
@@ -430,7 +427,7 @@ fn step_in_front(
 #[cycle(parts)]
 fn address(work: &mut Work<'_>, kids: &[u32], pos: Pos, depth: u32) -> Result<Operand, Refusal>
     requires whole { IsWhole work.old.nodes }
-    requires parts { HaveParts work.old kids.now }
+    requires parts { PartsWithin work.old depth kids.now }
     ensures { (t : Lexeme) (xs : Syns) → t.pos ≡ pos → AreParts work.old kids.now xs →
         Answers quietly work.old work.new (expression_of (kinds.Prefix prefixes.Address) t xs (readings xs))
         OperandThere IsOperand result }
@@ -442,7 +439,7 @@ fn address(work: &mut Work<'_>, kids: &[u32], pos: Pos, depth: u32) -> Result<Op
 #[cycle(parts)]
 fn indirection(work: &mut Work<'_>, kids: &[u32], pos: Pos, depth: u32) -> Result<Operand, Refusal>
     requires whole { IsWhole work.old.nodes }
-    requires parts { HaveParts work.old kids.now }
+    requires parts { PartsWithin work.old depth kids.now }
     ensures { (t : Lexeme) (xs : Syns) → t.pos ≡ pos → AreParts work.old kids.now xs →
         Answers quietly work.old work.new (expression_of (kinds.Prefix prefixes.Indirection) t xs (readings xs))
         OperandThere IsOperand result }
@@ -460,7 +457,7 @@ fn unary(
     depth: u32,
 ) -> Result<Operand, Refusal>
     requires whole { IsWhole work.old.nodes }
-    requires parts { HaveParts work.old kids.now }
+    requires parts { PartsWithin work.old depth kids.now }
     ensures { (t : Lexeme) (xs : Syns) → t.pos ≡ pos → AreParts work.old kids.now xs →
         Answers quietly work.old work.new (expression_of (kinds.Prefix (prefixes.Unary op)) t xs (readings xs))
         OperandThere IsOperand result }
@@ -478,7 +475,7 @@ fn prefixed(
     depth: u32,
 ) -> Result<Operand, Refusal>
     requires whole { IsWhole work.old.nodes }
-    requires parts { HaveParts work.old kids.now }
+    requires parts { PartsWithin work.old depth kids.now }
     ensures { (t : Lexeme) (xs : Syns) → t.pos ≡ pos → AreParts work.old kids.now xs →
         Answers quietly work.old work.new (expression_of (kinds.Prefix op) t xs (readings xs)) OperandThere IsOperand
         result }
@@ -494,7 +491,7 @@ fn prefixed(
 #[cycle(parts)]
 fn cast(work: &mut Work<'_>, kids: &[u32], pos: Pos, depth: u32) -> Result<Operand, Refusal>
     requires whole { IsWhole work.old.nodes }
-    requires parts { HaveParts work.old kids.now }
+    requires parts { PartsWithin work.old depth kids.now }
     ensures { (t : Lexeme) (xs : Syns) → t.pos ≡ pos → AreParts work.old kids.now xs →
         Answers quietly work.old work.new (expression_of kinds.Cast t xs (readings xs)) OperandThere IsOperand result }
 {
@@ -511,7 +508,7 @@ fn unevaluated_operand(
     depth: u32,
 ) -> Result<Operand, Refusal>
     requires whole { IsWhole work.old.nodes }
-    requires parts { HaveParts work.old kids.now }
+    requires parts { PartsWithin work.old depth kids.now }
     ensures { (xs : Syns) → AreParts work.old kids.now xs →
         Answers quietly work.old work.new (unevaluated (one_operand pos (readings xs))) OperandThere IsOperand result }
 {
@@ -529,7 +526,7 @@ fn size_of_expression(
     depth: u32,
 ) -> Result<Operand, Refusal>
     requires whole { IsWhole work.old.nodes }
-    requires parts { HaveParts work.old kids.now }
+    requires parts { PartsWithin work.old depth kids.now }
     ensures { (t : Lexeme) (xs : Syns) → t.pos ≡ pos → AreParts work.old kids.now xs →
         Answers quietly work.old work.new (expression_of kinds.SizeofExpression t xs (readings xs)) OperandThere
         IsOperand result }
@@ -543,7 +540,7 @@ fn size_of_expression(
 #[cycle(parts)]
 fn unevaluated_type(work: &mut Work<'_>, kids: &[u32], pos: Pos, depth: u32) -> Result<u32, Refusal>
     requires whole { IsWhole work.old.nodes }
-    requires parts { HaveParts work.old kids.now }
+    requires parts { PartsWithin work.old depth kids.now }
     ensures { (xs : Syns) → AreParts work.old kids.now xs →
         Answers quietly work.old work.new (unevaluated (one_type pos (readings xs))) TypeThere IsType result }
 {
@@ -556,7 +553,7 @@ fn unevaluated_type(work: &mut Work<'_>, kids: &[u32], pos: Pos, depth: u32) -> 
 #[cycle(parts)]
 fn size_of_type(work: &mut Work<'_>, kids: &[u32], pos: Pos, depth: u32) -> Result<Operand, Refusal>
     requires whole { IsWhole work.old.nodes }
-    requires parts { HaveParts work.old kids.now }
+    requires parts { PartsWithin work.old depth kids.now }
     ensures { (t : Lexeme) (xs : Syns) → t.pos ≡ pos → AreParts work.old kids.now xs →
         Answers quietly work.old work.new (expression_of kinds.SizeofType t xs (readings xs)) OperandThere IsOperand
         result }
@@ -575,7 +572,7 @@ fn member_of(
     depth: u32,
 ) -> Result<Operand, Refusal>
     requires whole { IsWhole work.old.nodes }
-    requires part { HasPart work.old k }
+    requires part { PartWithin work.old depth k }
     ensures { (x : Syn) (t word : Lexeme) → t.pos ≡ pos → word.text ≡ name.now → IsPart work.old k x →
         Answers quietly work.old work.new (selected selections.Direct t word (reading x)) OperandThere IsOperand
         result }
@@ -594,7 +591,7 @@ fn member_behind(
     depth: u32,
 ) -> Result<Operand, Refusal>
     requires whole { IsWhole work.old.nodes }
-    requires part { HasPart work.old k }
+    requires part { PartWithin work.old depth k }
     ensures { (x : Syn) (t word : Lexeme) → t.pos ≡ pos → word.text ≡ name.now → IsPart work.old k x →
         Answers quietly work.old work.new (selected selections.Indirect t word (reading x)) OperandThere IsOperand
         result }
@@ -612,14 +609,14 @@ fn selected(
     depth: u32,
 ) -> Result<Operand, Refusal>
     requires whole { IsWhole work.old.nodes }
-    requires parts { HaveParts work.old kids.now }
+    requires parts { PartsWithin work.old depth kids.now }
     ensures { (t : Lexeme) (xs : Syns) → t.pos ≡ pos → AreParts work.old kids.now xs →
         Answers quietly work.old work.new (expression_of (kinds.Select how) t xs (readings xs)) OperandThere IsOperand
         result }
 {
     match two(kids) {
         Some(x) => {
-            let node = node_at(work, x.second)?;
+            let node = node_at(work, x.second);
             let name = work.text(node.text);
             match how {
                 Selection::Direct => member_of(work, x.first, name, pos, depth),
@@ -641,7 +638,7 @@ fn push(values: &mut Vec<Operand>, x: Operand) -> Result<(), NoMemory>
 #[cycle(parts)]
 fn arguments(work: &mut Work<'_>, kids: &[u32], depth: u32) -> Result<Vec<Operand>, Refusal>
     requires whole { IsWhole work.old.nodes }
-    requires parts { HaveParts work.old kids.now }
+    requires parts { PartsWithin work.old depth kids.now }
     ensures { (xs : Syns) → AreParts work.old kids.now xs →
         Answers quietly work.old work.new (read_values (readings xs)) AllThere AreOperands result }
 {
@@ -666,7 +663,7 @@ fn call_of_library(
     depth: u32,
 ) -> Result<Operand, Refusal>
     requires whole { IsWhole work.old.nodes }
-    requires parts { HaveParts work.old kids.now }
+    requires parts { PartsWithin work.old depth kids.now }
     ensures { (xs : Syns) → AreParts work.old kids.now xs →
         Answers quietly work.old work.new (called_service service pos first (readings xs)) OperandThere IsOperand
         result }
@@ -685,8 +682,8 @@ fn call_of_value(
     depth: u32,
 ) -> Result<Operand, Refusal>
     requires whole { IsWhole work.old.nodes }
-    requires called { HasPart work.old of }
-    requires parts { HaveParts work.old kids.now }
+    requires called { PartWithin work.old depth of }
+    requires parts { PartsWithin work.old depth kids.now }
     ensures { (x : Syn) (xs : Syns) → IsPart work.old of x → AreParts work.old kids.now xs →
         Answers quietly work.old work.new (called_value pos (reading x) (readings xs)) OperandThere IsOperand result }
 {
@@ -698,15 +695,15 @@ fn call_of_value(
 #[cycle(parts)]
 fn call(work: &mut Work<'_>, kids: &[u32], pos: Pos, depth: u32) -> Result<Operand, Refusal>
     requires whole { IsWhole work.old.nodes }
-    requires parts { HaveParts work.old kids.now }
+    requires parts { PartsWithin work.old depth kids.now }
     ensures { (t : Lexeme) (xs : Syns) → t.pos ≡ pos → AreParts work.old kids.now xs →
         Answers quietly work.old work.new (expression_of kinds.Call t xs (readings xs)) OperandThere IsOperand result }
 {
     match first_of(kids) {
         None => Err(Refusal::Code(120, pos)),
         Some(part) => {
-            let node = node_at(work, part.first)?;
-            let service = library(work, part.first, depth)?;
+            let node = node_at(work, part.first);
+            let service = library(work, part.first, depth);
             match service {
                 Some(number) => {
                     call_of_library(work, number, part.others, pos, node.first, depth)
@@ -731,21 +728,19 @@ fn named_library(work: &Work<'_>, node: &Node) -> Option<u8>
 }
 
 // The library function that is called by the name that a node is, perhaps in parentheses.
-fn library(work: &Work<'_>, k: u32, depth: u32) -> Result<Option<u8>, NoMemory>
-    ensures { IfOk result (λ o. (x : Syn) → IsPart work.now k x → (s : State) → Shows work.now s →
-        called_library s (called_name x) ≡ o) }
+fn library(work: &Work<'_>, k: u32, depth: u32) -> Option<u8>
+    requires { PartWithin work.now depth k }
+    ensures { (x : Syn) → IsPart work.now k x → (s : State) → Shows work.now s →
+        called_library s (called_name x) ≡ result }
 {
-    if depth == 0 {
-        return Err(NoMemory);
-    }
-    let node = node_at(work, k)?;
+    let node = node_at(work, k);
     match node.kind {
-        NodeKind::Name => Ok(named_library(work, node)),
+        NodeKind::Name => named_library(work, node),
         NodeKind::Parenthesized => match only(node.kids.as_slice()) {
             Some(inner) => library(work, inner, depth - 1),
-            None => Ok(None),
+            None => None,
         },
-        _ => Ok(None),
+        _ => None,
     }
 }
 
@@ -754,7 +749,7 @@ fn library(work: &Work<'_>, k: u32, depth: u32) -> Result<Option<u8>, NoMemory>
 #[cycle(parts)]
 fn unevaluated_value(work: &mut Work<'_>, k: u32, depth: u32) -> Result<Operand, Refusal>
     requires whole { IsWhole work.old.nodes }
-    requires part { HasPart work.old k }
+    requires part { PartWithin work.old depth k }
     ensures { (x : Syn) → IsPart work.old k x →
         Answers quietly work.old work.new (unevaluated (read_value (reading x))) OperandThere IsOperand result }
 {
@@ -768,7 +763,7 @@ fn unevaluated_value(work: &mut Work<'_>, k: u32, depth: u32) -> Result<Operand,
 #[cycle(parts)]
 pub fn constant(work: &mut Work<'_>, k: u32, depth: u32) -> Result<Constant, Refusal>
     requires whole { IsWhole work.old.nodes }
-    requires part { HasPart work.old k }
+    requires part { PartWithin work.old depth k }
     ensures { (x : Syn) → IsPart work.old k x →
         Answers quietly work.old work.new (constant (reading x)) ConstantThere (in_any IsConstant) result }
 {
@@ -783,14 +778,11 @@ pub fn constant(work: &mut Work<'_>, k: u32, depth: u32) -> Result<Constant, Ref
 #[cycle(parts)]
 pub fn specified(work: &mut Work<'_>, k: u32, alone: bool, depth: u32) -> Result<Specified, Refusal>
     requires whole { IsWhole work.old.nodes }
-    requires part { HasPart work.old k }
+    requires part { PartWithin work.old depth k }
     ensures { (x : Syn) → IsPart work.old k x →
         Answers quietly work.old work.new ((reading x).specified alone) SpecifiedThere (in_any IsSpecified) result }
 {
-    if depth == 0 {
-        return Err(Refusal::NoMemory);
-    }
-    let node = node_at(work, k)?;
+    let node = node_at(work, k);
     let kids = node.kids.as_slice();
     let lone = is_lone(alone, kids);
     let named = named_types(work, kids, lone, depth - 1)?;
@@ -801,11 +793,11 @@ pub fn specified(work: &mut Work<'_>, k: u32, alone: bool, depth: u32) -> Result
 #[cycle(parts)]
 fn maybe_type(work: &mut Work<'_>, k: u32, alone: bool, depth: u32) -> Result<Option<u32>, Refusal>
     requires whole { IsWhole work.old.nodes }
-    requires part { HasPart work.old k }
+    requires part { PartWithin work.old depth k }
     ensures { (x : Syn) → IsPart work.old k x →
         Answers quietly work.old work.new (maybe_type alone x) MaybeTypeThere IsMaybeType result }
 {
-    let node = node_at(work, k)?;
+    let node = node_at(work, k);
     if names_type(node.kind) {
         let of = type_of(work, k, alone, depth)?;
         Ok(Some(of))
@@ -823,7 +815,7 @@ fn named_types(
     depth: u32,
 ) -> Result<Vec<u32>, Refusal>
     requires whole { IsWhole work.old.nodes }
-    requires parts { HaveParts work.old kids.now }
+    requires parts { PartsWithin work.old depth kids.now }
     ensures { (xs : Syns) → AreParts work.old kids.now xs →
         Answers quietly work.old work.new (named_types alone xs (readings xs)) TypesThere AreTypes result }
 {
@@ -842,14 +834,11 @@ fn named_types(
 #[cycle(parts)]
 pub fn type_of(work: &mut Work<'_>, k: u32, alone: bool, depth: u32) -> Result<u32, Refusal>
     requires whole { IsWhole work.old.nodes }
-    requires part { HasPart work.old k }
+    requires part { PartWithin work.old depth k }
     ensures { (x : Syn) → IsPart work.old k x →
         Answers quietly work.old work.new ((reading x).type alone) TypeThere IsType result }
 {
-    if depth == 0 {
-        return Err(Refusal::NoMemory);
-    }
-    let node = node_at(work, k)?;
+    let node = node_at(work, k);
     type_of_node(work, node, alone, depth - 1)
 }
 
@@ -857,7 +846,7 @@ pub fn type_of(work: &mut Work<'_>, k: u32, alone: bool, depth: u32) -> Result<u
 #[cycle(parts)]
 fn type_of_node(work: &mut Work<'_>, node: &Node, alone: bool, depth: u32) -> Result<u32, Refusal>
     requires whole { IsWhole work.old.nodes }
-    requires parts { HaveParts work.old node.now.kids }
+    requires parts { PartsWithin work.old depth node.now.kids }
     ensures { (t : Lexeme) (xs : Syns) → IsNode work.old node.now t xs →
         Answers quietly work.old work.new (type_of_kind node.now.kind t xs (readings xs) alone) TypeThere IsType
         result }
@@ -882,7 +871,7 @@ fn unstored(
     depth: u32,
 ) -> Result<Specified, Refusal>
     requires whole { IsWhole work.old.nodes }
-    requires part { HasPart work.old k }
+    requires part { PartWithin work.old depth k }
     ensures { (x : Syn) → IsPart work.old k x →
         Answers quietly work.old work.new (unstored (reading x) register pos) SpecifiedThere
         (in_any IsSpecified) result }
@@ -897,7 +886,7 @@ fn unstored(
 #[cycle(parts)]
 fn type_name(work: &mut Work<'_>, kids: &[u32], pos: Pos, depth: u32) -> Result<u32, Refusal>
     requires whole { IsWhole work.old.nodes }
-    requires parts { HaveParts work.old kids.now }
+    requires parts { PartsWithin work.old depth kids.now }
     ensures { (t : Lexeme) (xs : Syns) → t.pos ≡ pos → AreParts work.old kids.now xs →
         Answers quietly work.old work.new (type_name t xs (readings xs)) TypeThere IsType result }
 {
@@ -924,11 +913,11 @@ fn record_specifier(
     depth: u32,
 ) -> Result<u32, Refusal>
     requires whole { IsWhole work.old.nodes }
-    requires parts { HaveParts work.old kids.now }
+    requires parts { PartsWithin work.old depth kids.now }
     ensures { (t : Lexeme) (xs : Syns) → t.pos ≡ pos → AreParts work.old kids.now xs →
         Answers quietly work.old work.new (record_specifier kind alone t xs (readings xs)) TypeThere IsType result }
 {
-    let found = tag_of(work, kids)?;
+    let found = tag_of(work, kids);
     match found {
         None => untagged(work, kind, kids, pos, depth),
         Some(tag) => tagged_record(work, kind, alone, tag.name, tag.others, pos, depth),
@@ -945,7 +934,7 @@ fn untagged(
     depth: u32,
 ) -> Result<u32, Refusal>
     requires whole { IsWhole work.old.nodes }
-    requires parts { HaveParts work.old kids.now }
+    requires parts { PartsWithin work.old depth kids.now }
     ensures { (xs : Syns) → AreParts work.old kids.now xs →
         Answers quietly work.old work.new (untagged kind (readings xs) pos) TypeThere IsType result }
 {
@@ -965,7 +954,7 @@ fn tagged_record(
     depth: u32,
 ) -> Result<u32, Refusal>
     requires whole { IsWhole work.old.nodes }
-    requires parts { HaveParts work.old members.now }
+    requires parts { PartsWithin work.old depth members.now }
     ensures { (xs : Syns) → AreParts work.old members.now xs →
         Answers quietly work.old work.new (tagged_record kind alone (token_of work.old name) (readings xs) pos)
         TypeThere IsType result }
@@ -989,7 +978,7 @@ fn filled(
     depth: u32,
 ) -> Result<u32, Refusal>
     requires whole { IsWhole work.old.nodes }
-    requires parts { HaveParts work.old kids.now }
+    requires parts { PartsWithin work.old depth kids.now }
     ensures { (xs : Syns) → AreParts work.old kids.now xs →
         Answers quietly work.old work.new (filled kind tag (readings xs) at keyword) TypeThere IsType result }
 {
@@ -1002,7 +991,7 @@ fn filled(
 #[cycle(parts)]
 fn all_members<'a>(work: &mut Work<'a>, kids: &[u32], depth: u32) -> Result<Members<'a>, Refusal>
     requires whole { IsWhole work.old.nodes }
-    requires parts { HaveParts work.old kids.now }
+    requires parts { PartsWithin work.old depth kids.now }
     ensures { (xs : Syns) → AreParts work.old kids.now xs →
         Answers quietly work.old work.new (all_members (readings xs) []) AllMembersThere AreAllMembers result }
 {
@@ -1024,15 +1013,12 @@ fn member<'a>(
     depth: u32,
 ) -> Result<Members<'a>, Refusal>
     requires whole { IsWhole work.old.nodes }
-    requires part { HasPart work.old k }
+    requires part { PartWithin work.old depth k }
     requires members { AllMembersThere work.old members }
     ensures { (x : Syn) (ms : List Part) → IsPart work.old k x → AreMembers work.old members.entry.all.items ms →
         Answers quietly work.old work.new ((reading x).members ms) AllMembersThere AreAllMembers result }
 {
-    if depth == 0 {
-        return Err(Refusal::NoMemory);
-    }
-    let node = node_at(work, k)?;
+    let node = node_at(work, k);
     let kids = node.kids.as_slice();
     match first_of(kids) {
         None => Err(Refusal::Code(120, node.pos)),
@@ -1054,7 +1040,7 @@ fn member_declarators<'a>(
 ) -> Result<Members<'a>, Refusal>
     requires whole { IsWhole work.old.nodes }
     requires specified { SpecifiedThere work.old s }
-    requires parts { HaveParts work.old kids.now }
+    requires parts { PartsWithin work.old depth kids.now }
     requires members { AllMembersThere work.old members }
     ensures { (x : MeantSpecified) (xs : Syns) (ms : List Part) → IsSpecified work.old s x →
         AreParts work.old kids.now xs → AreMembers work.old members.entry.all.items ms →
@@ -1079,7 +1065,7 @@ fn member_declarator<'a>(
 ) -> Result<Members<'a>, Refusal>
     requires whole { IsWhole work.old.nodes }
     requires specified { SpecifiedThere work.old s }
-    requires part { HasPart work.old k }
+    requires part { PartWithin work.old depth k }
     requires members { AllMembersThere work.old members }
     ensures { (x : MeantSpecified) (y : Syn) (ms : List Part) → IsSpecified work.old s x → IsPart work.old k y →
         AreMembers work.old members.entry.all.items ms →
@@ -1094,11 +1080,11 @@ fn member_declarator<'a>(
 #[cycle(parts)]
 fn enum_specifier(work: &mut Work<'_>, kids: &[u32], depth: u32) -> Result<u32, Refusal>
     requires whole { IsWhole work.old.nodes }
-    requires parts { HaveParts work.old kids.now }
+    requires parts { PartsWithin work.old depth kids.now }
     ensures { (xs : Syns) → AreParts work.old kids.now xs →
         Answers quietly work.old work.new (enum_specifier xs (readings xs)) TypeThere IsType result }
 {
-    let found = tag_of(work, kids)?;
+    let found = tag_of(work, kids);
     match found {
         None => listed(work, kids, depth),
         Some(tag) => tagged_enumeration(work, tag.name, tag.others, depth),
@@ -1114,7 +1100,7 @@ fn tagged_enumeration(
     depth: u32,
 ) -> Result<u32, Refusal>
     requires whole { IsWhole work.old.nodes }
-    requires parts { HaveParts work.old list.now }
+    requires parts { PartsWithin work.old depth list.now }
     ensures { (xs : Syns) → AreParts work.old list.now xs →
         Answers quietly work.old work.new (tagged_enumeration (token_of work.old name) (readings xs)) TypeThere IsType
         result }
@@ -1130,7 +1116,7 @@ fn tagged_enumeration(
 #[cycle(parts)]
 fn listed(work: &mut Work<'_>, kids: &[u32], depth: u32) -> Result<u32, Refusal>
     requires whole { IsWhole work.old.nodes }
-    requires parts { HaveParts work.old kids.now }
+    requires parts { PartsWithin work.old depth kids.now }
     ensures { (xs : Syns) → AreParts work.old kids.now xs →
         Answers quietly work.old work.new (listed (readings xs)) TypeThere IsType result }
 {
@@ -1141,7 +1127,7 @@ fn listed(work: &mut Work<'_>, kids: &[u32], depth: u32) -> Result<u32, Refusal>
 #[cycle(parts)]
 fn enumerators(work: &mut Work<'_>, kids: &[u32], depth: u32) -> Result<(), Refusal>
     requires whole { IsWhole work.old.nodes }
-    requires parts { HaveParts work.old kids.now }
+    requires parts { PartsWithin work.old depth kids.now }
     ensures { (xs : Syns) → AreParts work.old kids.now xs →
         Answers quietly work.old work.new (enumerators (readings xs) (pos 0)) NothingThere IsNothing result }
 {
@@ -1158,14 +1144,11 @@ fn enumerators(work: &mut Work<'_>, kids: &[u32], depth: u32) -> Result<(), Refu
 #[cycle(parts)]
 fn enumerator(work: &mut Work<'_>, k: u32, next: i128, depth: u32) -> Result<i128, Refusal>
     requires whole { IsWhole work.old.nodes }
-    requires part { HasPart work.old k }
+    requires part { PartWithin work.old depth k }
     ensures { (x : Syn) → IsPart work.old k x →
         Answers quietly work.old work.new ((reading x).enumerator next) NumberThere (in_any IsNumber) result }
 {
-    if depth == 0 {
-        return Err(Refusal::NoMemory);
-    }
-    let node = node_at(work, k)?;
+    let node = node_at(work, k);
     match node.kind {
         NodeKind::Enumerator => {
             valued(work, name_of(node), node.kids.as_slice(), next, depth - 1)
@@ -1183,7 +1166,7 @@ fn valued(
     depth: u32,
 ) -> Result<i128, Refusal>
     requires whole { IsWhole work.old.nodes }
-    requires parts { HaveParts work.old kids.now }
+    requires parts { PartsWithin work.old depth kids.now }
     ensures { (xs : Syns) → AreParts work.old kids.now xs →
         Answers quietly work.old work.new (enumerator (token_of work.old name) (readings xs) next) NumberThere
         (in_any IsNumber) result }
@@ -1203,14 +1186,11 @@ fn valued(
 #[cycle(parts)]
 pub fn derived<'a>(work: &mut Work<'a>, k: u32, depth: u32) -> Result<Derived<'a>, Refusal>
     requires whole { IsWhole work.old.nodes }
-    requires part { HasPart work.old k }
+    requires part { PartWithin work.old depth k }
     ensures { (x : Syn) → IsPart work.old k x →
         Answers quietly work.old work.new (reading x).derived DerivedThere ShowsDerived result }
 {
-    if depth == 0 {
-        return Err(Refusal::NoMemory);
-    }
-    let node = node_at(work, k)?;
+    let node = node_at(work, k);
     declarator(work, node, depth - 1)
 }
 
@@ -1218,7 +1198,7 @@ pub fn derived<'a>(work: &mut Work<'a>, k: u32, depth: u32) -> Result<Derived<'a
 #[cycle(parts)]
 fn declarator<'a>(work: &mut Work<'a>, node: &Node, depth: u32) -> Result<Derived<'a>, Refusal>
     requires whole { IsWhole work.old.nodes }
-    requires parts { HaveParts work.old node.now.kids }
+    requires parts { PartsWithin work.old depth node.now.kids }
     ensures { (t : Lexeme) (xs : Syns) → IsNode work.old node.now t xs →
         Answers quietly work.old work.new (declarator_of node.now.kind t xs (readings xs)) DerivedThere ShowsDerived
         result }
@@ -1243,7 +1223,7 @@ fn enclosed<'a>(
     depth: u32,
 ) -> Result<Derived<'a>, Refusal>
     requires whole { IsWhole work.old.nodes }
-    requires parts { HaveParts work.old kids.now }
+    requires parts { PartsWithin work.old depth kids.now }
     ensures { (t : Lexeme) (xs : Syns) → t.pos ≡ pos → AreParts work.old kids.now xs →
         Answers quietly work.old work.new (declarator_of kinds.ParenthesizedDeclarator t xs (readings xs))
         DerivedThere ShowsDerived result }
@@ -1258,7 +1238,7 @@ fn enclosed<'a>(
 #[cycle(parts)]
 fn within<'a>(work: &mut Work<'a>, kids: &[u32], depth: u32) -> Result<Derived<'a>, Refusal>
     requires whole { IsWhole work.old.nodes }
-    requires parts { HaveParts work.old kids.now }
+    requires parts { PartsWithin work.old depth kids.now }
     ensures { (xs : Syns) → AreParts work.old kids.now xs →
         Answers quietly work.old work.new (within (readings xs)) DerivedThere ShowsDerived result }
 {
@@ -1276,7 +1256,7 @@ fn pointer<'a>(
     depth: u32,
 ) -> Result<Derived<'a>, Refusal>
     requires whole { IsWhole work.old.nodes }
-    requires parts { HaveParts work.old kids.now }
+    requires parts { PartsWithin work.old depth kids.now }
     ensures { (t : Lexeme) (xs : Syns) → t.pos ≡ pos → AreParts work.old kids.now xs →
         Answers quietly work.old work.new (declarator_of kinds.Pointer t xs (readings xs)) DerivedThere ShowsDerived
         result }
@@ -1295,7 +1275,7 @@ fn pointer<'a>(
 #[cycle(parts)]
 fn open_array<'a>(work: &mut Work<'a>, kids: &[u32], depth: u32) -> Result<Derived<'a>, Refusal>
     requires whole { IsWhole work.old.nodes }
-    requires parts { HaveParts work.old kids.now }
+    requires parts { PartsWithin work.old depth kids.now }
     ensures { (t : Lexeme) (xs : Syns) → AreParts work.old kids.now xs →
         Answers quietly work.old work.new (declarator_of kinds.OpenArray t xs (readings xs)) DerivedThere ShowsDerived
         result }
@@ -1313,7 +1293,7 @@ fn array<'a>(
     depth: u32,
 ) -> Result<Derived<'a>, Refusal>
     requires whole { IsWhole work.old.nodes }
-    requires parts { HaveParts work.old kids.now }
+    requires parts { PartsWithin work.old depth kids.now }
     ensures { (t : Lexeme) (xs : Syns) → t.pos ≡ pos → AreParts work.old kids.now xs →
         Answers quietly work.old work.new (declarator_of kinds.Array t xs (readings xs)) DerivedThere ShowsDerived
         result }
@@ -1328,7 +1308,7 @@ fn array<'a>(
 #[cycle(parts)]
 fn length_of(work: &mut Work<'_>, k: u32, depth: u32) -> Result<u64, Refusal>
     requires whole { IsWhole work.old.nodes }
-    requires part { HasPart work.old k }
+    requires part { PartWithin work.old depth k }
     ensures { (x : Syn) → IsPart work.old k x →
         Answers quietly work.old work.new (array_length (reading x)) CountThere (in_any IsCount) result }
 {
@@ -1345,8 +1325,8 @@ fn row<'a>(
     depth: u32,
 ) -> Result<Derived<'a>, Refusal>
     requires whole { IsWhole work.old.nodes }
-    requires parts { HaveParts work.old before.now }
-    requires count { HasPart work.old count }
+    requires parts { PartsWithin work.old depth before.now }
+    requires count { PartWithin work.old depth count }
     ensures { (xs : Syns) (y : Syn) → AreParts work.old before.now xs → IsPart work.old count y →
         Answers quietly work.old work.new (row_of (readings xs) (reading y)) DerivedThere ShowsDerived result }
 {
@@ -1364,7 +1344,7 @@ fn function<'a>(
     depth: u32,
 ) -> Result<Derived<'a>, Refusal>
     requires whole { IsWhole work.old.nodes }
-    requires parts { HaveParts work.old kids.now }
+    requires parts { PartsWithin work.old depth kids.now }
     ensures { (t : Lexeme) (xs : Syns) → t.pos ≡ pos → AreParts work.old kids.now xs →
         Answers quietly work.old work.new (declarator_of kinds.Function t xs (readings xs)) DerivedThere ShowsDerived
         result }
@@ -1384,8 +1364,8 @@ fn function_with<'a>(
     depth: u32,
 ) -> Result<Derived<'a>, Refusal>
     requires whole { IsWhole work.old.nodes }
-    requires parts { HaveParts work.old before.now }
-    requires parameters { HasPart work.old parameters }
+    requires parts { PartsWithin work.old depth before.now }
+    requires parameters { PartWithin work.old depth parameters }
     ensures { (xs : Syns) (y : Syn) → AreParts work.old before.now xs → IsPart work.old parameters y →
         Answers quietly work.old work.new (function_of (readings xs) (reading y)) DerivedThere ShowsDerived result }
 {
@@ -1401,14 +1381,11 @@ fn function_with<'a>(
 #[cycle(parts)]
 fn prototype<'a>(work: &mut Work<'a>, k: u32, depth: u32) -> Result<Prototype<'a>, Refusal>
     requires whole { IsWhole work.old.nodes }
-    requires part { HasPart work.old k }
+    requires part { PartWithin work.old depth k }
     ensures { (x : Syn) → IsPart work.old k x →
         Answers quietly work.old work.new (reading x).prototype PrototypeThere ShowsPrototype result }
 {
-    if depth == 0 {
-        return Err(Refusal::NoMemory);
-    }
-    let node = node_at(work, k)?;
+    let node = node_at(work, k);
     enter(work)?;
     let params = parameter_list(work, node.kids.as_slice(), depth - 1)?;
     let scope = close(work)?;
@@ -1419,7 +1396,7 @@ fn prototype<'a>(work: &mut Work<'a>, k: u32, depth: u32) -> Result<Prototype<'a
 #[cycle(parts)]
 fn parameter_list(work: &mut Work<'_>, kids: &[u32], depth: u32) -> Result<Vec<Param>, Refusal>
     requires whole { IsWhole work.old.nodes }
-    requires parts { HaveParts work.old kids.now }
+    requires parts { PartsWithin work.old depth kids.now }
     ensures { (xs : Syns) → AreParts work.old kids.now xs →
         Answers quietly work.old work.new (parameter_list 0 (length (readings xs) == 1) (readings xs)) ParamsThere
         AreParams result }
@@ -1442,14 +1419,11 @@ fn parameter_list(work: &mut Work<'_>, kids: &[u32], depth: u32) -> Result<Vec<P
 #[cycle(parts)]
 fn parameter(work: &mut Work<'_>, k: u32, only: bool, depth: u32) -> Result<Param, Refusal>
     requires whole { IsWhole work.old.nodes }
-    requires part { HasPart work.old k }
+    requires part { PartWithin work.old depth k }
     ensures { (x : Syn) → IsPart work.old k x →
         Answers quietly work.old work.new ((reading x).parameter only) ParamThere (in_any IsParam) result }
 {
-    if depth == 0 {
-        return Err(Refusal::NoMemory);
-    }
-    let node = node_at(work, k)?;
+    let node = node_at(work, k);
     match node.kind {
         NodeKind::Parameter => {
             parameter_at(work, name_of(node), node.kids.as_slice(), only, depth - 1)
@@ -1467,7 +1441,7 @@ fn parameter_at(
     depth: u32,
 ) -> Result<Param, Refusal>
     requires whole { IsWhole work.old.nodes }
-    requires parts { HaveParts work.old kids.now }
+    requires parts { PartsWithin work.old depth kids.now }
     ensures { (xs : Syns) → AreParts work.old kids.now xs →
         Answers quietly work.old work.new (parameter_of (token_of work.old first) (readings xs) only) ParamThere
         (in_any IsParam) result }

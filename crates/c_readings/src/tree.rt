@@ -1,21 +1,21 @@
 //! The nodes of a file's tree.
 
-ghost use Rattle.std.specs.Prelude.{◌≡◌, ◌∷◌, [], slice_get, IfOk, MatchOption};
+ghost use Rattle.std.specs.Prelude.{◌≡◌, ◌<◌, ◌∷◌, [], Some, length, slice_get, MatchOption};
 ghost use Rattle.c_tree.specs.Syntax.{Syns};
-ghost use Rattle.c_elaborator.specs.Parts.{AreParts};
+ghost use Rattle.c_elaborator.specs.Parts.{AreParts, HaveParts};
 ghost use Rattle.c_readings.specs.Kids.{name_of, HasNot, HasEnds, IsTagged};
 
 use c_elaborator::{Name, Work};
 use c_tree::{Node, NodeKind};
-use ck_base::NoMemory;
 
 /// The node with a number.
-pub fn node_at<'a>(work: &Work<'a>, k: u32) -> Result<&'a Node, NoMemory>
-    ensures { IfOk result (λ n. slice_get work.now.tree.now.nodes k ≡ Some n.now) }
+pub fn node_at<'a>(work: &Work<'a>, k: u32) -> &'a Node
+    requires { k < length work.now.tree.now.nodes }
+    ensures { slice_get work.now.tree.now.nodes k ≡ Some result.now }
 {
     match work.tree.nodes.as_slice().get(k as usize) {
-        None => Err(NoMemory),
-        Some(node) => Ok(node),
+        None => unreachable!(),
+        Some(node) => node,
     }
 }
 
@@ -138,19 +138,20 @@ pub(crate) struct TagParts<'a> {
 }
 
 /// The tag that stands first, if one does.
-pub(crate) fn tag_of<'a>(work: &Work<'_>, kids: &'a [u32]) -> Result<Option<TagParts<'a>>, NoMemory>
-    ensures { IfOk result (λ o. (xs : Syns) → AreParts work.now kids.now xs → IsTagged work.now o xs) }
+pub(crate) fn tag_of<'a>(work: &Work<'_>, kids: &'a [u32]) -> Option<TagParts<'a>>
+    requires { HaveParts work.now kids.now }
+    ensures { (xs : Syns) → AreParts work.now kids.now xs → IsTagged work.now result xs }
 {
     match first_of(kids) {
-        None => Ok(None),
+        None => None,
         Some(part) => {
-            let node = node_at(work, part.first)?;
+            let node = node_at(work, part.first);
             match node.kind {
-                NodeKind::Tag => Ok(Some(TagParts {
+                NodeKind::Tag => Some(TagParts {
                     name: name_of(node),
                     others: part.others,
-                })),
-                _ => Ok(None),
+                }),
+                _ => None,
             }
         }
     }

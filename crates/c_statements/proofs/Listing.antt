@@ -21,7 +21,7 @@ use Rattle.c_expressions.specs.Nodes.{IsWhole, type_in, type_count}
 use Rattle.c_elaborator.specs.declared.work.Work.{Work}
 use Rattle.c_elaborator.specs.Work.{Shows}
 use Rattle.c_elaborator.specs.Answers.{Keeps, Done, Answers, quietly}
-use Rattle.c_elaborator.specs.Parts.{IsPart, AreParts, HaveParts}
+use Rattle.c_elaborator.specs.Parts.{IsPart, AreParts}
 use Rattle.c_elaborator.proofs.Parting.{cut, no_parts}
 use Rattle.c_elaborator.proofs.Sequencing.{quiet_law, answers_at, then, gave}
 use Rattle.c_initializers.specs.declared.places.Place.{Place}
@@ -263,11 +263,6 @@ so_far_ends u v g brace xs i ks js given f r none p e n =
     (subst (λ (y : meant.Filled). Done quietly v v (give a) (AreSlotsThere v.nodes f.slots.items) (λ s x. x ≡ y)) i'
     (gave quietly quiet_law v a (AreSlotsThere v.nodes f.slots.items) r.done.whole
     (subst (λ (l : List Slot). AreSlotsThere v.nodes l) (sym e) r.done.there))))
-
--- the parts that are left
-pub rest_have : (u v : Work) (g : Goal) (brace : Pos) (xs : Syns) (i : ℕ) (ks : List ℕ) (given : List Slot) →
-    SoFar u v g brace xs i ks given → HaveParts v ks
-rest_have u v g brace xs i ks given r = record { syntax = r.rest; are = r.parts }
 
 -- ---- what the next item initialises
 

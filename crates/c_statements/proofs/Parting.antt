@@ -12,12 +12,14 @@ use Rattle.c_tree.specs.Programs.{reading, readings}
 use Rattle.c_elaborator.specs.declared.work.Work.{Work}
 use Rattle.c_elaborator.specs.Work.{Shows}
 use Rattle.c_elaborator.specs.Answers.{Way, Answers, freely}
-use Rattle.c_elaborator.specs.Parts.{IsPart, AreParts, HasPart, HaveParts}
+use Rattle.c_elaborator.specs.Parts.{IsPart, AreParts}
 use Rattle.c_readings.specs.Kids.{HasNot}
 use Rattle.c_elaborator.specs.Items.{ItemsThere, IsItems}
 use Rattle.c_elaborator.specs.declared.items.Items.{Items}
 use Rattle.c_statements.specs.Statements.{for_in, for_with, switch_in, switch_with, case_of}
-use Rattle.c_readings.proofs.Kids.{cut, no_parts, have_first, have_others}
+use Rattle.c_readings.specs.Within.{PartWithin, PartsWithin}
+use Rattle.c_readings.proofs.Kids.{cut, no_parts}
+use Rattle.c_readings.proofs.Within.{first_within, others_within}
 use Rattle.c_statements.proofs.Stating.{readings_more, readings_nil, readings_not}
 
 -- ---- for
@@ -65,16 +67,16 @@ for_answers u v ks i j k l c p r e h xs q =
     (sym read)
     (h m1.head m2.head m3.head m4.head m1.first m2.first m3.first m4.first))
 
-pub have_four : (w : Work) (ks : List ℕ) (i j k l : ℕ) → ks ≡ i ∷ j ∷ k ∷ l ∷ [] → HaveParts w ks →
-    HasPart w i × HasPart w j × HasPart w k × HasPart w l
-have_four w ks i j k l e h =
-    let p = subst (λ (z : List ℕ). HaveParts w z) e h in
-    let q = have_others w i (j ∷ k ∷ l ∷ []) p in
-    let r = have_others w j (k ∷ l ∷ []) q in (
-      have_first w i (j ∷ k ∷ l ∷ []) p,
-      have_first w j (k ∷ l ∷ []) q,
-      have_first w k (l ∷ []) r,
-      have_first w l [] (have_others w k (l ∷ []) r),
+pub four_within : {d : ℕ} (w : Work) (ks : List ℕ) (i j k l : ℕ) → ks ≡ i ∷ j ∷ k ∷ l ∷ [] → PartsWithin w d ks →
+    PartWithin w d i × PartWithin w d j × PartWithin w d k × PartWithin w d l
+four_within {d} w ks i j k l e h =
+    let p = subst (λ (z : List ℕ). PartsWithin w d z) e h in
+    let q = others_within w i (j ∷ k ∷ l ∷ []) p in
+    let r = others_within w j (k ∷ l ∷ []) q in (
+      first_within w i (j ∷ k ∷ l ∷ []) p,
+      first_within w j (k ∷ l ∷ []) q,
+      first_within w k (l ∷ []) r,
+      first_within w l [] (others_within w k (l ∷ []) r),
     )
 
 -- ---- switch

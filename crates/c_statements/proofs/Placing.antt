@@ -11,8 +11,8 @@ use Rattle.c_tree.specs.Scopes.{State, Doing}
 use Rattle.c_types.specs.Stands.{text_at}
 use Rattle.c_elaborator.specs.declared.work.Work.{Work}
 use Rattle.c_elaborator.specs.Answers.{Way, Keeps, freely, Answers}
-use Rattle.c_readings.specs.Kids.{HasNode, IsNode}
-use Rattle.c_elaborator.specs.Parts.{AreParts, HaveParts}
+use Rattle.c_readings.specs.Kids.{IsNode}
+use Rattle.c_readings.specs.Within.{NodeWithin}
 use Rattle.c_readings.proofs.Kids.{parts_kept}
 use Rattle.c_elaborator.specs.declared.items.Items.{Items}
 use Rattle.c_elaborator.specs.Items.{ItemsThere, IsItems}
@@ -28,14 +28,9 @@ node_kept u v n t xs k h =
           parts_kept u v n.kids xs k h.parts;
     }
 
-pub has_node_kept : (u v : Work) (n : Node) → Keeps u v → HasNode u n → HasNode v n
-has_node_kept u v n k h = record { token = h.token; syntax = h.syntax; is = node_kept u v n h.token h.syntax k h.is }
-
-pub kids_of : (w : Work) (n : Node) (ks : List ℕ) → HasNode w n → ks ≡ n.kids → HaveParts w ks
-kids_of w n ks h e = record {
-  syntax = h.syntax;
-  are = subst (λ (z : List ℕ). AreParts w z h.syntax) (sym e) h.is.parts;
-}
+pub node_within_kept : {d : ℕ} (u v : Work) (n : Node) → Keeps u v → NodeWithin u d n → NodeWithin v d n
+node_within_kept u v n k h =
+    record { token = h.token; syntax = h.syntax; is = node_kept u v n h.token h.syntax k h.is; within = h.within }
 
 -- ---- a construct, by its kind and at its place
 

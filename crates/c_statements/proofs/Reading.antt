@@ -1,6 +1,6 @@
 -- What an initializer stands for, by its kind.
 use Rattle.std.proofs.Common.{◌≡◌, ℕ, suc, zero, Bool, true, false, List, [], ◌∷◌, ◌++◌, length, get_or, Option, Some}
-use Rattle.std.proofs.Common.{None, refl, sym, ap, subst, ◌∙◌, arith}
+use Rattle.std.proofs.Common.{None, ◌≤◌, ◌-◌, refl, sym, ap, subst, ◌∙◌, arith}
 use Rattle.std.specs.Prelude.{◌&&◌, if◌then◌else◌}
 use Rattle.ck_base.specs.declared.positions.Pos.{Pos}
 use Rattle.ck_base.specs.Tokens.{Lexeme}
@@ -20,10 +20,11 @@ use Rattle.ck_base.specs.Lexes.{IsAccepted}
 use Rattle.c_types.specs.Stands.{text_at}
 use Rattle.c_elaborator.specs.declared.work.Part.{Part}
 use Rattle.c_elaborator.specs.Nodes.{IsNode, kind_of, syns_of}
-use Rattle.c_elaborator.specs.Parts.{TokenFits, IsPart, HasPart, AreParts, HaveParts}
+use Rattle.c_elaborator.specs.Parts.{TokenFits, IsPart, AreParts}
 use Rattle.c_elaborator.proofs.Parting.{cut, no_parts}
 use Rattle.c_initializers.specs.Slots.{string_filled}
 use Rattle.c_statements.specs.Initial.{gives_items}
+use Rattle.c_readings.specs.Within.{depth, depths, PartWithin, PartsWithin}
 
 pub reads_braces : (x : Syn) (asked : Slot → Doing Unit) (whole : Pos) (of : Ty) (at : ℕ) →
     kind_of x ≡ Kinds.BracedInitializer →
@@ -121,13 +122,6 @@ several (node _ t ys) y xs = refl
 pub one_part : (w : Work) (k : ℕ) (xs : Syns) → AreParts w (k ∷ []) xs → (x : Syn) × (xs ≡ more x nil) × IsPart w k x
 one_part w k xs p = let c = cut w k [] xs p in (c.head, c.is ∙ ap (more c.head) (no_parts w c.tail c.others), c.first)
 
-pub lone_part : (w : Work) (k : ℕ) (ks : List ℕ) → ks ≡ k ∷ [] → HaveParts w ks → HasPart w k
-lone_part w k ks e h = let o = one_part w k h.syntax (subst (λ (js : List ℕ). AreParts w js h.syntax) e h.are) in
-    record { syntax = o.0; is = o.2 }
-
-pub first_part : (w : Work) (k : ℕ) (ks : List ℕ) → HaveParts w (k ∷ ks) → HasPart w k
-first_part w k ks h = let c = cut w k ks h.syntax h.are in record { syntax = c.head; is = c.first }
-
 pub lone_given : (t : Lexeme) (xs : Syns) (x : Syn) (asked : Slot → Doing Unit) (whole : Pos) (of : Ty) (at : ℕ) →
     xs ≡ more x nil → (is_text xs && takes_string of) ≡ true →
     braced_initializer t (is_text xs) (readings xs) asked whole of at ≡ (reading x).initializer asked whole of at
@@ -173,6 +167,12 @@ pub text_accepted : (w : Work) (p : Part) (x : Syn) → IsNode w p x → p.kind 
 text_accepted w p x n e =
     subst (λ (bs : List ℕ). IsAccepted Text bs) n.text (subst (λ (k : NodeKind). TokenFits k (own_token x)) e n.fits)
 
-pub node_parts : (w : Work) (k : ℕ) (p : Part) → ((x : Syn) → IsPart w k x → IsNode w p x) → HasPart w k →
-    HaveParts w p.kids.now
-node_parts w k p h a = record { syntax = syns_of a.syntax; are = (h a.syntax a.is).parts }
+low_parts : (x : Syn) → depths (syns_of x) ≤ depth x - 1
+low_parts (node k t xs) = omega arith
+
+pub node_parts : {d : ℕ} (w : Work) (k : ℕ) (p : Part) → ((x : Syn) → IsPart w k x → IsNode w p x) →
+    PartWithin w d k → PartsWithin w (d - 1) p.kids.now
+node_parts w k p h a =
+    let low = low_parts a.syntax in
+    let le = a.within in
+    record { syntax = syns_of a.syntax; are = (h a.syntax a.is).parts; within = omega arith }

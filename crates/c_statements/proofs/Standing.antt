@@ -20,13 +20,15 @@ use Rattle.c_types.specs.Declares.{storage_of}
 use Rattle.c_expressions.specs.Nodes.{type_in}
 use Rattle.c_elaborator.specs.declared.work.Work.{Work}
 use Rattle.c_elaborator.specs.Answers.{Keeps}
-use Rattle.c_elaborator.specs.Parts.{IsPart, HasPart, AreParts, HaveParts}
+use Rattle.c_elaborator.specs.Parts.{IsPart, AreParts}
 use Rattle.c_declarators.specs.declared.parts.Specified.{Specified}
 use Rattle.c_declarators.specs.declared.parts.Wrap.{Wrap}
 use Rattle.c_declarators.specs.declared.parts.Wrap.TheVariants.{Point, Row, Gives}
 use Rattle.c_declarators.specs.declared.parts.Derived.{Derived}
 use Rattle.c_declarators.specs.Parts.{SpecifiedThere, IsSpecified, IsDerived, AreWraps, any_scope, name_token, param_in}
-use Rattle.c_readings.proofs.Kids.{cut, no_parts, part_kept, has_kept, have_first, opened}
+use Rattle.c_readings.specs.Within.{PartWithin, PartsWithin}
+use Rattle.c_readings.proofs.Kids.{cut, no_parts, part_kept, opened}
+use Rattle.c_readings.proofs.Within.{first_within, still_within}
 use Rattle.c_statements.specs.declared.declarations.Behind.{Behind}
 use Rattle.c_statements.specs.Declaring.{HasBehind, IsBehind, IsInitializer, behind_in, declares_list}
 use Rattle.c_statements.proofs.Stating.{readings_more, readings_nil}
@@ -38,8 +40,9 @@ behind_none w ks xs e a =
     subst (λ (ys : Syns). IsBehind w None (behind_in ys))
     (sym (no_parts w xs (subst (λ (z : List ℕ). AreParts w z xs) e a))) tt
 
-pub behind_there : (w : Work) (ks : List ℕ) (k : ℕ) (rest : List ℕ) → ks ≡ k ∷ rest → HaveParts w ks → HasPart w k
-behind_there w ks k rest e h = have_first w k rest (subst (λ (z : List ℕ). HaveParts w z) e h)
+pub behind_there : {d : ℕ} (w : Work) (ks : List ℕ) (k : ℕ) (rest : List ℕ) → ks ≡ k ∷ rest → PartsWithin w d ks →
+    PartWithin w d k
+behind_there {d} w ks k rest e h = first_within w k rest (subst (λ (z : List ℕ). PartsWithin w d z) e h)
 
 pub behind_some : (w : Work) (ks : List ℕ) (k : ℕ) (rest : List ℕ) (n : Node) (xs : Syns) → ks ≡ k ∷ rest →
     slice_get w.tree.now.nodes k ≡ Some n → AreParts w ks xs →
@@ -52,9 +55,9 @@ behind_some w ks k rest n xs e g a =
     record { syntax = c.head; part = c.first; is = ap (λ p. (reading c.head, p)) (sym o.first) } in
     subst (λ (ys : Syns). IsBehind w (Some b) (behind_in ys)) (sym c.is) i
 
-pub has_behind_kept : (u v : Work) (o : Option Behind) → Keeps u v → HasBehind u o → HasBehind v o
-has_behind_kept u v None k h = tt
-has_behind_kept u v (Some b) k h = has_kept u v b.node k h
+pub has_behind_kept : (d : ℕ) (u v : Work) (o : Option Behind) → Keeps u v → HasBehind u d o → HasBehind v d o
+has_behind_kept d u v None k h = tt
+has_behind_kept d u v (Some b) k h = still_within u v b.node k h
 
 pub behind_kept : (u v : Work) (o : Option Behind) (b : declarations.Behind) → Keeps u v → IsBehind u o b →
     IsBehind v o b

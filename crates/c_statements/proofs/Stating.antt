@@ -11,10 +11,10 @@ use Rattle.c_tree.specs.Programs.{reading, readings, reading_of}
 use Rattle.c_elaborator.specs.declared.work.Work.{Work}
 use Rattle.c_elaborator.specs.Work.{Shows}
 use Rattle.c_elaborator.specs.Answers.{Way, Answers}
-use Rattle.c_elaborator.specs.Parts.{IsPart, AreParts, HasPart, HaveParts}
+use Rattle.c_elaborator.specs.Parts.{IsPart, AreParts}
 use Rattle.c_readings.specs.Kids.{HasNot}
 use Rattle.c_statements.specs.Arity.{with_one, with_two, with_three}
-use Rattle.c_readings.proofs.Kids.{cut, no_parts, count, counted, have_first, have_others}
+use Rattle.c_readings.proofs.Kids.{cut, no_parts, count, counted}
 
 -- ---- what parts are read
 
@@ -132,23 +132,6 @@ pub from_three : {A X : Type 0} (y : Way) (u v : Work) (ks : List ℕ) (a b c : 
 from_three y u v ks a b c d p There Is r e h xs q =
     let m = three_parts u a b c xs (subst (λ (z : List ℕ). AreParts u z xs) e q) in
     subst (λ (rs : List Reading). Answers y u v (with_three d p rs) There Is r) (sym m.3) (h m.0 m.1 m.2 m.4 m.5 m.6)
-
--- ---- some parts
-
-pub have_one : (w : Work) (ks : List ℕ) (a : ℕ) → ks ≡ a ∷ [] → HaveParts w ks → HasPart w a
-have_one w ks a e h = have_first w a [] (subst (λ (z : List ℕ). HaveParts w z) e h)
-
-pub have_two : (w : Work) (ks : List ℕ) (a b : ℕ) → ks ≡ a ∷ b ∷ [] → HaveParts w ks → HasPart w a × HasPart w b
-have_two w ks a b e h =
-    let p = subst (λ (z : List ℕ). HaveParts w z) e h in
-    (have_first w a (b ∷ []) p, have_first w b [] (have_others w a (b ∷ []) p))
-
-pub have_three : (w : Work) (ks : List ℕ) (a b c : ℕ) → ks ≡ a ∷ b ∷ c ∷ [] → HaveParts w ks →
-    HasPart w a × HasPart w b × HasPart w c
-have_three w ks a b c e h =
-    let p = subst (λ (z : List ℕ). HaveParts w z) e h in
-    let q = have_others w a (b ∷ c ∷ []) p in
-    (have_first w a (b ∷ c ∷ []) p, have_first w b (c ∷ []) q, have_first w c [] (have_others w b (c ∷ []) q))
 
 -- ---- scopes
 

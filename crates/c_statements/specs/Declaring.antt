@@ -24,16 +24,17 @@ use Rattle.c_expressions.specs.Nodes.{type_count}
 use Rattle.c_types.specs.declared.entries.Entity.{Entity}
 use Rattle.c_types.specs.declared.entries.Entity.TheVariants as entities
 use Rattle.c_elaborator.specs.declared.work.Work.{Work}
-use Rattle.c_elaborator.specs.Parts.{IsPart, HasPart}
+use Rattle.c_elaborator.specs.Parts.{IsPart}
+use Rattle.c_readings.specs.Within.{PartWithin}
 use Rattle.c_declarators.specs.declared.parts.Wrap.{Wrap}
 use Rattle.c_declarators.specs.Forming.{WrapIsThere}
 use Rattle.c_statements.specs.declared.declarations.Behind.{Behind}
 
 -- ---- what stands behind a declarator
 
-abbrev pub HasBehind : Work → Option Behind → Type 0
-HasBehind w None = Unit {0}
-HasBehind w (Some b) = HasPart w b.node
+abbrev pub HasBehind : Work → ℕ → Option Behind → Type 0
+HasBehind w limit None = Unit {0}
+HasBehind w limit (Some b) = PartWithin w limit b.node
 
 -- an initializer, and its first byte
 pub record IsInitializer (w : Work) (b : Behind) (r : Reading × Pos) : Type 0 where

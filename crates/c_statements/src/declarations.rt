@@ -1,6 +1,6 @@
 //! Declarations and their declarators (C11 6.7).
 
-ghost use Rattle.std.specs.Prelude.{◌≡◌, IfOk, reverse};
+ghost use Rattle.std.specs.Prelude.{◌≡◌, ℕ, reverse};
 ghost use Rattle.c_tree.specs.Syntax.{Syn, Syns};
 ghost use Rattle.c_tree.specs.Readings as meant;
 ghost use Rattle.c_tree.specs.Programs.{reading, readings};
@@ -8,7 +8,8 @@ ghost use Rattle.c_tree.specs.Declarations.{declaration, declare_all, declare_na
 ghost use Rattle.c_tree.specs.Declarations as declarations;
 ghost use Rattle.c_expressions.specs.Nodes.{IsWhole};
 ghost use Rattle.c_elaborator.specs.Answers.{Answers, freely};
-ghost use Rattle.c_elaborator.specs.Parts.{IsPart, HasPart, AreParts, HaveParts, token_of};
+ghost use Rattle.c_elaborator.specs.Parts.{IsPart, AreParts, HaveParts, token_of};
+ghost use Rattle.c_readings.specs.Within.{PartWithin, PartsWithin};
 ghost use Rattle.c_declarators.specs.Parts.{SpecifiedThere, IsSpecified, DerivedThere, IsDerived, AreWraps, any_scope};
 ghost use Rattle.c_elaborator.specs.Items.{ItemsThere, IsItems};
 ghost use Rattle.c_statements.specs.Declaring.{HasBehind, IsBehind, behind_in, WrapsThere, declares_with};
@@ -20,7 +21,7 @@ use c_declarators::{Derived, Formed, Specified, Wrap, formed};
 use c_elaborator::{Items, Name, Work, join, no_items};
 use c_readings::{derived, first_of, node_at, specified};
 use c_types::{Decl, DeclKind};
-use ck_base::{NoMemory, Pos, Refusal};
+use ck_base::{Pos, Refusal};
 
 /// What stands behind a declarator.
 #[derive(Clone, Copy)]
@@ -32,19 +33,19 @@ pub struct Behind {
 }
 
 // The initialiser that stands there, if one does.
-fn behind_of(work: &Work<'_>, kids: &[u32]) -> Result<Option<Behind>, NoMemory>
+fn behind_of(work: &Work<'_>, kids: &[u32]) -> Option<Behind>
     requires { HaveParts work.now kids.now }
-    ensures there { IfOk result (λ b. HasBehind work.now b) }
-    ensures is { IfOk result (λ b. (xs : Syns) → AreParts work.now kids.now xs → IsBehind work.now b (behind_in xs)) }
+    ensures there { (limit : ℕ) → PartsWithin work.now limit kids.now → HasBehind work.now limit result }
+    ensures is { (xs : Syns) → AreParts work.now kids.now xs → IsBehind work.now result (behind_in xs) }
 {
     match first_of(kids) {
-        None => Ok(None),
+        None => None,
         Some(x) => {
-            let node = node_at(work, x.first)?;
-            Ok(Some(Behind {
+            let node = node_at(work, x.first);
+            Some(Behind {
                 node: x.first,
                 first: node.first,
-            }))
+            })
         }
     }
 }
@@ -84,7 +85,7 @@ fn declare_so(
     requires whole { IsWhole work.old.nodes }
     requires specified { SpecifiedThere work.old s }
     requires parts { WrapsThere work.old wraps.now }
-    requires behind { HasBehind work.old behind }
+    requires behind { HasBehind work.old depth behind }
     ensures { (y : meant.Specified) (e : meant.Derived) (b : declarations.Behind) → IsSpecified work.old s y →
         e.name ≡ Some (token_of work.old name) → AreWraps any_scope work.old (reverse wraps.now) e.wraps →
         IsBehind work.old behind b →
@@ -106,7 +107,7 @@ fn declare_named(
     requires whole { IsWhole work.old.nodes }
     requires specified { SpecifiedThere work.old s }
     requires derived { DerivedThere work.old d.now }
-    requires behind { HasBehind work.old behind }
+    requires behind { HasBehind work.old depth behind }
     ensures { (y : meant.Specified) (e : meant.Derived) (b : declarations.Behind) → IsSpecified work.old s y →
         IsDerived any_scope work.old d.now e → IsBehind work.old behind b →
         Answers freely work.old work.new (declare_named y e e.name b) ItemsThere IsItems result }
@@ -127,13 +128,13 @@ fn declare_with(
 ) -> Result<Items, Refusal>
     requires whole { IsWhole work.old.nodes }
     requires specified { SpecifiedThere work.old s }
-    requires part { HasPart work.old first }
-    requires parts { HaveParts work.old others.now }
+    requires part { PartWithin work.old depth first }
+    requires parts { PartsWithin work.old depth others.now }
     ensures { (y : meant.Specified) (x : Syn) (ys : Syns) → IsSpecified work.old s y → IsPart work.old first x →
         AreParts work.old others.now ys →
         Answers freely work.old work.new (declares_with y x ys) ItemsThere IsItems result }
 {
-    let behind = behind_of(work, others)?;
+    let behind = behind_of(work, others);
     let d = derived(work, first, depth)?;
     declare_named(work, s, &d, behind, depth)
 }
@@ -142,11 +143,11 @@ fn declare_with(
 fn declared(work: &mut Work<'_>, s: Specified, k: u32, depth: u32) -> Result<Items, Refusal>
     requires whole { IsWhole work.old.nodes }
     requires specified { SpecifiedThere work.old s }
-    requires part { HasPart work.old k }
+    requires part { PartWithin work.old depth k }
     ensures { (y : meant.Specified) (x : Syn) → IsSpecified work.old s y → IsPart work.old k x →
         Answers freely work.old work.new ((reading x).declared y) ItemsThere IsItems result }
 {
-    let node = node_at(work, k)?;
+    let node = node_at(work, k);
     match first_of(node.kids.as_slice()) {
         None => Err(Refusal::Code(120, s.first)),
         Some(x) => declare_with(work, s, x.first, x.others, depth),
@@ -162,7 +163,7 @@ fn declare_all(
 ) -> Result<Items, Refusal>
     requires whole { IsWhole work.old.nodes }
     requires specified { SpecifiedThere work.old s }
-    requires parts { HaveParts work.old kids.now }
+    requires parts { PartsWithin work.old depth kids.now }
     ensures { (y : meant.Specified) (xs : Syns) → IsSpecified work.old s y → AreParts work.old kids.now xs →
         Answers freely work.old work.new (declare_all y (readings xs)) ItemsThere IsItems result }
 {
@@ -184,8 +185,8 @@ fn declare_list(
     depth: u32,
 ) -> Result<Items, Refusal>
     requires whole { IsWhole work.old.nodes }
-    requires part { HasPart work.old first }
-    requires parts { HaveParts work.old others.now }
+    requires part { PartWithin work.old depth first }
+    requires parts { PartsWithin work.old depth others.now }
     ensures { (x : Syn) (ys : Syns) → IsPart work.old first x → AreParts work.old others.now ys →
         Answers freely work.old work.new (declares_list x ys) ItemsThere IsItems result }
 {
@@ -201,7 +202,7 @@ pub fn declaration(
     depth: u32,
 ) -> Result<Items, Refusal>
     requires whole { IsWhole work.old.nodes }
-    requires parts { HaveParts work.old kids.now }
+    requires parts { PartsWithin work.old depth kids.now }
     ensures { (xs : Syns) → AreParts work.old kids.now xs →
         Answers freely work.old work.new (declaration pos (readings xs)) ItemsThere IsItems result }
 {

@@ -8,7 +8,8 @@ ghost use Rattle.c_tree.specs.Scopes.{give};
 ghost use Rattle.c_tree.specs.Declarations as meant;
 ghost use Rattle.c_expressions.specs.Nodes.{IsWhole, type_in, type_count};
 ghost use Rattle.c_elaborator.specs.Answers.{Answers, freely};
-ghost use Rattle.c_elaborator.specs.Parts.{IsPart, HasPart, token_of};
+ghost use Rattle.c_elaborator.specs.Parts.{IsPart, token_of};
+ghost use Rattle.c_readings.specs.Within.{PartWithin};
 ghost use Rattle.c_initializers.specs.Slots.{AreSlotsThere, slots_in};
 ghost use Rattle.c_elaborator.specs.Items.{ItemsThere, IsItems};
 ghost use Rattle.c_statements.specs.Declaring.{HasBehind, IsBehind, fills_local, fills_static, init_items, initializes};
@@ -74,7 +75,7 @@ fn initialize_local(
 ) -> Result<Items, Refusal>
     requires whole { IsWhole work.old.nodes }
     requires there { of < type_count work.old.nodes }
-    requires part { HasPart work.old b.node }
+    requires part { PartWithin work.old depth b.node }
     ensures { (x : Syn) → IsPart work.old b.node x →
         Answers freely work.old work.new (fills_local k (token_of work.old name) (type_in work.old.nodes of)
         (reading x) b.first) ItemsThere IsItems result }
@@ -99,7 +100,7 @@ fn initialize_static(
     depth: u32,
 ) -> Result<Items, Refusal>
     requires whole { IsWhole work.old.nodes }
-    requires part { HasPart work.old b.node }
+    requires part { PartWithin work.old depth b.node }
     ensures { (x : Syn) → IsPart work.old b.node x →
         Answers freely work.old work.new (fills_static k (token_of work.old name) (reading x) b.first) ItemsThere
         IsItems result }
@@ -136,7 +137,7 @@ fn initialize_variable(
 ) -> Result<Items, Refusal>
     requires whole { IsWhole work.old.nodes }
     requires there { of < type_count work.old.nodes }
-    requires behind { HasBehind work.old behind }
+    requires behind { HasBehind work.old depth behind }
     ensures { (b : meant.Behind) → IsBehind work.old behind b →
         Answers freely work.old work.new (local_initialized k (token_of work.old name) (type_in work.old.nodes of) b)
         ItemsThere IsItems result }
@@ -156,7 +157,7 @@ fn initialize_object(
     depth: u32,
 ) -> Result<Items, Refusal>
     requires whole { IsWhole work.old.nodes }
-    requires behind { HasBehind work.old behind }
+    requires behind { HasBehind work.old depth behind }
     ensures { (b : meant.Behind) → IsBehind work.old behind b →
         Answers freely work.old work.new (static_initialized k (token_of work.old name) b) ItemsThere IsItems result }
 {
@@ -177,7 +178,7 @@ pub(crate) fn initialize(
 ) -> Result<Items, Refusal>
     requires whole { IsWhole work.old.nodes }
     requires there { of < type_count work.old.nodes }
-    requires behind { HasBehind work.old behind }
+    requires behind { HasBehind work.old depth behind }
     ensures { (b : meant.Behind) → IsBehind work.old behind b →
         Answers freely work.old work.new (initializes entity (token_of work.old name) (type_in work.old.nodes of) b)
         ItemsThere IsItems result }

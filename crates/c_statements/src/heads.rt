@@ -1,12 +1,13 @@
 //! What stands in the parentheses of a `for` (C11 6.8.5.3).
 
-ghost use Rattle.std.specs.Prelude.{◌≡◌, true, IfOk};
+ghost use Rattle.std.specs.Prelude.{◌≡◌, ◌<◌, true, length};
 ghost use Rattle.c_tree.specs.Syntax.{Syn};
 ghost use Rattle.c_tree.specs.Programs.{reading};
 ghost use Rattle.c_tree.specs.Statements.{is_absent, first_part, optional_test, optional_step};
 ghost use Rattle.c_expressions.specs.Nodes.{IsWhole};
 ghost use Rattle.c_elaborator.specs.Answers.{Answers, quietly, freely};
-ghost use Rattle.c_elaborator.specs.Parts.{IsPart, HasPart};
+ghost use Rattle.c_elaborator.specs.Parts.{IsPart};
+ghost use Rattle.c_readings.specs.Within.{PartWithin};
 ghost use Rattle.c_elaborator.specs.Items.{context_in, ItemsThere, IsItems};
 ghost use Rattle.c_statements.specs.Statements.{MaybeThere, IsMaybe, for_head, HeadThere, IsHead, for_of};
 
@@ -15,7 +16,7 @@ use crate::simple::{evaluate_one, test};
 use c_elaborator::{Context, Items, Work, no_items};
 use c_readings::{ThreeParts, node_at, value_of};
 use c_tree::{NodeKind, StmtKind};
-use ck_base::{NoMemory, Refusal, Sequence};
+use ck_base::{Refusal, Sequence};
 
 /// What stands in the parentheses of a `for`.
 #[derive(Drop)]
@@ -28,12 +29,12 @@ pub struct Head {
 // A declaration, an expression as a statement at its first byte, or nothing.
 fn first_part(work: &mut Work<'_>, context: Context, k: u32, depth: u32) -> Result<Items, Refusal>
     requires whole { IsWhole work.old.nodes }
-    requires part { HasPart work.old k }
+    requires part { PartWithin work.old depth k }
     ensures { (x : Syn) → IsPart work.old k x →
         Answers freely work.old work.new (first_part (context_in work.old context) x (reading x)) ItemsThere IsItems
         result }
 {
-    let node = node_at(work, k)?;
+    let node = node_at(work, k);
     match node.kind {
         NodeKind::Declaration => declaration(work, node.kids.as_slice(), node.pos, depth),
         NodeKind::Absent => Ok(no_items(work.nodes.alloc)),
@@ -42,21 +43,22 @@ fn first_part(work: &mut Work<'_>, context: Context, k: u32, depth: u32) -> Resu
 }
 
 // Whether a `for` does without an expression.
-fn is_absent(work: &Work<'_>, k: u32) -> Result<bool, NoMemory>
-    ensures { IfOk result (λ b. (x : Syn) → IsPart work.now k x → is_absent x ≡ b) }
+fn is_absent(work: &Work<'_>, k: u32) -> bool
+    requires { k < length work.now.tree.now.nodes }
+    ensures { (x : Syn) → IsPart work.now k x → is_absent x ≡ result }
 {
-    let node = node_at(work, k)?;
-    Ok(matches!(node.kind, NodeKind::Absent))
+    let node = node_at(work, k);
+    matches!(node.kind, NodeKind::Absent)
 }
 
 // A test, if there is one.
 fn optional_test(work: &mut Work<'_>, k: u32, depth: u32) -> Result<Option<u32>, Refusal>
     requires whole { IsWhole work.old.nodes }
-    requires part { HasPart work.old k }
+    requires part { PartWithin work.old depth k }
     ensures { (x : Syn) → IsPart work.old k x →
         Answers quietly work.old work.new (optional_test x (reading x)) MaybeThere IsMaybe result }
 {
-    let absent = is_absent(work, k)?;
+    let absent = is_absent(work, k);
     if absent {
         return Ok(None);
     }
@@ -67,11 +69,11 @@ fn optional_test(work: &mut Work<'_>, k: u32, depth: u32) -> Result<Option<u32>,
 // A step, if there is one.
 fn optional_step(work: &mut Work<'_>, k: u32, depth: u32) -> Result<Option<u32>, Refusal>
     requires whole { IsWhole work.old.nodes }
-    requires part { HasPart work.old k }
+    requires part { PartWithin work.old depth k }
     ensures { (x : Syn) → IsPart work.old k x →
         Answers quietly work.old work.new (optional_step x (reading x)) MaybeThere IsMaybe result }
 {
-    let absent = is_absent(work, k)?;
+    let absent = is_absent(work, k);
     if absent {
         return Ok(None);
     }
@@ -87,9 +89,9 @@ pub(crate) fn for_head(
     depth: u32,
 ) -> Result<Head, Refusal>
     requires whole { IsWhole work.old.nodes }
-    requires first { HasPart work.old parts.first }
-    requires second { HasPart work.old parts.second }
-    requires third { HasPart work.old parts.third }
+    requires first { PartWithin work.old depth parts.first }
+    requires second { PartWithin work.old depth parts.second }
+    requires third { PartWithin work.old depth parts.third }
     ensures { (x y z : Syn) → IsPart work.old parts.first x → IsPart work.old parts.second y →
         IsPart work.old parts.third z →
         Answers freely work.old work.new (for_head (context_in work.old context) x y z (reading x) (reading y)

@@ -1,4 +1,4 @@
-//! Initialisers. `depth` bounds how deep they go: at 0 memory is wanting.
+//! Initialisers. `depth` bounds how deep they go.
 
 ghost use Rattle.std.specs.Prelude.{◌≡◌, ◌<◌, length};
 ghost use Rattle.ck_base.specs.Lexes.{IsAccepted};
@@ -9,7 +9,8 @@ ghost use Rattle.c_tree.specs.Programs.{reading, readings, is_text};
 ghost use Rattle.c_types.specs.Stands.{text_at};
 ghost use Rattle.c_expressions.specs.Nodes.{IsWhole, type_in, type_count};
 ghost use Rattle.c_elaborator.specs.Answers.{Answers, quietly, NothingThere, IsNothing};
-ghost use Rattle.c_elaborator.specs.Parts.{IsPart, HasPart, AreParts, HaveParts, token_of};
+ghost use Rattle.c_elaborator.specs.Parts.{IsPart, AreParts, HaveParts, token_of};
+ghost use Rattle.c_readings.specs.Within.{PartWithin, PartsWithin};
 ghost use Rattle.c_initializers.specs.Places.{ArePlaces};
 ghost use Rattle.c_initializers.specs.Slots.{SlotThere, slot_in, FilledThere, IsFilled};
 ghost use Rattle.c_statements.specs.Initial.{asked_by, gives_items};
@@ -19,7 +20,7 @@ use c_elaborator::{Name, Work};
 use c_initializers::{Filled, Places, Slot, is_start, places_of, plain, string, takes_string};
 use c_readings::value_of;
 use c_tree::NodeKind;
-use ck_base::{NoMemory, Pos, Refusal, TokenKind};
+use ck_base::{Pos, Refusal, TokenKind};
 
 /// What is asked of each value that is written.
 #[derive(Clone, Copy)]
@@ -59,7 +60,7 @@ fn ask(work: &Work<'_>, asked: Asked, slot: &Slot) -> Result<(), Refusal>
 fn plain_value(work: &mut Work<'_>, k: u32, goal: Goal, depth: u32) -> Result<Filled, Refusal>
     requires whole { IsWhole work.old.nodes }
     requires there { goal.of < type_count work.old.nodes }
-    requires part { HasPart work.old k }
+    requires part { PartWithin work.old depth k }
     ensures { (x : Syn) → IsPart work.old k x →
         Answers quietly work.old work.new (plain_initializer (reading x).operand (asked_by goal.asked) goal.whole
         (type_in work.old.nodes goal.of) goal.at) FilledThere IsFilled result }
@@ -98,14 +99,11 @@ fn text_value(work: &mut Work<'_>, name: Name, kids: &[u32], goal: Goal) -> Resu
 pub fn initializer(work: &mut Work<'_>, k: u32, goal: Goal, depth: u32) -> Result<Filled, Refusal>
     requires whole { IsWhole work.old.nodes }
     requires there { goal.of < type_count work.old.nodes }
-    requires part { HasPart work.old k }
+    requires part { PartWithin work.old depth k }
     ensures { (x : Syn) → IsPart work.old k x →
         Answers quietly work.old work.new ((reading x).initializer (asked_by goal.asked) goal.whole
         (type_in work.old.nodes goal.of) goal.at) FilledThere IsFilled result }
 {
-    if depth == 0 {
-        return Err(Refusal::NoMemory);
-    }
     let part = work.part(k)?;
     match part.kind {
         NodeKind::BracedInitializer => braced(work, part.kids, part.name.pos, goal, depth - 1),
@@ -113,10 +111,10 @@ pub fn initializer(work: &mut Work<'_>, k: u32, goal: Goal, depth: u32) -> Resul
             if takes_string(work, goal.of) {
                 text_value(work, part.name, part.kids, goal)
             } else {
-                plain_value(work, k, goal, depth - 1)
+                plain_value(work, k, goal, depth)
             }
         }
-        _ => plain_value(work, k, goal, depth - 1),
+        _ => plain_value(work, k, goal, depth),
     }
 }
 
@@ -131,7 +129,7 @@ fn braced(
 ) -> Result<Filled, Refusal>
     requires whole { IsWhole work.old.nodes }
     requires there { goal.of < type_count work.old.nodes }
-    requires parts { HaveParts work.old kids.now }
+    requires parts { PartsWithin work.old depth kids.now }
     ensures { (t : Lexeme) (xs : Syns) → t.pos ≡ brace → AreParts work.old kids.now xs →
         Answers quietly work.old work.new (braced_initializer t (is_text xs) (readings xs)
         (asked_by goal.asked) goal.whole (type_in work.old.nodes goal.of) goal.at) FilledThere IsFilled result }
@@ -153,7 +151,7 @@ fn list(
 ) -> Result<Filled, Refusal>
     requires whole { IsWhole work.old.nodes }
     requires there { goal.of < type_count work.old.nodes }
-    requires parts { HaveParts work.old kids.now }
+    requires parts { PartsWithin work.old depth kids.now }
     ensures { (xs : Syns) → AreParts work.old kids.now xs →
         Answers quietly work.old work.new (gives_items (readings xs) (asked_by goal.asked) goal.whole
         (type_in work.old.nodes goal.of) goal.at brace) FilledThere IsFilled result }
@@ -174,7 +172,7 @@ fn listed(
 ) -> Result<Filled, Refusal>
     requires whole { IsWhole work.old.nodes }
     requires there { goal.of < type_count work.old.nodes }
-    requires parts { HaveParts work.old kids.now }
+    requires parts { PartsWithin work.old depth kids.now }
     requires places { ArePlaces work.old goal.of (length kids.now) places.now }
     ensures { (xs : Syns) → AreParts work.old kids.now xs →
         Answers quietly work.old work.new (gives_items (readings xs) (asked_by goal.asked) goal.whole

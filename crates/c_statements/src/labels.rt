@@ -8,7 +8,8 @@ ghost use Rattle.c_tree.specs.Programs.{reading, readings};
 ghost use Rattle.c_tree.specs.Statements.{has_label, case_label};
 ghost use Rattle.c_expressions.specs.Nodes.{IsWhole, type_in, type_count, term_count};
 ghost use Rattle.c_elaborator.specs.Answers.{Answers, quietly, freely};
-ghost use Rattle.c_elaborator.specs.Parts.{IsPart, HasPart, AreParts, HaveParts};
+ghost use Rattle.c_elaborator.specs.Parts.{IsPart, AreParts};
+ghost use Rattle.c_readings.specs.Within.{PartWithin, PartsWithin};
 ghost use Rattle.c_statements.specs.Statements.{switched, SwitchedThere, IsSwitched, IsPromoted, LabelThere, IsLabel};
 ghost use Rattle.c_statements.specs.Statements.{AddsLabel, CasesThere, IsCases, cases_in, case_of, labelling};
 ghost use Rattle.c_statements.specs.Statements.{switch_of, switch_label, labels_in};
@@ -53,7 +54,7 @@ fn promoted_value(nodes: &mut Nodes<'_>, node: u32) -> Result<Controlling, NoMem
 // An integer, promoted: 133 at its first byte if it is none.
 pub(crate) fn switched(work: &mut Work<'_>, k: u32, depth: u32) -> Result<Controlling, Refusal>
     requires whole { IsWhole work.old.nodes }
-    requires part { HasPart work.old k }
+    requires part { PartWithin work.old depth k }
     ensures { (x : Syn) → IsPart work.old k x →
         Answers quietly work.old work.new (switched (reading x)) SwitchedThere IsSwitched result }
 {
@@ -76,7 +77,7 @@ fn kept_constant(kind: IntKind, value: Constant) -> u64
 fn case_value(work: &mut Work<'_>, of: u32, k: u32, depth: u32) -> Result<Option<u64>, Refusal>
     requires whole { IsWhole work.old.nodes }
     requires there { of < type_count work.old.nodes }
-    requires part { HasPart work.old k }
+    requires part { PartWithin work.old depth k }
     ensures { (x : Syn) → IsPart work.old k x →
         Answers quietly work.old work.new (case_of (type_in work.old.nodes of) (reading x)) LabelThere IsLabel result }
 {
@@ -89,7 +90,7 @@ fn case_value(work: &mut Work<'_>, of: u32, k: u32, depth: u32) -> Result<Option
 fn label(work: &mut Work<'_>, of: u32, kids: &[u32], depth: u32) -> Result<Option<u64>, Refusal>
     requires whole { IsWhole work.old.nodes }
     requires there { of < type_count work.old.nodes }
-    requires parts { HaveParts work.old kids.now }
+    requires parts { PartsWithin work.old depth kids.now }
     ensures { (xs : Syns) → AreParts work.old kids.now xs →
         Answers quietly work.old work.new (case_label (readings xs) (type_in work.old.nodes of)) LabelThere IsLabel
         result }
@@ -143,7 +144,7 @@ pub(crate) fn labelled(
 ) -> Result<Cases, Refusal>
     requires whole { IsWhole work.old.nodes }
     requires there { of < type_count work.old.nodes }
-    requires parts { HaveParts work.old kids.now }
+    requires parts { PartsWithin work.old depth kids.now }
     requires cases { CasesThere work.old cases }
     ensures { (xs : Syns) → AreParts work.old kids.now xs →
         Answers freely work.old work.new (labelling (readings xs) (type_in work.old.nodes of) pos

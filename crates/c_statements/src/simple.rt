@@ -6,7 +6,8 @@ ghost use Rattle.c_tree.specs.Programs.{reading, readings};
 ghost use Rattle.c_tree.specs.Statements.{test};
 ghost use Rattle.c_expressions.specs.Nodes.{IsWhole};
 ghost use Rattle.c_elaborator.specs.Answers.{Answers, quietly, freely, TermThere, IsTerm};
-ghost use Rattle.c_elaborator.specs.Parts.{IsPart, HasPart, AreParts, HaveParts};
+ghost use Rattle.c_elaborator.specs.Parts.{IsPart, AreParts};
+ghost use Rattle.c_readings.specs.Within.{PartWithin, PartsWithin};
 ghost use Rattle.c_elaborator.specs.Items.{ContextThere, context_in, ItemsThere, IsItems};
 ghost use Rattle.c_statements.specs.Statements.{evaluate_one, evaluated, IsJump, jumping, return_of, return_one};
 
@@ -18,7 +19,7 @@ use ck_base::{Pos, Refusal};
 // The truth value of an expression that is tested (C11 6.8.4.1p1, 6.8.5p2).
 pub(crate) fn test(work: &mut Work<'_>, k: u32, depth: u32) -> Result<u32, Refusal>
     requires whole { IsWhole work.old.nodes }
-    requires part { HasPart work.old k }
+    requires part { PartWithin work.old depth k }
     ensures { (x : Syn) → IsPart work.old k x →
         Answers quietly work.old work.new (test (reading x)) TermThere IsTerm result }
 {
@@ -34,7 +35,7 @@ pub(crate) fn evaluate_one(
     depth: u32,
 ) -> Result<Items, Refusal>
     requires whole { IsWhole work.old.nodes }
-    requires part { HasPart work.old k }
+    requires part { PartWithin work.old depth k }
     ensures { (x : Syn) → IsPart work.old k x →
         Answers freely work.old work.new (evaluate_one (reading x) pos) ItemsThere IsItems result }
 {
@@ -50,7 +51,7 @@ pub(crate) fn evaluate(
     depth: u32,
 ) -> Result<Items, Refusal>
     requires whole { IsWhole work.old.nodes }
-    requires parts { HaveParts work.old kids.now }
+    requires parts { PartsWithin work.old depth kids.now }
     ensures { (xs : Syns) → AreParts work.old kids.now xs →
         Answers freely work.old work.new (evaluated pos (readings xs)) ItemsThere IsItems result }
 {
@@ -104,7 +105,7 @@ fn return_value(
 ) -> Result<Items, Refusal>
     requires whole { IsWhole work.old.nodes }
     requires context { ContextThere work.old context }
-    requires part { HasPart work.old k }
+    requires part { PartWithin work.old depth k }
     ensures { (x : Syn) → IsPart work.old k x →
         Answers freely work.old work.new (return_one (context_in work.old context) pos (reading x)) ItemsThere IsItems
         result }
@@ -127,7 +128,7 @@ pub(crate) fn return_at(
 ) -> Result<Items, Refusal>
     requires whole { IsWhole work.old.nodes }
     requires context { ContextThere work.old context }
-    requires parts { HaveParts work.old kids.now }
+    requires parts { PartsWithin work.old depth kids.now }
     ensures { (xs : Syns) → AreParts work.old kids.now xs →
         Answers freely work.old work.new (return_of (context_in work.old context) pos (readings xs)) ItemsThere
         IsItems result }

@@ -1,4 +1,4 @@
-//! Statements (C11 6.8). `depth` bounds how deep they go: at 0 memory is wanting.
+//! Statements (C11 6.8). `depth` bounds how deep they go.
 
 ghost use Rattle.std.specs.Prelude.{◌≡◌, ◌<◌, ◌∷◌, [], IfOk};
 ghost use Rattle.ck_base.specs.Tokens.{Lexeme};
@@ -8,8 +8,9 @@ ghost use Rattle.c_tree.specs.Programs.{reading, readings};
 ghost use Rattle.c_tree.specs.Statements.{all_items, substatement, statement_of, switch_item, switch_items, no_cases};
 ghost use Rattle.c_expressions.specs.Nodes.{IsWhole, type_in, type_count};
 ghost use Rattle.c_elaborator.specs.Answers.{Answers, freely};
-ghost use Rattle.c_elaborator.specs.Parts.{IsPart, HasPart, AreParts, HaveParts};
-ghost use Rattle.c_readings.specs.Kids.{HasNode, IsNode};
+ghost use Rattle.c_elaborator.specs.Parts.{IsPart, AreParts};
+ghost use Rattle.c_readings.specs.Within.{PartWithin, PartsWithin, NodeWithin};
+ghost use Rattle.c_readings.specs.Kids.{IsNode};
 ghost use Rattle.c_elaborator.specs.Items.{ContextThere, context_in, ItemsThere, IsItems, ActionThere, IsOnlyAction};
 ghost use Rattle.c_statements.specs.Statements.{CasesThere, IsCases, cases_in, block_of, if_of, if_with, if_else_of};
 ghost use Rattle.c_statements.specs.Statements.{if_else_with, while_of, while_with, do_of, do_with, for_in, for_with};
@@ -42,14 +43,11 @@ fn alone(actions: &[u32]) -> Result<u32, NoMemory>
 pub fn item(work: &mut Work<'_>, context: Context, k: u32, depth: u32) -> Result<Items, Refusal>
     requires whole { IsWhole work.old.nodes }
     requires context { ContextThere work.old context }
-    requires part { HasPart work.old k }
+    requires part { PartWithin work.old depth k }
     ensures { (x : Syn) → IsPart work.old k x →
         Answers freely work.old work.new ((reading x).item (context_in work.old context)) ItemsThere IsItems result }
 {
-    if depth == 0 {
-        return Err(Refusal::NoMemory);
-    }
-    let node = node_at(work, k)?;
+    let node = node_at(work, k);
     statement(work, context, node, depth - 1)
 }
 
@@ -63,7 +61,7 @@ fn statement(
 ) -> Result<Items, Refusal>
     requires whole { IsWhole work.old.nodes }
     requires context { ContextThere work.old context }
-    requires node { HasNode work.old node.now }
+    requires node { NodeWithin work.old depth node.now }
     ensures { (t : Lexeme) (xs : Syns) → IsNode work.old node.now t xs →
         Answers freely work.old work.new (statement_of node.now.kind t xs (readings xs) (context_in work.old context))
         ItemsThere IsItems result }
@@ -85,7 +83,7 @@ fn statement(
 fn scoped(work: &mut Work<'_>, context: Context, node: &Node, depth: u32) -> Result<Items, Refusal>
     requires whole { IsWhole work.old.nodes }
     requires context { ContextThere work.old context }
-    requires node { HasNode work.old node.now }
+    requires node { NodeWithin work.old depth node.now }
     ensures { (t : Lexeme) (xs : Syns) → IsNode work.old node.now t xs →
         Answers freely work.old work.new (in_scope
         (inside_of node.now.kind t xs (readings xs) (context_in work.old context))) ItemsThere IsItems result }
@@ -101,7 +99,7 @@ fn scoped(work: &mut Work<'_>, context: Context, node: &Node, depth: u32) -> Res
 fn inside(work: &mut Work<'_>, context: Context, node: &Node, depth: u32) -> Result<Items, Refusal>
     requires whole { IsWhole work.old.nodes }
     requires context { ContextThere work.old context }
-    requires node { HasNode work.old node.now }
+    requires node { NodeWithin work.old depth node.now }
     ensures { (t : Lexeme) (xs : Syns) → IsNode work.old node.now t xs →
         Answers freely work.old work.new (inside_of node.now.kind t xs (readings xs) (context_in work.old context))
         ItemsThere IsItems result }
@@ -129,7 +127,7 @@ pub fn all_items(
 ) -> Result<Items, Refusal>
     requires whole { IsWhole work.old.nodes }
     requires context { ContextThere work.old context }
-    requires parts { HaveParts work.old kids.now }
+    requires parts { PartsWithin work.old depth kids.now }
     ensures { (xs : Syns) → AreParts work.old kids.now xs →
         Answers freely work.old work.new (all_items (context_in work.old context) (readings xs)) ItemsThere IsItems
         result }
@@ -155,7 +153,7 @@ fn block(
 ) -> Result<Items, Refusal>
     requires whole { IsWhole work.old.nodes }
     requires context { ContextThere work.old context }
-    requires parts { HaveParts work.old kids.now }
+    requires parts { PartsWithin work.old depth kids.now }
     ensures { (xs : Syns) → AreParts work.old kids.now xs →
         Answers freely work.old work.new (block_of (context_in work.old context) pos (readings xs)) ItemsThere IsItems
         result }
@@ -176,7 +174,7 @@ fn block(
 fn substatement(work: &mut Work<'_>, context: Context, k: u32, depth: u32) -> Result<u32, Refusal>
     requires whole { IsWhole work.old.nodes }
     requires context { ContextThere work.old context }
-    requires part { HasPart work.old k }
+    requires part { PartWithin work.old depth k }
     ensures { (x : Syn) → IsPart work.old k x →
         Answers freely work.old work.new (substatement (context_in work.old context) (reading x)) ActionThere
         IsOnlyAction result }
@@ -199,7 +197,7 @@ fn if_one(
 ) -> Result<Items, Refusal>
     requires whole { IsWhole work.old.nodes }
     requires context { ContextThere work.old context }
-    requires parts { HaveParts work.old kids.now }
+    requires parts { PartsWithin work.old depth kids.now }
     ensures { (xs : Syns) → AreParts work.old kids.now xs →
         Answers freely work.old work.new (if_of (context_in work.old context) pos (readings xs)) ItemsThere IsItems
         result }
@@ -221,8 +219,8 @@ fn if_with(
 ) -> Result<Items, Refusal>
     requires whole { IsWhole work.old.nodes }
     requires context { ContextThere work.old context }
-    requires first { HasPart work.old a }
-    requires second { HasPart work.old b }
+    requires first { PartWithin work.old depth a }
+    requires second { PartWithin work.old depth b }
     ensures { (x y : Syn) → IsPart work.old a x → IsPart work.old b y →
         Answers freely work.old work.new (if_with (context_in work.old context) pos (reading x) (reading y))
         ItemsThere IsItems result }
@@ -243,7 +241,7 @@ fn if_else(
 ) -> Result<Items, Refusal>
     requires whole { IsWhole work.old.nodes }
     requires context { ContextThere work.old context }
-    requires parts { HaveParts work.old kids.now }
+    requires parts { PartsWithin work.old depth kids.now }
     ensures { (xs : Syns) → AreParts work.old kids.now xs →
         Answers freely work.old work.new (if_else_of (context_in work.old context) pos (readings xs)) ItemsThere
         IsItems result }
@@ -266,9 +264,9 @@ fn if_else_with(
 ) -> Result<Items, Refusal>
     requires whole { IsWhole work.old.nodes }
     requires context { ContextThere work.old context }
-    requires first { HasPart work.old a }
-    requires second { HasPart work.old b }
-    requires third { HasPart work.old c }
+    requires first { PartWithin work.old depth a }
+    requires second { PartWithin work.old depth b }
+    requires third { PartWithin work.old depth c }
     ensures { (x y z : Syn) → IsPart work.old a x → IsPart work.old b y → IsPart work.old c z →
         Answers freely work.old work.new (if_else_with (context_in work.old context) pos (reading x) (reading y)
         (reading z)) ItemsThere IsItems result }
@@ -290,7 +288,7 @@ fn while_loop(
 ) -> Result<Items, Refusal>
     requires whole { IsWhole work.old.nodes }
     requires context { ContextThere work.old context }
-    requires parts { HaveParts work.old kids.now }
+    requires parts { PartsWithin work.old depth kids.now }
     ensures { (xs : Syns) → AreParts work.old kids.now xs →
         Answers freely work.old work.new (while_of (context_in work.old context) pos (readings xs)) ItemsThere IsItems
         result }
@@ -312,8 +310,8 @@ fn while_with(
 ) -> Result<Items, Refusal>
     requires whole { IsWhole work.old.nodes }
     requires context { ContextThere work.old context }
-    requires first { HasPart work.old a }
-    requires second { HasPart work.old b }
+    requires first { PartWithin work.old depth a }
+    requires second { PartWithin work.old depth b }
     ensures { (x y : Syn) → IsPart work.old a x → IsPart work.old b y →
         Answers freely work.old work.new (while_with (context_in work.old context) pos (reading x) (reading y))
         ItemsThere IsItems result }
@@ -334,7 +332,7 @@ fn do_loop(
 ) -> Result<Items, Refusal>
     requires whole { IsWhole work.old.nodes }
     requires context { ContextThere work.old context }
-    requires parts { HaveParts work.old kids.now }
+    requires parts { PartsWithin work.old depth kids.now }
     ensures { (xs : Syns) → AreParts work.old kids.now xs →
         Answers freely work.old work.new (do_of (context_in work.old context) pos (readings xs)) ItemsThere IsItems
         result }
@@ -356,8 +354,8 @@ fn do_with(
 ) -> Result<Items, Refusal>
     requires whole { IsWhole work.old.nodes }
     requires context { ContextThere work.old context }
-    requires first { HasPart work.old a }
-    requires second { HasPart work.old b }
+    requires first { PartWithin work.old depth a }
+    requires second { PartWithin work.old depth b }
     ensures { (x y : Syn) → IsPart work.old a x → IsPart work.old b y →
         Answers freely work.old work.new (do_with (context_in work.old context) pos (reading x) (reading y))
         ItemsThere IsItems result }
@@ -378,7 +376,7 @@ fn for_loop(
 ) -> Result<Items, Refusal>
     requires whole { IsWhole work.old.nodes }
     requires context { ContextThere work.old context }
-    requires parts { HaveParts work.old kids.now }
+    requires parts { PartsWithin work.old depth kids.now }
     ensures { (xs : Syns) → AreParts work.old kids.now xs →
         Answers freely work.old work.new (for_in (context_in work.old context) pos xs (readings xs)) ItemsThere
         IsItems result }
@@ -399,8 +397,8 @@ fn for_with(
 ) -> Result<Items, Refusal>
     requires whole { IsWhole work.old.nodes }
     requires context { ContextThere work.old context }
-    requires head { HasPart work.old x.head.first × HasPart work.old x.head.second × HasPart work.old x.head.third }
-    requires body { HasPart work.old x.last }
+    requires head { PartWithin work.old depth x.head.first × PartWithin work.old depth x.head.second × PartWithin work.old depth x.head.third }
+    requires body { PartWithin work.old depth x.last }
     ensures { (x1 x2 x3 x4 : Syn) → IsPart work.old x.head.first x1 → IsPart work.old x.head.second x2 →
         IsPart work.old x.head.third x3 → IsPart work.old x.last x4 →
         Answers freely work.old work.new (for_with (context_in work.old context) pos x1 x2 x3 (reading x1)
@@ -424,13 +422,13 @@ fn switch_item(
     requires whole { IsWhole work.old.nodes }
     requires context { ContextThere work.old context }
     requires of { of < type_count work.old.nodes }
-    requires part { HasPart work.old k }
+    requires part { PartWithin work.old depth k }
     requires cases { CasesThere work.old cases }
     ensures { (x : Syn) → IsPart work.old k x →
         Answers freely work.old work.new (switch_item (context_in work.old context) (type_in work.old.nodes of) x
         (reading x) (cases_in work.old cases)) CasesThere IsCases result }
 {
-    let node = node_at(work, k)?;
+    let node = node_at(work, k);
     let kids = node.kids.as_slice();
     match node.kind {
         NodeKind::Case => labelled(work, of, kids, node.pos, cases, depth),
@@ -450,7 +448,7 @@ fn further_item(
 ) -> Result<Cases, Refusal>
     requires whole { IsWhole work.old.nodes }
     requires context { ContextThere work.old context }
-    requires part { HasPart work.old k }
+    requires part { PartWithin work.old depth k }
     requires cases { CasesThere work.old cases }
     ensures { (x : Syn) → IsPart work.old k x →
         Answers freely work.old work.new (further (context_in work.old context) (reading x) (cases_in work.old cases))
@@ -473,7 +471,7 @@ fn switch_items(
     requires whole { IsWhole work.old.nodes }
     requires context { ContextThere work.old context }
     requires of { of < type_count work.old.nodes }
-    requires parts { HaveParts work.old kids.now }
+    requires parts { PartsWithin work.old depth kids.now }
     ensures { (xs : Syns) → AreParts work.old kids.now xs →
         Answers freely work.old work.new (switch_items (context_in work.old context) (type_in work.old.nodes of) xs
         (readings xs) no_cases) CasesThere IsCases result }
@@ -502,7 +500,7 @@ fn switch_body(
     requires whole { IsWhole work.old.nodes }
     requires context { ContextThere work.old context }
     requires of { of < type_count work.old.nodes }
-    requires parts { HaveParts work.old kids.now }
+    requires parts { PartsWithin work.old depth kids.now }
     ensures { (xs : Syns) → AreParts work.old kids.now xs →
         Answers freely work.old work.new (in_scope
         (switch_items (meant.in_a_switch (context_in work.old context)) (type_in work.old.nodes of) xs
@@ -525,7 +523,7 @@ fn switch(
 ) -> Result<Items, Refusal>
     requires whole { IsWhole work.old.nodes }
     requires context { ContextThere work.old context }
-    requires parts { HaveParts work.old kids.now }
+    requires parts { PartsWithin work.old depth kids.now }
     ensures { (xs : Syns) → AreParts work.old kids.now xs →
         Answers freely work.old work.new (switch_in (context_in work.old context) pos xs (readings xs)) ItemsThere
         IsItems result }
@@ -547,8 +545,8 @@ fn switch_with(
 ) -> Result<Items, Refusal>
     requires whole { IsWhole work.old.nodes }
     requires context { ContextThere work.old context }
-    requires on { HasPart work.old k }
-    requires parts { HaveParts work.old kids.now }
+    requires on { PartWithin work.old depth k }
+    requires parts { PartsWithin work.old depth kids.now }
     ensures { (x : Syn) (xs : Syns) → IsPart work.old k x → AreParts work.old kids.now xs →
         Answers freely work.old work.new (switch_with (context_in work.old context) pos xs (reading x) (readings xs))
         ItemsThere IsItems result }

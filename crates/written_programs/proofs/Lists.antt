@@ -6,7 +6,7 @@ use Rattle.std.proofs.lemmas.Option.{same_Some}
 use Rattle.std.proofs.lemmas.Bool.{cases_lt, ne_eqb, lt-ltb, le-ltb}
 use Rattle.std.proofs.lemmas.List.Sums.{sum_by-cons}
 use Rattle.c_tree.specs.Views.{times_in}
-use Rattle.c_copy.proofs.Marking.{get-push}
+use Rattle.c_copy.proofs.Items.{get-push}
 use Rattle.written_programs.specs.Writable.{Every}
 
 -- ---- each item

@@ -1,5 +1,5 @@
 use Rattle.std.proofs.Common.{◌<◌}
-use Rattle.c_copy.proofs.Marking.{each_turn, each_end}
+use Rattle.c_copy.proofs.Items.{each_turn, each_end}
 use Rattle.c_copy.proofs.lists.all_below.Goals as goal
 
 pub loop-x-preserved : goal.loop-x-preserved

@@ -1,8 +1,9 @@
 use Rattle.std.proofs.Common.{Some, sym, ◌∙◌}
 use Rattle.c_elaborator.specs.declared.work.Work.{Work}
-use Rattle.c_readings.proofs.Kids.{part_kept, has_kept}
+use Rattle.c_readings.proofs.Kids.{part_kept}
 use Rattle.c_elaborator.proofs.Going.{context_kept, context_there}
 use Rattle.c_elab.proofs.Defining.{body_defined, defines_at}
+use Rattle.c_readings.proofs.Within.{still_within}
 use Rattle.c_elab.proofs.bodies.define_body.Goals as goal
 
 pub type_body-requires : goal.type_body-requires
@@ -13,7 +14,7 @@ type_body-requires c =
     record {
       whole = o.whole;
       context = context_there u v c.in_ok-context.context o.keeps c.in_ok-context.ensures.there;
-      part = has_kept u v c.args.block o.keeps c.requires.part;
+      part = still_within u v c.args.block o.keeps c.requires.part;
     }
 
 pub returns-in-Some : goal.returns-in-Some

@@ -1,10 +1,10 @@
 use Rattle.std.proofs.lemmas.Result.{err_from_is_err_and}
 use Rattle.std.proofs.Common.{List, ℕ, subst}
 use Rattle.c_elaborator.specs.declared.work.Work.{Work}
-use Rattle.c_elaborator.specs.Parts.{HaveParts}
 use Rattle.c_elaborator.proofs.Sequencing.{keeps_same, keeps_then}
-use Rattle.c_readings.proofs.Kids.{have_first, have_others, have_kept}
 use Rattle.c_elab.proofs.Externals.{FileSoFar, file_begins, file_ends, file_fails, file_steps}
+use Rattle.c_readings.specs.Within.{PartsWithin}
+use Rattle.c_readings.proofs.Within.{first_within, others_within, within_kept}
 use Rattle.c_elab.proofs.elaboration.all_externals.Goals as goal
 
 pub loop-part-init : goal.loop-part-init
@@ -25,8 +25,8 @@ external-requires c =
     record {
       shown = record { state = m.state; shows = m.shows };
       whole = c.loop-part.invariant.whole;
-      part = have_first v c.in-Some.part.first c.in-Some.part.others.now
-          (subst (λ (z : List ℕ). HaveParts v z) c.in-Some.ensures c.loop-part.invariant.parts);
+      part = first_within v c.in-Some.part.first c.in-Some.part.others.now
+          (subst (λ (z : List ℕ). PartsWithin v c.args.depth z) c.in-Some.ensures c.loop-part.invariant.parts);
     }
 
 pub loop-part-preserved : goal.loop-part-preserved
@@ -37,13 +37,13 @@ loop-part-preserved c =
     let i = c.loop-part.invariant in
     let k = c.in-Some.part.first in
     let ks = c.in-Some.part.others.now in
-    let h = subst (λ (z : List ℕ). HaveParts v z) c.in-Some.ensures i.parts in
-    let f = have_first v k ks h in
+    let h = subst (λ (z : List ℕ). PartsWithin v c.args.depth z) c.in-Some.ensures i.parts in
+    let f = first_within v k ks h in
     let a = c.in_ok-external.ensures f.syntax f.is in
     record {
       whole = a.whole;
       keeps = keeps_then u v w i.keeps a.grows;
-      parts = have_kept v w ks a.grows (have_others v k ks h);
+      parts = within_kept v w ks a.grows (others_within v k ks h);
       found = λ xs p. file_steps u v w xs k ks
           (subst (λ (z : List ℕ). FileSoFar u v xs z) c.in-Some.ensures (i.found xs p)) c.in_ok-external.ensures;
     }

@@ -1,9 +1,11 @@
+use Rattle.std.proofs.Common.{ℕ, sym, subst}
 use Rattle.std.proofs.lemmas.Result.{err_from_is_err_and}
 use Rattle.c_tree.specs.Programs.{parts, beginning}
 use Rattle.c_elaborator.specs.declared.work.Work.{Work}
-use Rattle.c_readings.proofs.Kids.{have_kids}
-use Rattle.c_elab.proofs.Externals.{elaborated, elaboration_fails, root_is, root_parts, syntax_is}
+use Rattle.c_elab.proofs.Externals.{elaborated, elaboration_fails, root_is, root_parts, root_within, syntax_is}
 use Rattle.c_elab.proofs.Settled.{typed_end}
+use Rattle.c_readings.specs.Within.{PartsWithin}
+use Rattle.c_readings.proofs.Within.{kids_low, part_there}
 use Rattle.c_elab.proofs.elaboration.elab.Goals as goal
 
 pub all_externals-requires : goal.all_externals-requires
@@ -16,9 +18,18 @@ all_externals-requires c =
       shown = record { state = beginning; shows = c.in_ok-work.ensures.shows };
       whole = c.in_ok-work.ensures.whole;
       parts =
-          rw c.as_slice.ensures (have_kids w c.args.tree.now.root c.in_ok-root.root.now
-          (record { syntax = h.syntax; is = p }) c.in_ok-root.ensures);
+          subst (λ (d : ℕ). PartsWithin w d c.as_slice.result.now) (sym c.node_count-depth.ensures)
+          (rw c.as_slice.ensures (kids_low w c.args.tree.now.root c.node_at-root.result.now
+          (root_within w c.args.tree.now h.syntax c.in_ok-work.ensures.tree p) c.node_at-root.ensures));
     }
+
+pub node_at-root-requires : goal.node_at-root-requires
+node_at-root-requires c =
+    let w : Work = c.in_ok-work.work in
+    let h = c.requires.readable in
+    let p = root_is w c.args.tree.now c.args.file.now h.syntax c.in_ok-work.ensures.tree c.in_ok-work.ensures.file
+    h.reads in
+    part_there w c.args.tree.now.root (root_within w c.args.tree.now h.syntax c.in_ok-work.ensures.tree p)
 
 pub finish-requires : goal.finish-requires
 finish-requires c =
@@ -27,8 +38,8 @@ finish-requires c =
     let p = root_is w c.args.tree.now c.args.file.now h.syntax c.in_ok-work.ensures.tree c.in_ok-work.ensures.file
     h.reads in
     let a = c.in_ok-all_externals.ensures (parts h.syntax)
-    (rw c.as_slice.ensures (root_parts w c.args.tree.now.root h.syntax c.in_ok-root.root.now p
-    c.in_ok-root.ensures)) in
+    (rw c.as_slice.ensures (root_parts w c.args.tree.now.root h.syntax c.node_at-root.result.now p
+    c.node_at-root.ensures)) in
     let m = a.gives beginning c.in_ok-work.ensures.shows in
     record {
       whole = a.whole;
@@ -44,11 +55,6 @@ finish-requires c =
       };
     }
 
-pub returns-in_err-root : goal.returns-in_err-root
-returns-in_err-root c =
-    let q = err_from_is_err_and c.from_residual-in_err-root.result c.from_residual-in_err-root.ensures.1 in
-    λ x r. rw (q.1, q.2) (tt {0})
-
 pub returns-in_err-all_externals : goal.returns-in_err-all_externals
 returns-in_err-all_externals c =
     let q = err_from_is_err_and c.from_residual-in_err-all_externals.result c.from_residual-in_err-all_externals.ensures.1 in λ x r.
@@ -56,14 +62,14 @@ returns-in_err-all_externals c =
     let p = root_is w c.args.tree.now c.args.file.now x c.in_ok-work.ensures.tree c.in_ok-work.ensures.file r in
     rw (q.1, q.2) (elaboration_fails x w c.all_externals.new.work _ c.in_ok-work.ensures.shows
     (c.in_err-all_externals.ensures (parts x)
-    (rw c.as_slice.ensures (root_parts w c.args.tree.now.root x c.in_ok-root.root.now p c.in_ok-root.ensures))))
+    (rw c.as_slice.ensures (root_parts w c.args.tree.now.root x c.node_at-root.result.now p c.node_at-root.ensures))))
 
 pub returns : goal.returns
 returns c = λ x r.
     let w : Work = c.in_ok-work.work in
     let p = root_is w c.args.tree.now c.args.file.now x c.in_ok-work.ensures.tree c.in_ok-work.ensures.file r in
     let a = c.in_ok-all_externals.ensures (parts x)
-    (rw c.as_slice.ensures (root_parts w c.args.tree.now.root x c.in_ok-root.root.now p c.in_ok-root.ensures))
+    (rw c.as_slice.ensures (root_parts w c.args.tree.now.root x c.node_at-root.result.now p c.node_at-root.ensures))
     in
     let m = a.gives beginning c.in_ok-work.ensures.shows in
     elaborated x m.state m.value c.finish.result m.is

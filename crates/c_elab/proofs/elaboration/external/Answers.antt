@@ -4,10 +4,13 @@ use Rattle.c_tree.specs.Scopes.{Doing}
 use Rattle.c_tree.specs.Programs.{readings, external_of}
 use Rattle.c_elaborator.specs.declared.work.Work.{Work}
 use Rattle.c_elaborator.specs.Answers.{Answers, freely, NothingThere, IsNothing}
-use Rattle.c_readings.proofs.Kids.{have_kids}
 use Rattle.c_elab.proofs.Shapes.{external_answers, other_external}
 use Rattle.c_elab.proofs.Externals.{nothing_done}
+use Rattle.c_readings.proofs.Within.{kids_low, part_there}
 use Rattle.c_elab.proofs.elaboration.external.Goals as goal
+
+pub node_at-node-requires : goal.node_at-node-requires
+node_at-node-requires c = part_there c.args.work.now c.args.k c.requires.part
 
 pub function_definition-requires : goal.function_definition-requires
 function_definition-requires c =
@@ -15,8 +18,8 @@ function_definition-requires c =
     record {
       shown = c.requires.shown;
       whole = c.requires.whole;
-      parts = rw c.as_slice.ensures (have_kids u c.args.k c.in_ok-node.node.now c.requires.part
-          c.in_ok-node.ensures);
+      parts = rw c.as_slice.ensures (kids_low u c.args.k c.node_at-node.result.now c.requires.part
+          c.node_at-node.ensures);
     }
 
 pub declare-requires : goal.declare-requires
@@ -25,14 +28,14 @@ declare-requires c =
     record {
       whole = c.requires.whole;
       parts = rw c.as_slice-in-Declaration.ensures
-          (have_kids u c.args.k c.in_ok-node.node.now c.requires.part c.in_ok-node.ensures);
+          (kids_low u c.args.k c.node_at-node.result.now c.requires.part c.node_at-node.ensures);
     }
 
 pub returns-in-FunctionDefinition : goal.returns-in-FunctionDefinition
 returns-in-FunctionDefinition c = λ x p.
     let u : Work = c.args.work.now in
     let w : Work = c.function_definition.new.work in
-    external_answers u w c.args.k x c.in_ok-node.node.now c.function_definition.result p c.in_ok-node.ensures
+    external_answers u w c.args.k x c.node_at-node.result.now c.function_definition.result p c.node_at-node.ensures
     (λ t xs e a. subst (λ (k : NodeKind). Answers freely u w
     (external_of k t xs (readings xs)) NothingThere IsNothing c.function_definition.result)
     (sym c.in-FunctionDefinition.is)
@@ -42,7 +45,7 @@ pub returns-in-Declaration : goal.returns-in-Declaration
 returns-in-Declaration c = λ x p.
     let u : Work = c.args.work.now in
     let w : Work = c.declare.new.work in
-    external_answers u w c.args.k x c.in_ok-node.node.now c.declare.result p c.in_ok-node.ensures
+    external_answers u w c.args.k x c.node_at-node.result.now c.declare.result p c.node_at-node.ensures
     (λ t xs e a. subst (λ (k : NodeKind). Answers freely u w
     (external_of k t xs (readings xs)) NothingThere IsNothing c.declare.result) (sym c.in-Declaration.is)
     (c.declare.ensures t xs e (rw c.as_slice-in-Declaration.ensures a)))
@@ -50,8 +53,8 @@ returns-in-Declaration c = λ x p.
 pub returns-in_default : goal.returns-in_default
 returns-in_default c = λ x p.
     let u : Work = c.args.work.now in
-    external_answers u u c.args.k x c.in_ok-node.node.now (Ok tt) p c.in_ok-node.ensures
+    external_answers u u c.args.k x c.node_at-node.result.now (Ok tt) p c.node_at-node.ensures
     (λ t xs e a. subst (λ (d : Doing Unit). Answers freely u u d NothingThere IsNothing (Ok tt))
-    (sym (other_external c.in_ok-node.node.now.kind t xs
+    (sym (other_external c.node_at-node.result.now.kind t xs
     (readings xs) c.in_default.not-FunctionDefinition c.in_default.not-Declaration))
     (nothing_done u c.requires.whole))

@@ -7,11 +7,12 @@ use Rattle.c_elaborator.specs.declared.work.Work.{Work}
 use Rattle.c_elaborator.specs.Answers.{freely, NothingThere, IsNothing}
 use Rattle.c_elaborator.proofs.Sequencing.{free_law, freed, keeps_then, type_there}
 use Rattle.c_declarators.specs.Parts.{SpecifiedThere, IsSpecified, in_any, DerivedThere, ShowsDerived}
-use Rattle.c_readings.proofs.Kids.{part_kept, has_kept}
+use Rattle.c_readings.proofs.Kids.{part_kept}
 use Rattle.c_elaborator.proofs.Shown.{then_for}
 use Rattle.c_statements.proofs.Following.{for_each}
 use Rattle.c_statements.proofs.Standing.{specified_kept, some_specified, is_some_specified}
 use Rattle.c_elab.proofs.Shapes.{unspecified, underived}
+use Rattle.c_readings.proofs.Within.{still_within}
 use Rattle.c_elab.proofs.functions.define.Goals as goal
 
 pub derived-requires : goal.derived-requires
@@ -19,7 +20,7 @@ derived-requires c =
     let u : Work = c.args.work.now in
     let v : Work = c.specified.new.work in
     let a = c.in_ok-s.ensures c.requires.first.syntax c.requires.first.is in
-    record { whole = a.whole; part = has_kept u v c.args.declarator a.grows.keeps c.requires.second }
+    record { whole = a.whole; part = still_within u v c.args.declarator a.grows.keeps c.requires.second }
 
 pub define_named-requires : goal.define_named-requires
 define_named-requires c =
@@ -27,7 +28,7 @@ define_named-requires c =
     let v : Work = c.specified.new.work in
     let w : Work = c.derived.new.work in
     let a = c.in_ok-s.ensures c.requires.first.syntax c.requires.first.is in
-    let p = has_kept u v c.args.declarator a.grows.keeps c.requires.second in
+    let p = still_within u v c.args.declarator a.grows.keeps c.requires.second in
     let b = c.in_ok-d.ensures p.syntax p.is in
     let h = c.requires.shown in
     let m = a.gives h.state h.shows in
@@ -38,7 +39,7 @@ define_named-requires c =
       specified = type_there v w c.in_ok-s.s.of b.grows.keeps a.there;
       derived = b.there;
       part =
-          has_kept u w c.args.block (keeps_then u v w a.grows.keeps b.grows.keeps) c.requires.third;
+          still_within u w c.args.block (keeps_then u v w a.grows.keeps b.grows.keeps) c.requires.third;
     }
 
 pub returns-in_err-s : goal.returns-in_err-s

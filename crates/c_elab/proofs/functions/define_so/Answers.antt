@@ -13,11 +13,12 @@ use Rattle.std.specs.Prelude.{reverse, not, ◌||◌}
 use Rattle.std.specs.Option.{is_some}
 use Rattle.c_declarators.specs.Parts.{any_scope, shown_in}
 use Rattle.c_elab.proofs.Weaker.{wraps_weaker}
-use Rattle.c_readings.proofs.Kids.{has_kept, part_kept}
+use Rattle.c_readings.proofs.Kids.{part_kept}
 use Rattle.c_statements.proofs.Standing.{some_wraps, are_some_wraps}
 use Rattle.c_elab.specs.Functions.{IsDeclarator, first_prototype}
 use Rattle.c_elab.proofs.Own.{own_there, params_there}
 use Rattle.c_elab.proofs.Defining.{defined_decl, formed_here, not_begun, never_unformed, never_begun, definition_begun}
+use Rattle.c_readings.proofs.Within.{still_within}
 use Rattle.c_elab.proofs.functions.define_so.Goals as goal
 
 pub declare_definition-requires : goal.declare_definition-requires
@@ -67,7 +68,7 @@ define_body-requires c =
       there = params_there u w c.in-Some.p.params.items k
           (own_there u ws c.in-Some.p (sym c.own_prototype-own.ensures ∙ c.in-Some.is) c.requires.parts);
       part =
-          has_kept u w c.args.block k c.requires.part;
+          still_within u w c.args.block k c.requires.part;
     }
 
 pub returns-in_err-f : goal.returns-in_err-f

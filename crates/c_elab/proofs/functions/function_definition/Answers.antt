@@ -1,9 +1,9 @@
 use Rattle.std.proofs.Common.{List, ℕ, [], ◌∷◌, ap, subst, ◌∙◌}
 use Rattle.c_tree.specs.Scopes.{Doing, refuse}
 use Rattle.c_elaborator.specs.declared.work.Work.{Work}
-use Rattle.c_elaborator.specs.Parts.{HaveParts}
-use Rattle.c_readings.proofs.Kids.{have_first, have_others}
 use Rattle.c_elab.proofs.Shapes.{from_three, not_three}
+use Rattle.c_readings.specs.Within.{PartsWithin}
+use Rattle.c_readings.proofs.Within.{first_within, others_within}
 use Rattle.c_elab.proofs.functions.function_definition.Goals as goal
 
 pub define-requires : goal.define-requires
@@ -12,14 +12,14 @@ define-requires c =
     let a = c.in-Some.x.first in
     let b = c.in-Some.x.second in
     let d = c.in-Some.x.third in
-    let h = subst (λ (ks : List ℕ). HaveParts u ks) c.in-Some.ensures c.requires.parts in
-    let i = have_others u a (b ∷ d ∷ []) h in
+    let h = subst (λ (ks : List ℕ). PartsWithin u c.args.depth ks) c.in-Some.ensures c.requires.parts in
+    let i = others_within u a (b ∷ d ∷ []) h in
     record {
       shown = c.requires.shown;
       whole = c.requires.whole;
-      first = have_first u a (b ∷ d ∷ []) h;
-      second = have_first u b (d ∷ []) i;
-      third = have_first u d [] (have_others u b (d ∷ []) i);
+      first = first_within u a (b ∷ d ∷ []) h;
+      second = first_within u b (d ∷ []) i;
+      third = first_within u d [] (others_within u b (d ∷ []) i);
     }
 
 pub returns-in-None : goal.returns-in-None

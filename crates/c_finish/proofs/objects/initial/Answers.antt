@@ -4,7 +4,7 @@ use Rattle.std.specs.Prelude.{option_map}
 use Rattle.c_tree.specs.Views as views
 use Rattle.c_tree.specs.Programs.{initial_of}
 use Rattle.c_elaborator.specs.declared.work.Filling.{Filling}
-use Rattle.c_finish.specs.Finished.{StartsFit, filled}
+use Rattle.c_finish.specs.Finished.{AreNear, StartsFit, filled}
 use Rattle.c_finish.proofs.Globals.{initial_is}
 use Rattle.c_finish.proofs.objects.initial.Goals as goal
 
@@ -22,3 +22,9 @@ links_of-requires-clause-fit c =
     let f = c.in-Some.f.now in
     subst (StartsFit c.args.work.now) (sym c.as_slice-in-Some.ensures.value)
     (c.requires.fit f (ap (option_map (λ (f : Bor Filling). f.now)) c.in-Some.is))
+
+pub links_of-requires-clause-near : goal.links_of-requires-clause-near
+links_of-requires-clause-near c =
+    let f = c.in-Some.f.now in
+    subst AreNear (sym c.as_slice-in-Some.ensures.value)
+    (c.requires.near f (ap (option_map (λ (f : Bor Filling). f.now)) c.in-Some.is))

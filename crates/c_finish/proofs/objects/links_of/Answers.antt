@@ -10,3 +10,6 @@ loop-i-preserved c = λ s h.
 
 pub returns : goal.returns
 returns c = λ s h. c.loop-i.invariant s h ∙ links_all s c.args.starts.now c.loop-i.i c.loop-i-test.false
+
+pub link_of-link-requires-clause-near : goal.link_of-link-requires-clause-near
+link_of-link-requires-clause-near c = c.requires.near c.loop-i.i c.start_at-start.result c.start_at-start.ensures

@@ -1,5 +1,5 @@
 use Rattle.std.proofs.Common.{sym, ◌∙◌}
-use Rattle.c_finish.proofs.Globals.{object_is, starts_fit}
+use Rattle.c_finish.proofs.Globals.{object_is, starts_fit, starts_near}
 use Rattle.c_finish.proofs.objects.object.Goals as goal
 
 pub returns : goal.returns
@@ -10,3 +10,8 @@ returns c = λ s g h e d. object_is c.args.work.now s c.args.k c.global_at-g.res
 pub initial-requires-clause-fit : goal.initial-requires-clause-fit
 initial-requires-clause-fit c =
     λ f e. starts_fit c.args.work.now c.args.k f c.requires.shown c.requires.there (sym c.filling-given.ensures ∙ e)
+
+pub initial-requires-clause-near : goal.initial-requires-clause-near
+initial-requires-clause-near c =
+    λ f e. starts_near c.args.work.now c.args.k f c.requires.shown c.requires.faultless c.requires.there
+    (sym c.filling-given.ensures ∙ e)

@@ -1,7 +1,7 @@
 use Rattle.std.proofs.Common.{ap, ◌∙◌}
 use Rattle.std.specs.Prelude.{slice_get}
 use Rattle.c_tree.specs.declared.typed.CType.{CType}
-use Rattle.c_copy.proofs.Marking.{item_turn, each_end}
+use Rattle.c_copy.proofs.Items.{item_turn, each_end}
 use Rattle.c_finish.specs.Finished.{TagFits}
 use Rattle.c_finish.proofs.tags.check_tags.Goals as goal
 

@@ -1,16 +1,20 @@
-use Rattle.std.proofs.Common.{◌∙◌}
-use Rattle.c_expressions.specs.Nodes.{type_in}
-use Rattle.c_initializers.specs.Places.{IsPlaceThere}
-use Rattle.c_initializers.proofs.PlaceLaws.{scalars-all, all-none}
+use Rattle.std.proofs.Common.{◌∷◌, [], ◌++◌, List, ap, ◌∙◌}
+use Rattle.c_initializers.specs.declared.scalars.Row.{Row}
+use Rattle.c_initializers.proofs.RowLaws.{walked-first, walked-on, last-there}
 use Rattle.c_initializers.proofs.scalars.scalars.Goals as goal
 
-pub returns : goal.returns
-returns c =
-    let w = c.args.work.now in
-    let a = c.in_ok-add_scalars.ensures in
-    record {
-      there = a.there (all-none (IsPlaceThere w) c.new-places.result.items c.new-places.ensures.items);
-      are = λ s h. a.are s h ∙ scalars-all w s
-          (type_in w.nodes c.args.of) c.tag_count-tags.result c.new-places.result.items c.new-places.ensures.items
-          (c.tag_count-tags.ensures s h);
-    }
+pub steps-init : goal.steps-init
+steps-init c =
+    walked-first c.args.work.now c.push.new.self.items c.single.result c.new-places.result.items c.args.of
+    c.tag_count.result
+    (c.in_ok-push.ensures.items ∙ ap (λ (x : List Row). x ++ c.single.result ∷ []) c.new-rows.ensures.items) c.requires.there c.new-places.ensures.items c.single.ensures c.tag_count.ensures
+
+pub walk-requires-clause-there : goal.walk-requires-clause-there
+walk-requires-clause-there c =
+    last-there c.args.work.now c.steps.rows.items c.pop.new.self.items c.in-Some.row c.in-Some.ensures.items
+    c.steps.invariant.rows_there
+
+pub steps-preserved : goal.steps-preserved
+steps-preserved c =
+    walked-on c.args.work.now c.steps.rows.items c.pop.new.self.items c.walk.new.rows.items c.steps.places.items
+    c.walk.new.places.items c.in-Some.row _ c.in-Some.ensures.items c.steps.invariant c.in_ok-walk-in-Some.ensures

@@ -1,5 +1,5 @@
 use Rattle.std.proofs.Common.{refl}
-use Rattle.c_passing.proofs.Calling.{hides_one}
+use Rattle.c_passing.proofs.Calling.{hides_plainly, hides_one}
 use Rattle.c_passing.proofs.Numbering.{on_ok}
 use Rattle.c_passing.proofs.calls.hide.Goals as goal
 
@@ -9,3 +9,7 @@ returns-in-Some-clause-hides c =
     c.in-Some.t c.number-of.result c.args.pos _ c.in-Some.ensures c.number-of.ensures
     (rw c.name.ensures refl) vars)
     c.push_var.ensures.vars
+
+pub returns-in-None-clause-hides : goal.returns-in-None-clause-hides
+returns-in-None-clause-hides c =
+    hides_plainly c.args.source.now c.args.out.now c.args.out.now c.args.of c.args.pos c.in-None.ensures refl

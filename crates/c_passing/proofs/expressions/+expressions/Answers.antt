@@ -1,20 +1,22 @@
-use Rattle.std.proofs.Common.{◌≡◌, ◌+◌, ◌<◌, ◌≤◌, ◌∷◌, [], ◌++◌, length, get_or, map, refl, sym, ap, subst, ◌∙◌, arith}
+use Rattle.std.proofs.Common.{◌≡◌, suc, ◌+◌, ◌<◌, ◌≤◌, ◌∷◌, [], ◌++◌, length, get_or, map, refl, sym, ap, subst, ◌∙◌}
+use Rattle.std.proofs.Common.{arith}
+use Rattle.std.proofs.lemmas.List.{length-map, take_all}
 use Rattle.c_tree.specs.declared.typed.Expr.{Expr}
 use Rattle.c_tree.specs.Views.{types_of, operands}
 use Rattle.c_tree.specs.Passed.{hidden_in}
 use Rattle.c_copy.specs.Copying.{AllBelow}
-use Rattle.c_copy.proofs.Copies.{pushed, extends_then, extends_push}
-use Rattle.c_passing.specs.declared.nodes.Made.{Made}
+use Rattle.c_copy.proofs.Copies.{pushed}
 use Rattle.c_passing.specs.Lists.{hidden_in_each}
-use Rattle.c_passing.specs.Passes.{written_term, IsKindPassed, IsPassed, ArePassed, Hides, ArePassedArguments}
+use Rattle.c_passing.specs.Passes.{written_term, AddsTerms, IsKindPassed, IsPassed, ArePassed, ArePassedArguments}
 use Rattle.c_passing.specs.Passes.{IsPlainCall, IsCallByResult}
-use Rattle.c_passing.proofs.Each.{Arguments, arguments_at, hides_turn, passed_turn, arguments_plainly}
-use Rattle.c_passing.proofs.Each.{arguments_by_address}
-use Rattle.c_passing.proofs.Least.{least_above, least_is, item_below, count_more}
-use Rattle.c_passing.proofs.Numbering.{on_ok, if_ok}
-use Rattle.c_passing.proofs.Passing.{both_ok, shape_calls, expression_passed, expression_hides, call_hides}
+use Rattle.c_passing.proofs.Each.{terms_turn, no_terms_add, none_counted, no_arguments_add, Arguments, arguments_at}
+use Rattle.c_passing.proofs.Each.{arguments_plainly, arguments_by_address}
+use Rattle.c_passing.proofs.Least.{least_above, least_is, item_below}
+use Rattle.c_passing.proofs.Numbering.{if_ok}
+use Rattle.c_passing.proofs.Passing.{on_both, shape_calls, expression_passed}
 use Rattle.c_passing.proofs.Passing.{plain_call_passed, result_call_passed, written_call_is, plain_call_made}
 use Rattle.c_passing.proofs.Passing.{result_call_made}
+use Rattle.c_passing.proofs.Within.{at_index, term_within, operands_within, operands_below, kind_within}
 use Rattle.c_passing.proofs.expressions.+expressions.Goals as goal
 use Rattle.c_passing.proofs.expressions.+expressions.Goals.{arguments-in-None+in_ok-push-in-None}
 use Rattle.c_passing.proofs.expressions.+expressions.Goals.{arguments-in-Some+in_ok-argument-in-Some+in_ok-push-in-Some+in_ok-h-in-Some}
@@ -27,261 +29,227 @@ arguments-loop-x-preserved t c =
     let i = l.x-index in
     let v = c.in_ok-value in
     let now : Arguments s a.out.now l.out a.first a.pos a.xs.now i l.h a.list.now.items l.list.items =
-    record {
-      extends = l.invariant.extends;
-      stmts = l.invariant.stmts;
-      hides = l.invariant.hides;
-      counted = l.invariant.counted;
-      are = l.invariant.are;
-    } in
+    record { adds = l.invariant.adds; counted = l.invariant.counted } in
     let all : Arguments s a.out.now c.match-hidden_type.out a.first a.pos a.xs.now (i + 1) c.match-hidden_type.h a.list.now.items c.match-hidden_type.list.items =
     elim c.match-hidden_type.branch [
       | arguments-in-None+in_ok-push-in-None w ↦
           arguments_at s a.out.now c.expression.new.out _ a.first a.pos a.xs.now
           (i + 1) l.h _ a.list.now.items w.push.new.self.items _
-          (arguments_plainly s a.out.now l.out c.expression.new.out a.first a.pos a.xs.now i l.h _ c.in_ok-e.e.now
+          (arguments_plainly s a.out.now l.out c.expression.new.out a.first a.pos a.xs.now i l.h _ c.expr-e.result.now
           a.list.now.items l.list.items w.push.new.self.items v.value now c.loop-x-test.true refl
-          c.in_ok-e.ensures
-          v.ensures.extends v.ensures.stmts v.ensures.hides v.ensures.is w.in-None.ensures
-          w.in_ok-push-in-None.ensures.items)
+          c.expr-e.ensures v.ensures w.in-None.ensures w.in_ok-push-in-None.ensures.items)
           w.out-is w.h-is (ap (λ z. z.items) w.list-is)
       | arguments-in-Some+in_ok-argument-in-Some+in_ok-push-in-Some+in_ok-h-in-Some w ↦
           arguments_at s a.out.now w.by_address.new.out _ a.first a.pos a.xs.now (i + 1)
           (l.h + 1) _ a.list.now.items w.push-in-Some.new.self.items _
           (arguments_by_address s a.out.now l.out c.expression.new.out w.by_address.new.out a.first a.pos a.xs.now i l.h
-          _ c.in_ok-e.e.now w.in-Some.t v.value a.list.now.items l.list.items w.push-in-Some.new.self.items
+          _ c.expr-e.result.now w.in-Some.t v.value a.list.now.items l.list.items w.push-in-Some.new.self.items
           w.in_ok-argument-in-Some.argument now
-          c.loop-x-test.true refl c.in_ok-e.ensures v.ensures.extends v.ensures.stmts v.ensures.hides v.ensures.is
-          w.in-Some.ensures w.in_ok-argument-in-Some.ensures.extends w.in_ok-argument-in-Some.ensures.rest
-          w.in_ok-argument-in-Some.ensures.is
+          c.loop-x-test.true refl c.expr-e.ensures v.ensures w.in-Some.ensures w.in_ok-argument-in-Some.ensures
           w.in_ok-push-in-Some.ensures.items)
           w.out-is (w.h-is ∙ w.in_ok-h-in-Some.ensures) (ap (λ z. z.items) w.list-is)
     ] in
-    record { extends = all.extends; stmts = all.stmts; hides = all.hides; counted = all.counted; are = all.are }
+    record { adds = all.adds; counted = all.counted }
 
-pub call-returns-in-None-clause-hides : goal.call-returns-in-None-clause-hides
-call-returns-in-None-clause-hides t c =
+pub arguments-loop-x-init : goal.arguments-loop-x-init
+arguments-loop-x-init t c =
+    let a = c.args in
+    record {
+      adds = no_arguments_add a.source.now a.out.now a.first a.pos a.list.now.items;
+      counted = none_counted a.source.now a.first a.pos;
+    }
+
+pub arguments-returns : goal.arguments-returns
+arguments-returns t c =
+    let a = c.args in
+    let s = a.source.now in
+    let l = c.loop-x in
+    subst (λ ks. AddsTerms s a.out.now l.out (λ names. hidden_in_each names (map (written_term s) ks))
+    (ArePassedArguments s a.out.now l.out a.first a.pos (map (written_term s) ks) a.list.now.items l.list.items))
+    (take_all l.x-index a.xs.now c.loop-x-test.false) l.invariant.adds
+
+pub call-returns-in-None : goal.call-returns-in-None
+call-returns-in-None t c =
     let s = c.args.source.now in
     let e = c.args.e.now in
-    on_ok c.call_plainly.result _ _
-    (λ h.
-    call_hides s c.args.out.now c.expression.new.out c.hide_arguments.new.out c.hide.new.out c.call_plainly.new.out e
-    c.args.f c.args.xs.now c.in_ok-called.called
-    (record {
-      called_is = c.in_ok-called.ensures.is;
-      first = c.in_ok-called.ensures.hides;
-      second = c.in_ok-hide_arguments.ensures.hides;
-      third = c.in_ok-hide.ensures.hides;
-      fourth = h;
-      exprs = ap (λ (m : Made). m.exprs) (c.in_ok-hide.ensures.rest)
-          ∙ ap (λ (m : Made). m.exprs) c.in_ok-hide_arguments.ensures.rest;
-    }))
-    c.call_plainly.ensures.hides
-
-pub call-returns-in-None-clause-is : goal.call-returns-in-None-clause-is
-call-returns-in-None-clause-is t c =
-    let s = c.args.source.now in
-    let e = c.args.e.now in
-    both_ok c.call_plainly.result _ _ _
-    (λ h j is.
+    if_ok c.call_plainly.result _ _
+    (λ j h.
     plain_call_passed s c.args.out.now c.expression.new.out c.hide_arguments.new.out c.hide.new.out
     c.call_plainly.new.out e c.args.f c.args.xs.now c.in_ok-called.called j
     (record {
-      called_is = c.in_ok-called.ensures.is;
-      first = c.in_ok-called.ensures.hides;
+      first = c.in_ok-called.ensures;
       second = c.in_ok-hide_arguments.ensures.hides;
+      second_rest = c.in_ok-hide_arguments.ensures.rest;
       third = c.in_ok-hide.ensures.hides;
-      fourth = h;
-      exprs = ap (λ (m : Made). m.exprs) (c.in_ok-hide.ensures.rest)
-          ∙ ap (λ (m : Made). m.exprs) c.in_ok-hide_arguments.ensures.rest;
+      third_rest = c.in_ok-hide.ensures.rest;
     })
-    c.in-None.ensures (subst (λ own. IsPlainCall s c.hide.new.out c.call_plainly.new.out e c.in_ok-called.called own
-    c.args.xs.now j) c.in_ok-own.ensures is))
-    c.call_plainly.ensures.hides c.call_plainly.ensures.is
+    c.in-None.ensures
+    (subst (λ own. AddsTerms s c.hide.new.out c.call_plainly.new.out
+    (λ names. hidden_in_each names (map (written_term s) c.args.xs.now))
+    (IsPlainCall s c.hide.new.out c.call_plainly.new.out e c.in_ok-called.called own c.args.xs.now j))
+    c.in_ok-own.ensures h))
+    c.call_plainly.ensures
 
-pub call-returns-in-Some-clause-hides : goal.call-returns-in-Some-clause-hides
-call-returns-in-Some-clause-hides t c =
+pub call-returns-in-Some : goal.call-returns-in-Some
+call-returns-in-Some t c =
     let s = c.args.source.now in
     let e = c.args.e.now in
-    on_ok c.call_by_result.result _ _
-    (λ h.
-    call_hides s c.args.out.now c.expression.new.out c.hide_arguments.new.out c.hide.new.out c.call_by_result.new.out e
-    c.args.f c.args.xs.now c.in_ok-called.called
-    (record {
-      called_is = c.in_ok-called.ensures.is;
-      first = c.in_ok-called.ensures.hides;
-      second = c.in_ok-hide_arguments.ensures.hides;
-      third = c.in_ok-hide.ensures.hides;
-      fourth = h;
-      exprs = ap (λ (m : Made). m.exprs) (c.in_ok-hide.ensures.rest)
-          ∙ ap (λ (m : Made). m.exprs) c.in_ok-hide_arguments.ensures.rest;
-    }))
-    c.call_by_result.ensures.hides
-
-pub call-returns-in-Some-clause-is : goal.call-returns-in-Some-clause-is
-call-returns-in-Some-clause-is t c =
-    let s = c.args.source.now in
-    let e = c.args.e.now in
-    both_ok c.call_by_result.result _ _ _
-    (λ h j is.
+    if_ok c.call_by_result.result _ _
+    (λ j h.
     result_call_passed s c.args.out.now c.expression.new.out c.hide_arguments.new.out c.hide.new.out
     c.call_by_result.new.out e c.args.f c.args.xs.now c.in_ok-called.called c.in-Some.t j
     (record {
-      called_is = c.in_ok-called.ensures.is;
-      first = c.in_ok-called.ensures.hides;
+      first = c.in_ok-called.ensures;
       second = c.in_ok-hide_arguments.ensures.hides;
+      second_rest = c.in_ok-hide_arguments.ensures.rest;
       third = c.in_ok-hide.ensures.hides;
-      fourth = h;
-      exprs = ap (λ (m : Made). m.exprs) (c.in_ok-hide.ensures.rest)
-          ∙ ap (λ (m : Made). m.exprs) c.in_ok-hide_arguments.ensures.rest;
+      third_rest = c.in_ok-hide.ensures.rest;
     })
     c.in-Some.ensures
-    (subst (λ own. IsCallByResult s c.hide.new.out c.call_by_result.new.out e c.in_ok-called.called own
-    (length c.hide_arguments.new.out.vars.items) c.in-Some.t c.args.xs.now j) c.in_ok-own.ensures
-    (subst (λ hid. IsCallByResult s c.hide.new.out c.call_by_result.new.out e c.in_ok-called.called c.in_ok-own.own hid
-    c.in-Some.t c.args.xs.now j) c.in_ok-hidden.ensures is)))
-    c.call_by_result.ensures.hides c.call_by_result.ensures.is
+    (subst (λ own. AddsTerms s c.hide.new.out c.call_by_result.new.out
+    (λ names. hidden_in_each names (map (written_term s) c.args.xs.now))
+    (IsCallByResult s c.hide.new.out c.call_by_result.new.out e c.in_ok-called.called own
+    (length c.hide_arguments.new.out.vars.items) c.in-Some.t c.args.xs.now j)) c.in_ok-own.ensures
+    (subst (λ hid. AddsTerms s c.hide.new.out c.call_by_result.new.out
+    (λ names. hidden_in_each names (map (written_term s) c.args.xs.now))
+    (IsCallByResult s c.hide.new.out c.call_by_result.new.out e c.in_ok-called.called c.in_ok-own.own hid
+    c.in-Some.t c.args.xs.now j)) c.in_ok-hidden.ensures h)))
+    c.call_by_result.ensures
 
-pub call_by_result-returns-clause-is : goal.call_by_result-returns-clause-is
-call_by_result-returns-clause-is t c =
+pub call_by_result-returns : goal.call_by_result-returns
+call_by_result-returns t c =
     let a = c.args in
     if_ok c.by_result.result _ _
     (λ j is.
     result_call_made a.source.now a.out.now c.address.new.self c.arguments.new.out c.by_result.new.out a.e.now a.called
-    a.own a.hidden a.t c.number-of.result c.pointer-pointer.result c.in_ok-address.address a.xs.now c.push.new.self.items
-    _ j c.requires c.number-of.ensures
-    c.pointer-pointer.ensures c.in_ok-address.ensures.extends
-    (ap (λ (m : Made). m.vars) c.in_ok-address.ensures.rest) c.in_ok-address.ensures.is
+    a.own a.hidden a.t c.number-of.result c.pointer-pointer.result c.in_ok-address.address a.xs.now
+    c.push.new.self.items _ j c.requires.tagged c.number-of.ensures c.pointer-pointer.ensures c.in_ok-address.ensures
     (c.in_ok-push.ensures.items ∙ ap (λ zs. zs ++ c.in_ok-address.address ∷ []) c.new-list.ensures.items)
-    c.in_ok-arguments.ensures.extends c.in_ok-arguments.ensures.are is)
-    c.by_result.ensures.is
+    c.in_ok-arguments.ensures is)
+    c.by_result.ensures
 
-pub call_plainly-returns-clause-is : goal.call_plainly-returns-clause-is
-call_plainly-returns-clause-is t c =
+pub call_plainly-returns : goal.call_plainly-returns
+call_plainly-returns t c =
     let a = c.args in
     let xs = map (written_term a.source.now) a.xs.now in
-    let before : ArePassedArguments a.source.now a.out.now c.arguments.new.out a.own a.e.now.pos xs [] c.arguments.new.list.items =
-    subst (λ zs. ArePassedArguments a.source.now a.out.now c.arguments.new.out a.own a.e.now.pos xs zs
-    c.arguments.new.list.items) c.new-list.ensures.items c.in_ok-arguments.ensures.are in
-    pushed c.push_expr.result _ _ _ c.push_expr.ensures.exprs c.push_expr.ensures.number
-    (λ items.
-    plain_call_made a.source.now a.out.now c.arguments.new.out c.push_expr.new.self a.e.now a.called a.own c.number-of.result
-    a.xs.now c.arguments.new.list.items _ c.number-of.ensures c.in_ok-arguments.ensures.extends before
-    (rw (← c.from_vec.ensures) items) refl)
+    let before : AddsTerms a.source.now a.out.now c.arguments.new.out (λ names. hidden_in_each names xs) (ArePassedArguments a.source.now a.out.now c.arguments.new.out a.own a.e.now.pos xs [] c.arguments.new.list.items) =
+    subst (λ zs. AddsTerms a.source.now a.out.now c.arguments.new.out (λ names. hidden_in_each names xs)
+    (ArePassedArguments a.source.now a.out.now c.arguments.new.out a.own a.e.now.pos xs zs
+    c.arguments.new.list.items)) c.new-list.ensures.items c.in_ok-arguments.ensures in
+    pushed c.push_expr.result _ _ _
+    (on_both c.push_expr.result _ _ c.push_expr.ensures.exprs c.push_expr.ensures.rest) c.push_expr.ensures.number
+    (λ x.
+    plain_call_made a.source.now a.out.now c.arguments.new.out c.push_expr.new.self a.e.now a.called a.own
+    c.number-of.result a.xs.now c.arguments.new.list.items _ c.number-of.ensures before
+    (rw (← c.from_vec.ensures) x.0) x.1 refl)
 
-pub expression-returns-in-Call-clause-hides : goal.expression-returns-in-Call-clause-hides
-expression-returns-in-Call-clause-hides t c =
+pub expression-returns-in-Call : goal.expression-returns-in-Call
+expression-returns-in-Call t c =
     let s = c.args.source.now in
-    let e = c.in_ok-e.e.now in
+    let e = c.expr-e.result.now in
     let k = c.args.k in
-    let below : AllBelow k (operands e.kind) =
-    subst (AllBelow k) (c.as_slice.ensures.value ∙ c.in_ok-ks.ensures) c.in_ok-all_below.ensures in
-    let is = written_call_is s k e c.in-Call.f c.as_slice-in-Call.result.now c.in_ok-e.ensures below
-    (rw c.as_slice-in-Call.ensures c.in-Call.is) in
-    on_ok c.call.result _ _ (λ h. subst (λ x. Hides s c.args.out.now c.call.new.out (λ names. hidden_in names x))
-    (sym is) h) c.call.ensures.hides
-
-pub expression-returns-in-Call-clause-is : goal.expression-returns-in-Call-clause-is
-expression-returns-in-Call-clause-is t c =
-    let s = c.args.source.now in
-    let e = c.in_ok-e.e.now in
-    let k = c.args.k in
-    let below : AllBelow k (operands e.kind) =
-    subst (AllBelow k) (c.as_slice.ensures.value ∙ c.in_ok-ks.ensures) c.in_ok-all_below.ensures in
-    let is = written_call_is s k e c.in-Call.f c.as_slice-in-Call.result.now c.in_ok-e.ensures below
-    (rw c.as_slice-in-Call.ensures c.in-Call.is) in
-    if_ok c.call.result _ _ (λ j h. subst (λ x. IsPassed s c.args.out.now c.call.new.out x j) (sym is) h)
-    c.call.ensures.is
+    let below = operands_below s k e c.requires c.expr-e.ensures in
+    let is = written_call_is s k e c.in-Call.f c.as_slice.result.now c.expr-e.ensures below
+    (rw c.as_slice.ensures c.in-Call.is) in
+    if_ok c.call.result _ _
+    (λ j h. subst (λ x. AddsTerms s c.args.out.now c.call.new.out (λ names. hidden_in names x)
+    (IsPassed s c.args.out.now c.call.new.out x j)) (sym is) h)
+    c.call.ensures
 
 pub expression-returns : goal.expression-returns
 expression-returns t c =
     let s = c.args.source.now in
-    let e = c.in_ok-e.e.now in
+    let e = c.expr-e.result.now in
     let k = c.args.k in
     let old = c.args.out.now in
     let mid = c.expressions.new.out in
-    let new = c.push_expr.new.self in
-    let inner = c.in_ok-js-in_default.ensures in
     let js = c.in_ok-js-in_default.js.items in
-    let are : c.as_slice.result.now ≡ operands e.kind = c.as_slice.ensures.value ∙ c.in_ok-ks.ensures in
     let too : c.as_slice-in_default.result.now ≡ operands e.kind =
     c.as_slice-in_default.ensures.value ∙ c.in_ok-ks.ensures in
-    let below : AllBelow k (operands e.kind) = subst (AllBelow k) are c.in_ok-all_below.ensures in
+    let below = operands_below s k e c.requires c.expr-e.ensures in
     let calls = shape_calls (types_of s.program.now.types) e.kind c.in_default.not-Call in
-    let passed : ArePassed s old mid (map (written_term s) (operands e.kind)) js =
-    subst (λ zs. ArePassed s old mid (map (written_term s) zs) js) too inner.are in
-    let hidden : Hides s old mid (λ names. hidden_in_each names (map (written_term s) (operands e.kind))) =
-    subst (λ zs. Hides s old mid (λ names. hidden_in_each names (map (written_term s) zs))) too inner.hides in
+    let passed : AddsTerms s old mid (λ names. hidden_in_each names (map (written_term s) (operands e.kind))) (ArePassed s old mid (map (written_term s) (operands e.kind)) js) =
+    subst (λ zs. AddsTerms s old mid (λ names. hidden_in_each names (map (written_term s) zs))
+    (ArePassed s old mid (map (written_term s) zs) js)) too c.in_ok-js-in_default.ensures in
     let d : Expr = record { kind = c.in_ok-kind-in_default.kind; of = c.number-of.result; pos = e.pos } in
     let kind : IsKindPassed s e.kind js d.kind =
     subst (λ zs. IsKindPassed s e.kind zs d.kind) c.as_slice-in_default-2.ensures.value
     c.in_ok-kind-in_default.ensures in
-    record {
-      extends = on_ok c.push_expr.result _ _ (λ items.
-          extends_push old.exprs.items mid.exprs.items new.exprs.items d inner.extends items)
-          c.push_expr.ensures.exprs;
-      stmts = on_ok c.push_expr.result _ _ (λ rest. ap (λ (m : Made). m.stmts) rest ∙ inner.stmts)
-          c.push_expr.ensures.rest;
-      hides = on_ok c.push_expr.result _ _ (λ rest.
-          expression_hides s old mid new k e c.in_ok-e.ensures below calls hidden (ap (λ (m : Made). m.vars) rest))
-          c.push_expr.ensures.rest;
-      is =
-          pushed c.push_expr.result _ _ _ c.push_expr.ensures.exprs c.push_expr.ensures.number
-          (λ items. expression_passed s old mid new k e d js _ c.in_ok-e.ensures below calls passed kind
-          c.number-of.ensures refl items refl);
-    }
+    pushed c.push_expr.result _ _ _
+    (on_both c.push_expr.result _ _ c.push_expr.ensures.exprs c.push_expr.ensures.rest) c.push_expr.ensures.number
+    (λ x. expression_passed s old mid c.push_expr.new.self k e d js _ c.expr-e.ensures below calls passed kind
+    c.number-of.ensures refl x.0 x.1 refl)
+
+pub expressions-loop-k-init : goal.expressions-loop-k-init
+expressions-loop-k-init t c = rw (c.new-js.ensures.items) (no_terms_add c.args.source.now c.args.out.now)
 
 pub expressions-loop-k-preserved : goal.expressions-loop-k-preserved
 expressions-loop-k-preserved t c =
+    let l = c.loop-k in
+    terms_turn c.args.source.now c.args.out.now l.out c.expression.new.out c.args.ks.now l.k-index _ l.js.items
+    c.push.new.self.items c.in_ok-j.j c.loop-k-test.true refl l.invariant c.in_ok-j.ensures c.in_ok-push.ensures.items
+
+pub expressions-returns : goal.expressions-returns
+expressions-returns t c =
     let s = c.args.source.now in
     let old = c.args.out.now in
     let l = c.loop-k in
-    let v = c.in_ok-j.ensures in
-    record {
-      extends = extends_then old.exprs.items l.out.exprs.items c.expression.new.out.exprs.items l.invariant.extends
-          v.extends;
-      stmts = v.stmts ∙ l.invariant.stmts;
-      hides = hides_turn s old l.out c.expression.new.out c.args.ks.now l.k-index _ c.loop-k-test.true refl
-          l.invariant.hides v.hides;
-      count = count_more l.js.items c.push.new.self.items c.in_ok-j.j l.k-index c.in_ok-push.ensures.items
-          l.invariant.count;
-      are = passed_turn s old l.out c.expression.new.out c.args.ks.now l.k-index _ l.js.items c.push.new.self.items
-          c.in_ok-j.j c.loop-k-test.true refl l.invariant.hides v.extends l.invariant.are v.is
-          c.in_ok-push.ensures.items;
-    }
+    subst (λ ks. AddsTerms s old l.out (λ names. hidden_in_each names (map (written_term s) ks))
+    (ArePassed s old l.out (map (written_term s) ks) l.js.items))
+    (take_all l.k-index c.args.ks.now c.loop-k-test.false) l.invariant
 
-pub expression-kind_with-requires : goal.expression-kind_with-requires
-expression-kind_with-requires t c =
-    ap length c.as_slice-in_default-2.ensures.value ∙ c.in_ok-js-in_default.ensures.count
+pub expression-expr-e-requires : goal.expression-expr-e-requires
+expression-expr-e-requires t c = term_within c.args.source.now c.args.k c.requires
+
+pub expression-kind_with-requires-clause-count : goal.expression-kind_with-requires-clause-count
+expression-kind_with-requires-clause-count t c =
+    ap length c.as_slice-in_default-2.ensures.value ∙ c.in_ok-js-in_default.ensures.is.count
+    ∙ length-map c.as_slice-in_default.result.now (written_term c.args.source.now)
     ∙ ap length (c.as_slice-in_default.ensures.value ∙ c.in_ok-ks.ensures)
+
+pub expression-kind_with-requires-clause-within : goal.expression-kind_with-requires-clause-within
+expression-kind_with-requires-clause-within t c =
+    kind_within c.args.source.now c.args.k c.expr-e.result.now c.requires c.expr-e.ensures
 
 pub arguments-expression-requires : goal.arguments-expression-requires
 arguments-expression-requires t c =
-    let h : get_or c.args.xs.now c.loop-x.x-index 0 < least_above c.args.xs.now =
-    item_below c.args.xs.now c.loop-x.x-index c.loop-x-test.true in
-    omega arith
+    let xs = c.args.xs.now in
+    let i = c.loop-x.x-index in
+    let h : get_or xs i 0 < least_above xs = item_below xs i c.loop-x-test.true in
+    (omega arith, c.requires i (get_or xs i 0) (at_index xs i c.loop-x-test.true))
+
+pub arguments-expr-e-requires : goal.arguments-expr-e-requires
+arguments-expr-e-requires t c =
+    let xs = c.args.xs.now in
+    let i = c.loop-x.x-index in
+    term_within c.args.source.now (get_or xs i 0) (c.requires i (get_or xs i 0) (at_index xs i c.loop-x-test.true))
 
 pub expressions-expression-requires : goal.expressions-expression-requires
 expressions-expression-requires t c =
-    let h : get_or c.args.ks.now c.loop-k.k-index 0 < least_above c.args.ks.now =
-    item_below c.args.ks.now c.loop-k.k-index c.loop-k-test.true in
-    omega arith
+    let ks = c.args.ks.now in
+    let i = c.loop-k.k-index in
+    let h : get_or ks i 0 < least_above ks = item_below ks i c.loop-k-test.true in
+    (omega arith, c.requires i (get_or ks i 0) (at_index ks i c.loop-k-test.true))
 
 pub expression-expressions-requires : goal.expression-expressions-requires
 expression-expressions-requires t c =
-    let are : c.as_slice.result.now ≡ c.as_slice-in_default.result.now =
-    c.as_slice.ensures.value ∙ sym c.as_slice-in_default.ensures.value in
-    let h : least_above c.as_slice-in_default.result.now ≤ c.args.k =
-    least_is c.args.k _ (subst (AllBelow c.args.k) are c.in_ok-all_below.ensures) in
-    omega arith
+    let s = c.args.source.now in
+    let k = c.args.k in
+    let e = c.expr-e.result.now in
+    let are : c.as_slice-in_default.result.now ≡ operands e.kind =
+    c.as_slice-in_default.ensures.value ∙ c.in_ok-ks.ensures in
+    let h : least_above c.as_slice-in_default.result.now ≤ k =
+    least_is k _ (subst (AllBelow k) (sym are) (operands_below s k e c.requires c.expr-e.ensures)) in
+    (omega arith, operands_within s k e _ c.requires c.expr-e.ensures are)
 
 pub expression-call-requires : goal.expression-call-requires
 expression-call-requires t c =
+    let s = c.args.source.now in
     let k = c.args.k in
-    let below : AllBelow k (operands c.in_ok-e.e.now.kind) =
-    subst (AllBelow k) (c.as_slice.ensures.value ∙ c.in_ok-ks.ensures) c.in_ok-all_below.ensures in
-    let is : AllBelow k (c.in-Call.f ∷ c.as_slice-in-Call.result.now) =
-    rw c.as_slice-in-Call.ensures (rw c.in-Call.is at below) in
-    let h : least_above (c.in-Call.f ∷ c.as_slice-in-Call.result.now) ≤ k =
-    least_is k (c.in-Call.f ∷ c.as_slice-in-Call.result.now) is in
-    omega arith
+    let e = c.expr-e.result.now in
+    let are : c.in-Call.f ∷ c.as_slice.result.now ≡ operands e.kind = rw (c.as_slice.ensures, c.in-Call.is) refl in
+    let h : least_above (c.in-Call.f ∷ c.as_slice.result.now) ≤ k =
+    least_is k (c.in-Call.f ∷ c.as_slice.result.now)
+    (subst (AllBelow k) (sym are) (operands_below s k e c.requires c.expr-e.ensures)) in
+    let all = operands_within s k e _ c.requires c.expr-e.ensures are in
+    (omega arith, (all 0 c.in-Call.f refl, λ j a q. all (suc j) a q))

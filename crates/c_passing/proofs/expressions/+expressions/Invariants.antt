@@ -1,7 +1,6 @@
-use Rattle.std.proofs.Common.{◌≡◌, ◌+◌, ◌*◌, ◌∷◌, length, take, map}
-use Rattle.c_copy.specs.Copying.{Extends}
+use Rattle.std.proofs.Common.{◌+◌, ◌*◌, ◌∷◌, take, map}
 use Rattle.c_passing.specs.Lists.{hidden_in_each}
-use Rattle.c_passing.specs.Passes.{written_term, Hides, ArePassed, ArePassedArguments, AreCounted}
+use Rattle.c_passing.specs.Passes.{written_term, AddsTerms, ArePassed, ArePassedArguments, AreCounted}
 use Rattle.c_passing.proofs.Least.{least_above}
 use Rattle.c_passing.proofs.expressions.+expressions.Given as goal
 
@@ -28,21 +27,13 @@ invariant-arguments-loop-x l =
     let s = l.source in
     let xs = map (written_term s) (take l.x-index l.xs) in
     record {
-      extends : Extends l.initial.out.exprs.items l.out.exprs.items;
-      stmts : l.out.stmts ≡ l.initial.out.stmts;
-      hides : Hides s l.initial.out l.out (λ names. hidden_in_each names xs);
+      adds : AddsTerms s l.initial.out l.out (λ names. hidden_in_each names xs)
+          (ArePassedArguments s l.initial.out l.out l.first l.pos xs l.initial.list.items l.list.items);
       counted : AreCounted s l.first l.pos xs l.h;
-      are : ArePassedArguments s l.initial.out l.out l.first l.pos xs l.initial.list.items l.list.items;
     }
 
 abbrev pub invariant-expressions-loop-k : goal.invariant-expressions-loop-k
 invariant-expressions-loop-k l =
     let s = l.source in
     let xs = map (written_term s) (take l.k-index l.ks) in
-    record {
-      extends : Extends l.initial.out.exprs.items l.out.exprs.items;
-      stmts : l.out.stmts ≡ l.initial.out.stmts;
-      hides : Hides s l.initial.out l.out (λ names. hidden_in_each names xs);
-      count : length l.js.items ≡ l.k-index;
-      are : ArePassed s l.initial.out l.out xs l.js.items;
-    }
+    AddsTerms s l.initial.out l.out (λ names. hidden_in_each names xs) (ArePassed s l.initial.out l.out xs l.js.items)

@@ -28,17 +28,14 @@ returns c =
       vars = c.from_vec-2.result;
       body = c.in_ok-body.body;
     } in
-    let body = c.in_ok-body.ensures in
-    let made : IsFunction w (written_routine w f) c.body.new.out g = function_made w s f g n old c.body.new.out (record {
+    let made : IsFunction w (written_routine w f) old c.body.new.out g = function_made w s f g n old c.body.new.out (record {
       program = refl;
       types = refl;
       names = refl;
       numbers = c.as_slice.ensures.value;
       standing = c.in_ok-before.ensures;
       vars = refl;
-      hides = body.hides;
-      body = body.is;
-      there = body.there;
+      made = c.in_ok-body.ensures;
       name = refl;
       pos = refl;
       of = c.number-of.ensures;
@@ -47,4 +44,14 @@ returns c =
           ∙ ap (λ m. m + n.before) (c.in_ok-written.ensures ∙ ap length c.as_slice-2.ensures));
       all = c.from_vec-2.ensures ∙ ap (λ z. z.items) c.replace-vars.ensures.value;
     }) in
-    record { exprs = body.exprs; stmts = body.stmts; is = record { there = made.there; is = made.is } }
+    record {
+      exprs = made.exprs;
+      stmts = made.stmts;
+      there = made.there;
+      typed = made.typed;
+      ordered = made.ordered;
+      is = made.is;
+    }
+
+pub body-requires-clause-numbers : goal.body-requires-clause-numbers
+body-requires-clause-numbers c = ap length c.as_slice.ensures.value ∙ c.in_ok-before.ensures.count

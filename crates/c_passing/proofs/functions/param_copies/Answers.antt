@@ -1,8 +1,9 @@
-use Rattle.std.proofs.Common.{◌+◌, false, get_or, arith, refl, sym, ap, ◌∙◌}
+use Rattle.std.proofs.Common.{◌+◌, false, get_or, map, arith, refl, sym, ap, subst, ◌∙◌}
+use Rattle.std.proofs.lemmas.List.{take_all}
 use Rattle.c_tree.specs.declared.typed.VarDef.{VarDef}
 use Rattle.c_tree.specs.Passed.{by_pointer}
-use Rattle.c_copy.proofs.Copies.{extends_same}
 use Rattle.c_passing.specs.Numbered.{type_in}
+use Rattle.c_passing.specs.Routines.{source_variable, AreParamCopies}
 use Rattle.c_passing.proofs.Returning.{Copies, no_copies, copies_pointed, copies_plain, copies_at}
 use Rattle.c_passing.proofs.functions.param_copies.Goals as goal
 use Rattle.c_passing.proofs.functions.param_copies.Goals.{then-by_pointer+in_ok-copy+in_ok-push+in_ok-to}
@@ -10,9 +11,6 @@ use Rattle.c_passing.proofs.functions.param_copies.Goals.{else-by_pointer}
 
 pub loop-v-init : goal.loop-v-init
 loop-v-init c = record {
-  exprs = extends_same c.args.out.now.exprs.items;
-  stmts = extends_same c.args.out.now.stmts.items;
-  vars = refl;
   from = omega arith;
   to = omega arith;
   are = no_copies c.args.source.now c.args.out.now c.args.first c.args.local c.args.body.now.items;
@@ -32,9 +30,6 @@ loop-v-preserved c =
     } in
     let now : Copies s a.out.now l.out a.first a.local a.params.now i l.from l.to a.body.now.items l.body.items =
     record {
-      exprs = l.invariant.exprs;
-      stmts = l.invariant.stmts;
-      vars = l.invariant.vars;
       from_is = l.invariant.from;
       to_is = l.invariant.to;
       are = l.invariant.are;
@@ -47,8 +42,7 @@ loop-v-preserved c =
           (copies_pointed s a.out.now l.out w.param_copy.new.out a.first a.local a.params.now i l.from l.to d _
           a.body.now.items l.body.items w.push.new.self.items w.in_ok-copy.copy now c.loop-v-test.true refl
           (ap (λ ts. by_pointer (type_in ts (get_or a.params.now i d).of)) (sym c.written_types.ensures)
-          ∙ sym c.by_pointer.ensures ∙ w.if-by_pointer.true) w.in_ok-copy.ensures.exprs w.in_ok-copy.ensures.stmts
-          w.in_ok-copy.ensures.vars w.in_ok-copy.ensures.is w.in_ok-push.ensures.items)
+          ∙ sym c.by_pointer.ensures ∙ w.if-by_pointer.true) w.in_ok-copy.ensures w.in_ok-push.ensures.items)
           w.out-is c.in_ok-from.ensures (w.to-is ∙ w.in_ok-to.ensures) (ap (λ z. z.items) w.body-is)
       | else-by_pointer w ↦
           copies_at s a.out.now l.out _ a.first a.local a.params.now (i + 1)
@@ -59,4 +53,11 @@ loop-v-preserved c =
           ∙ sym c.by_pointer.ensures ∙ w.if-by_pointer.false))
           w.out-is c.in_ok-from.ensures w.to-is (ap (λ z. z.items) w.body-is)
     ] in
-    record { exprs = all.exprs; stmts = all.stmts; vars = all.vars; from = all.from_is; to = all.to_is; are = all.are }
+    record { from = all.from_is; to = all.to_is; are = all.are }
+
+pub returns : goal.returns
+returns c =
+    let s = c.args.source.now in
+    let l = c.loop-v in
+    subst (λ vs. AreParamCopies s c.args.out.now l.out c.args.first c.args.local (map (source_variable s) vs)
+    c.args.body.now.items l.body.items) (take_all l.v-index c.args.params.now c.loop-v-test.false) l.invariant.are

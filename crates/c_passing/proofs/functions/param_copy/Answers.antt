@@ -1,13 +1,12 @@
-use Rattle.std.proofs.Common.{refl, ap, subst}
+use Rattle.std.proofs.Common.{refl, subst}
 use Rattle.c_copy.proofs.Copies.{pushed}
-use Rattle.c_passing.specs.declared.nodes.Made.{Made}
 use Rattle.c_passing.specs.Numbered.{IsBare}
 use Rattle.c_passing.proofs.Passing.{on_both}
 use Rattle.c_passing.proofs.Returning.{param_copy_made}
 use Rattle.c_passing.proofs.functions.param_copy.Goals as goal
 
-pub returns-clause-is : goal.returns-clause-is
-returns-clause-is c =
+pub returns : goal.returns
+returns c =
     let a = c.args in
     pushed c.push_stmt.result _ _ _ (on_both c.push_stmt.result _ _ c.push_stmt.ensures.stmts c.push_stmt.ensures.rest)
     c.push_stmt.ensures.number
@@ -18,10 +17,11 @@ returns-clause-is c =
       bare = subst (λ ts. IsBare ts a.v.of c.bare-t.result) c.written_types.ensures c.bare-t.ensures;
       number = c.number-of.ensures;
       pointer = c.pointer-pointer.ensures;
-      behind = c.in_ok-place.ensures.is;
+      behind = c.in_ok-place.ensures;
       load = c.in_ok-value.ensures.exprs;
       value_is = c.in_ok-value.ensures.number;
       init = x.0;
       number_is = refl;
-      exprs = ap (λ (m : Made). m.exprs.items) x.1;
+      load_rest = c.in_ok-value.ensures.rest;
+      init_rest = x.1;
     }))

@@ -20,11 +20,10 @@ loop-f-preserved c =
     let turn : map (written_routine w) (take (i + 1) fs) ≡ map (written_routine w) (take i fs) ++ written_routine w f ∷ [] =
     ap (map (written_routine w)) (take_more fs i f lt ∙ ap (λ z. take i fs ++ z ∷ []) (sym read))
     ∙ map-append (written_routine w) (take i fs) (f ∷ []) in
-    subst (λ rs. AreFunctions w rs c.function.new.out c.push.new.self.items) (sym turn)
+    subst (λ rs. AreFunctions w rs c.args.out.now c.function.new.out c.push.new.self.items) (sym turn)
     (functions_push w (map (written_routine w) (take i fs))
-    (written_routine w f) c.loop-f.out c.function.new.out c.loop-f.list.items c.push.new.self.items c.in_ok-f.f
-    c.loop-f.invariant c.in_ok-f.ensures.exprs c.in_ok-f.ensures.stmts c.in_ok-f.ensures.is
-    c.in_ok-push.ensures.items)
+    (written_routine w f) c.args.out.now c.loop-f.out c.function.new.out c.loop-f.list.items c.push.new.self.items c.in_ok-f.f
+    c.loop-f.invariant c.in_ok-f.ensures c.in_ok-push.ensures.items)
 
 pub returns : goal.returns
 returns c =
@@ -32,7 +31,7 @@ returns c =
     let fs = w.program.now.funs in
     let i = c.loop-f.f-index in
     let past : length fs ≤ i = subst (λ zs. length zs ≤ i) c.as_slice-f-items.ensures c.loop-f-test.false in
-    subst (λ zs. AreFunctions w (map (written_routine w) zs) c.loop-f.out c.loop-f.list.items)
+    subst (λ zs. AreFunctions w (map (written_routine w) zs) c.args.out.now c.loop-f.out c.loop-f.list.items)
     (take_all i fs past) c.loop-f.invariant
 
 pub function-requires : goal.function-requires

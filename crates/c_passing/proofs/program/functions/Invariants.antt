@@ -4,4 +4,4 @@ use Rattle.c_passing.proofs.program.functions.Given as goal
 
 abbrev pub invariant-loop-f : goal.invariant-loop-f
 invariant-loop-f l = AreFunctions l.whole (map (written_routine l.whole) (take l.f-index l.whole.program.now.funs))
-    l.out l.list.items
+    l.initial.out l.out l.list.items

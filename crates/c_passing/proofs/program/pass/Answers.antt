@@ -18,7 +18,8 @@ returns c =
       stmts = c.from_vec-5.result;
       main = old.main;
     } in
-    program_made c.args.tree.now old new types c.in_ok-names.names _ c.functions.new.out c.in_ok-funs.funs.items
+    program_made c.args.tree.now old new types c.in_ok-names.names _ _ c.functions.new.out
+    c.in_ok-funs.funs.items
     c.in_ok-funs.ensures c.from_vec-3.ensures
     (λ functions. record {
       program = refl;
@@ -37,5 +38,7 @@ returns c =
       exprs = c.from_vec-4.ensures;
       stmts = c.from_vec-5.ensures;
       main = refl;
+      no_exprs = c.new-3.ensures.items;
+      no_stmts = c.new-4.ensures.items;
     })
     refl

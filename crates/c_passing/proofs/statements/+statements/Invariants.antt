@@ -1,7 +1,6 @@
-use Rattle.std.proofs.Common.{◌≡◌, ◌+◌, ◌*◌, length, take, map}
-use Rattle.c_copy.specs.Copying.{Extends}
+use Rattle.std.proofs.Common.{◌+◌, ◌*◌, take, map}
 use Rattle.c_passing.specs.Lists.{hidden_of_each}
-use Rattle.c_passing.specs.Passes.{written_action, Hides, ArePassedActions}
+use Rattle.c_passing.specs.Passes.{written_action, AddsActions, ArePassedActions}
 use Rattle.c_passing.proofs.Least.{least_above}
 use Rattle.c_passing.proofs.statements.+statements.Given as goal
 
@@ -15,10 +14,5 @@ abbrev pub invariant-statements-loop-k : goal.invariant-statements-loop-k
 invariant-statements-loop-k l =
     let s = l.source in
     let xs = map (written_action s) (take l.k-index l.ks) in
-    record {
-      exprs : Extends l.initial.out.exprs.items l.out.exprs.items;
-      stmts : Extends l.initial.out.stmts.items l.out.stmts.items;
-      hides : Hides s l.initial.out l.out (λ names. hidden_of_each names xs);
-      count : length l.js.items ≡ length l.initial.js.items + l.k-index;
-      are : ArePassedActions s l.initial.out l.out xs l.initial.js.items l.js.items;
-    }
+    AddsActions s l.initial.out l.out (λ names. hidden_of_each names xs)
+    (ArePassedActions s l.initial.out l.out xs l.initial.js.items l.js.items)

@@ -1,13 +1,12 @@
 use Rattle.std.proofs.Common.{◌≡◌, [], ◌∷◌, ◌++◌, refl, ap, ◌∙◌}
 use Rattle.c_tree.specs.declared.typed.StmtKind.TheVariants as stmts
 use Rattle.c_copy.proofs.Copies.{pushed}
-use Rattle.c_passing.specs.declared.nodes.Made.{Made}
 use Rattle.c_passing.proofs.Passing.{on_both}
 use Rattle.c_passing.proofs.Returning.{given_back_made}
 use Rattle.c_passing.proofs.statements.give_back.Goals as goal
 
-pub returns-clause-is : goal.returns-clause-is
-returns-clause-is c =
+pub returns : goal.returns
+returns c =
     let p = c.args.pos in
     let first = c.in_ok-first.first in
     let second = c.in_ok-second.second in
@@ -26,8 +25,7 @@ returns-clause-is c =
     (record {
       number = c.number-of.ensures;
       pointer = c.pointer-pointer.ensures;
-      extends = c.in_ok-place.ensures.extends;
-      behind = c.in_ok-place.ensures.is;
+      behind = c.in_ok-place.ensures;
       assign = c.in_ok-assigned.ensures.exprs;
       assigned_is = c.in_ok-assigned.ensures.number;
       evaluate = c.in_ok-first.ensures.stmts;
@@ -39,6 +37,8 @@ returns-clause-is c =
           ∙ ap (λ zs. d.stmts.items ++ record { kind = stmts.Block zs c.from_vec-2.result; pos = p } ∷ []) none
           ∙ ap (λ zs. d.stmts.items ++ record { kind = stmts.Block [] zs; pos = p } ∷ []) both;
       number_is = refl;
-      exprs = ap (λ (m : Made). m.exprs.items) x.1 ∙ ap (λ (m : Made). m.exprs.items) c.in_ok-second.ensures.rest
-          ∙ ap (λ (m : Made). m.exprs.items) c.in_ok-first.ensures.rest;
+      assign_rest = c.in_ok-assigned.ensures.rest;
+      first_rest = c.in_ok-first.ensures.rest;
+      second_rest = c.in_ok-second.ensures.rest;
+      block_rest = x.1;
     }))

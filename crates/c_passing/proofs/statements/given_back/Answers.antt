@@ -11,9 +11,9 @@ pub returns-then-by_pointer : goal.returns-then-by_pointer
 returns-then-by_pointer c =
     let s = c.args.source.now in
     let a = c.args.a in
-    let e = c.in_ok-e.e.now in
+    let e = c.expr-e.result.now in
     let types = c.written_types-types.ensures in
-    let type : type_of (written_term s a) ≡ written_type s e.of = written_of s a e c.in_ok-e.ensures in
+    let type : type_of (written_term s a) ≡ written_type s e.of = written_of s a e c.expr-e.ensures in
     let pointed : by_pointer (written_type s e.of) ≡ true =
     ap (λ ts. by_pointer (type_in ts e.of)) (sym types) ∙ sym c.by_pointer.ensures ∙ c.if-by_pointer.true in
     let bared : IsBare s.program.now.types e.of c.bare.result =
@@ -24,8 +24,8 @@ pub returns-else-by_pointer : goal.returns-else-by_pointer
 returns-else-by_pointer c =
     let s = c.args.source.now in
     let a = c.args.a in
-    let e = c.in_ok-e.e.now in
+    let e = c.expr-e.result.now in
     let types = c.written_types-types.ensures in
-    let type : type_of (written_term s a) ≡ written_type s e.of = written_of s a e c.in_ok-e.ensures in
+    let type : type_of (written_term s a) ≡ written_type s e.of = written_of s a e c.expr-e.ensures in
     ap by_pointer type ∙ ap (λ ts. by_pointer (type_in ts e.of)) (sym types) ∙ sym c.by_pointer.ensures
     ∙ c.if-by_pointer.false

@@ -27,7 +27,7 @@ use Rattle.c_readings.specs.Gathered.{operand_of, type_of, both, one_operand, on
 use Rattle.c_readings.specs.Gathered.{place_and_value, three_values, type_and_value, assigning, PairThere, IsPair}
 use Rattle.c_readings.specs.Gathered.{two_in}
 use Rattle.c_readings.specs.Gathered.{TripleThere, IsTriple, three_in, CastThere, IsCast, cast_in}
-use Rattle.c_readings.proofs.Kids.{part_kept, parts_kept, opened, have_kids, has_node, has_kept, have_kept}
+use Rattle.c_readings.proofs.Kids.{part_kept, parts_kept, opened}
 use Rattle.c_tree.specs.declared.syntax.Selection.{Selection}
 use Rattle.c_tree.specs.declared.syntax.Selection.TheVariants.{Direct, Indirect}
 use Rattle.c_readings.proofs.Selecting.{selects, not_selected, direct_is, indirect_is}
@@ -38,16 +38,16 @@ use Rattle.c_operators.specs.Called.{AreThere}
 use Rattle.c_tree.specs.Libraries.{services}
 use Rattle.c_tree.specs.Expressions.{read_values, library_call, call, called}
 use Rattle.c_elaborator.proofs.Sequencing.{answers_at}
-use Rattle.c_elaborator.specs.Parts.{HaveParts}
+use Rattle.c_readings.specs.Within.{PartsWithin}
 use Rattle.c_readings.specs.Gathered.{ReadSoFar, AllThere, AreOperands, called_service, called_value}
-use Rattle.c_readings.proofs.Kids.{have_first, have_others, cut}
+use Rattle.c_readings.proofs.Kids.{cut}
 use Rattle.c_readings.proofs.Arguments.{so_far_begins, so_far_ends, so_far_fails, so_far_steps, operands_kept}
 use Rattle.c_readings.proofs.Calling.{no_call, call_is, service_is, value_is}
 use Rattle.c_readings.proofs.Others.{no_expression}
 use Rattle.c_elaborator.proofs.Unevaluated.{unevaluated_operand, unevaluated_type}
 use Rattle.c_readings.proofs.Gathering.{at_node, step_failed, step_then, both_done, answers_one, answers_two}
-use Rattle.c_readings.proofs.Gathering.{answers_three, refused_one, refused_two, refused_three, have_one, have_two}
-use Rattle.c_readings.proofs.Gathering.{have_three, parenthesized_is, postfix_is, step_is, address_is, indirection_is}
+use Rattle.c_readings.proofs.Gathering.{answers_three, refused_one, refused_two, refused_three}
+use Rattle.c_readings.proofs.Gathering.{parenthesized_is, postfix_is, step_is, address_is, indirection_is}
 use Rattle.c_readings.proofs.Gathering.{unary_is, size_of_expression_is, size_of_type_is, index_is, infix_is, cast_is}
 use Rattle.c_readings.proofs.Gathering.{assignment_is, conditional_is}
 use Rattle.std.specs.Prelude.{FitsSigned, All, Bool, ℤ, pos, Result, ◌&&◌, ◌==◌, ◌++◌, length, reverse}
@@ -88,7 +88,7 @@ use Rattle.c_readings.specs.Specifying.{unstored, untagged, filled, tagged_recor
 use Rattle.c_readings.specs.Specifying.{declarators_on}
 use Rattle.c_readings.specs.Specifying.{declarator_at, listed, tagged_enumeration, enumerators_on, within, row_of}
 use Rattle.c_readings.specs.Specifying.{function_of, params_on}
-use Rattle.std.proofs.Common.{◌<◌, rules}
+use Rattle.std.proofs.Common.{◌-◌, ◌<◌, rules}
 use Rattle.std.proofs.lemmas.Int.{to_z-of_z}
 use mir.Syntax.{w128}
 use mir.Val.{to_z}
@@ -110,31 +110,35 @@ use Rattle.c_readings.proofs.Specifying.{types_grow_there, unstored_refused, uns
 use Rattle.c_readings.proofs.Specifying.{derived_then}
 use Rattle.c_readings.proofs.Specifying.{both_then as then_both, nothing_done, part_done, parts_done, prototype_done}
 use Rattle.c_readings.proofs.Declaring.{behind, no_readings, declared_name_is, enclosed_is, not_enclosed, pointer_is}
-use Rattle.c_readings.proofs.Declaring.{no_pointer, open_array_is, no_array, no_function, ended, have_ends}
+use Rattle.c_readings.proofs.Declaring.{no_pointer, open_array_is, no_array, no_function, ended}
 use Rattle.c_readings.proofs.Declaring.{no_declarator}
 use Rattle.c_readings.proofs.Tagging.{record_untagged, record_tagged, record_behind, enum_untagged, enum_tagged}
 use Rattle.c_readings.proofs.Tagging.{enum_behind}
 use Rattle.c_readings.proofs.Params.{Are, ParamsSoFar, params_stop, params_grow, params_fail, params_refuse}
+use Rattle.c_readings.proofs.Within.{have_parts, part_there, deep}
+use Rattle.c_readings.proofs.Within.{behind_within, ends_within, first_within, kids_within, node_within, one_within}
+use Rattle.c_readings.proofs.Within.{others_within, still_within, three_within, two_within, within_kept}
 use Rattle.c_readings.proofs.parts.+parts.Goals as goal
 
 pub operand-expression-requires : goal.operand-expression-requires
 operand-expression-requires t c =
+    let some = deep c.args.work.now c.args.k c.requires.part in
     let u = c.args.work.now in
-    let n = c.in_ok-node.node.now in (
+    let n = c.node_at-node.result.now in (
       omega arith,
       (
         c.requires.whole,
         (
-          has_node u c.args.k n c.requires.part c.in_ok-node.ensures,
-          have_kids u c.args.k n c.requires.part c.in_ok-node.ensures,
+          node_within u c.args.k n c.requires.part c.node_at-node.ensures,
+          kids_within u c.args.k n c.requires.part c.node_at-node.ensures,
         ),
       ),
     )
 
 pub operand-returns : goal.operand-returns
 operand-returns t c = λ x p.
-    let o = opened c.args.work.now c.args.k x c.in_ok-node.node.now p c.in_ok-node.ensures in
-    at_node c.args.work.now _ c.in_ok-node.node.now x operand_of OperandThere IsOperand _ o
+    let o = opened c.args.work.now c.args.k x c.node_at-node.result.now p c.node_at-node.ensures in
+    at_node c.args.work.now _ c.node_at-node.result.now x operand_of OperandThere IsOperand _ o
     (c.expression.ensures o.token o.parts o.node)
 
 pub value_of-returns : goal.value_of-returns
@@ -233,7 +237,7 @@ one_operand-operand-requires t c = (
   omega arith,
   (
     c.requires.whole,
-    have_one c.args.work.now c.args.kids.now c.in-Some.k c.in-Some.ensures c.requires.parts,
+    one_within c.args.work.now c.args.kids.now c.in-Some.k c.in-Some.ensures c.requires.parts,
   ),
 )
 
@@ -250,7 +254,7 @@ one_value-value_of-requires t c = (
   omega arith,
   (
     c.requires.whole,
-    have_one c.args.work.now c.args.kids.now c.in-Some.k c.in-Some.ensures c.requires.parts,
+    one_within c.args.work.now c.args.kids.now c.in-Some.k c.in-Some.ensures c.requires.parts,
   ),
 )
 
@@ -264,7 +268,7 @@ one_value-returns-in-None t c = refused_one c.args.work.now c.args.kids.now (rea
 
 pub two_values-values_of-requires : goal.two_values-values_of-requires
 two_values-values_of-requires t c =
-    let h = have_two c.args.work.now c.args.kids.now c.in-Some.x.first c.in-Some.x.second c.in-Some.ensures c.requires.parts in (omega arith, (c.requires.whole, (h.0, h.1)))
+    let h = two_within c.args.work.now c.args.kids.now c.in-Some.x.first c.in-Some.x.second c.in-Some.ensures c.requires.parts in (omega arith, (c.requires.whole, (h.0, h.1)))
 
 pub two_values-returns-in-Some : goal.two_values-returns-in-Some
 two_values-returns-in-Some t c =
@@ -277,7 +281,7 @@ two_values-returns-in-None t c =
 
 pub place_and_value-place_with_value-requires : goal.place_and_value-place_with_value-requires
 place_and_value-place_with_value-requires t c =
-    let h = have_two c.args.work.now c.args.kids.now c.in-Some.x.first c.in-Some.x.second c.in-Some.ensures c.requires.parts in (omega arith, (c.requires.whole, (h.0, h.1)))
+    let h = two_within c.args.work.now c.args.kids.now c.in-Some.x.first c.in-Some.x.second c.in-Some.ensures c.requires.parts in (omega arith, (c.requires.whole, (h.0, h.1)))
 
 pub place_and_value-returns-in-Some : goal.place_and_value-returns-in-Some
 place_and_value-returns-in-Some t c =
@@ -291,7 +295,7 @@ place_and_value-returns-in-None t c =
 
 pub type_and_value-type_with_value-requires : goal.type_and_value-type_with_value-requires
 type_and_value-type_with_value-requires t c =
-    let h = have_two c.args.work.now c.args.kids.now c.in-Some.x.first c.in-Some.x.second c.in-Some.ensures c.requires.parts in (omega arith, (c.requires.whole, (h.0, h.1)))
+    let h = two_within c.args.work.now c.args.kids.now c.in-Some.x.first c.in-Some.x.second c.in-Some.ensures c.requires.parts in (omega arith, (c.requires.whole, (h.0, h.1)))
 
 pub type_and_value-returns-in-Some : goal.type_and_value-returns-in-Some
 type_and_value-returns-in-Some t c =
@@ -304,7 +308,7 @@ type_and_value-returns-in-None t c =
 
 pub three_values-values_of_three-requires : goal.three_values-values_of_three-requires
 three_values-values_of_three-requires t c =
-    let h = have_three c.args.work.now c.args.kids.now c.in-Some.x.first c.in-Some.x.second c.in-Some.x.third c.in-Some.ensures c.requires.parts in (omega arith, (c.requires.whole, (h.0, (h.1, h.2))))
+    let h = three_within c.args.work.now c.args.kids.now c.in-Some.x.first c.in-Some.x.second c.in-Some.x.third c.in-Some.ensures c.requires.parts in (omega arith, (c.requires.whole, (h.0, (h.1, h.2))))
 
 pub three_values-returns-in-Some : goal.three_values-returns-in-Some
 three_values-returns-in-Some t c =
@@ -534,7 +538,8 @@ expression-literal-requires t c = record {
   whole = c.requires.whole;
   accepted = fits_text c.args.work.now c.args.node.now c.name_of-name.result c.name_of-name.ensures c.in-Text.is
       c.requires.node;
-  parts = subst (λ (ks : List ℕ). HaveParts c.args.work.now ks) (sym c.as_slice-kids.ensures) c.requires.parts;
+  parts = have_parts c.args.work.now c.as_slice-kids.result.now
+      (subst (λ (ks : List ℕ). PartsWithin c.args.work.now c.args.depth ks) (sym c.as_slice-kids.ensures) c.requires.parts);
 }
 
 pub expression-returns-in-Text : goal.expression-returns-in-Text
@@ -566,11 +571,11 @@ member_behind-returns t c = λ x t' word e n p.
 
 pub selected-member_of-requires : goal.selected-member_of-requires
 selected-member_of-requires t c =
-    let h = have_two c.args.work.now c.args.kids.now c.in-Some.x.first c.in-Some.x.second c.in-Some.ensures c.requires.parts in (omega arith, (c.requires.whole, h.0))
+    let h = two_within c.args.work.now c.args.kids.now c.in-Some.x.first c.in-Some.x.second c.in-Some.ensures c.requires.parts in (omega arith, (c.requires.whole, h.0))
 
 pub selected-member_behind-requires : goal.selected-member_behind-requires
 selected-member_behind-requires t c =
-    let h = have_two c.args.work.now c.args.kids.now c.in-Some.x.first c.in-Some.x.second c.in-Some.ensures c.requires.parts in (omega arith, (c.requires.whole, h.0))
+    let h = two_within c.args.work.now c.args.kids.now c.in-Some.x.first c.in-Some.x.second c.in-Some.ensures c.requires.parts in (omega arith, (c.requires.whole, h.0))
 
 pub selected-returns-in-None : goal.selected-returns-in-None
 selected-returns-in-None t c =
@@ -579,8 +584,8 @@ selected-returns-in-None t c =
 pub selected-returns-in-Direct : goal.selected-returns-in-Direct
 selected-returns-in-Direct t c = λ t' xs e p.
     let u = c.args.work.now in
-    let m = selects u c.args.kids.now c.in-Some.x.first c.in-Some.x.second c.in_ok-node-in-Some.node.now c.args.how t'
-    c.in-Some.ensures c.in_ok-node-in-Some.ensures xs p in
+    let m = selects u c.args.kids.now c.in-Some.x.first c.in-Some.x.second c.node_at-node.result.now c.args.how t'
+    c.in-Some.ensures c.node_at-node.ensures xs p in
     subst (λ (d : Doing Operand). Answers quietly u c.member_of.new.work d OperandThere IsOperand c.member_of.result)
     (sym (m.is ∙ ap (λ (o : Selection). selected o t' m.name (reading m.head)) c.in-Direct.is))
     (c.member_of.ensures m.head t' m.name e (m.text ∙ sym c.text-name.ensures) m.part)
@@ -588,8 +593,8 @@ selected-returns-in-Direct t c = λ t' xs e p.
 pub selected-returns-in-Indirect : goal.selected-returns-in-Indirect
 selected-returns-in-Indirect t c = λ t' xs e p.
     let u = c.args.work.now in
-    let m = selects u c.args.kids.now c.in-Some.x.first c.in-Some.x.second c.in_ok-node-in-Some.node.now c.args.how t'
-    c.in-Some.ensures c.in_ok-node-in-Some.ensures xs p in
+    let m = selects u c.args.kids.now c.in-Some.x.first c.in-Some.x.second c.node_at-node.result.now c.args.how t'
+    c.in-Some.ensures c.node_at-node.ensures xs p in
     subst (λ (d : Doing Operand). Answers quietly u c.member_behind.new.work d OperandThere IsOperand
     c.member_behind.result) (sym (m.is
     ∙ ap (λ (o : Selection). selected o t' m.name (reading m.head)) c.in-Indirect.is))
@@ -609,8 +614,8 @@ arguments-value_of-requires t c =
       omega arith,
       (
         c.loop-part.invariant.whole,
-        have_first v c.in-Some.part.first c.in-Some.part.others.now
-            (subst (λ (z : List ℕ). HaveParts v z) c.in-Some.ensures c.loop-part.invariant.parts),
+        first_within v c.in-Some.part.first c.in-Some.part.others.now
+            (subst (λ (z : List ℕ). PartsWithin v c.args.depth z) c.in-Some.ensures c.loop-part.invariant.parts),
       ),
     )
 
@@ -629,12 +634,12 @@ arguments-loop-part-preserved t c =
     let w = c.value_of.new.work in
     let k = c.in-Some.part.first in
     let ks = c.in-Some.part.others.now in
-    let h = subst (λ (z : List ℕ). HaveParts v z) c.in-Some.ensures c.loop-part.invariant.parts in
-    let f = have_first v k ks h in
+    let h = subst (λ (z : List ℕ). PartsWithin v c.args.depth z) c.in-Some.ensures c.loop-part.invariant.parts in
+    let f = first_within v k ks h in
     let a = c.in_ok-x.ensures f.syntax f.is in
     record {
       whole = a.whole;
-      parts = have_kept v w ks a.grows.keeps (have_others v k ks h);
+      parts = within_kept v w ks a.grows.keeps (others_within v k ks h);
       reads = λ xs q. so_far_steps u v w xs k ks c.loop-part.values c.push.new.values c.in_ok-x.x
           (subst (λ (z : List ℕ). ReadSoFar u v xs z c.loop-part.values) c.in-Some.ensures
           (c.loop-part.invariant.reads xs q)) c.in_ok-x.ensures c.in_ok-push.ensures;
@@ -666,7 +671,7 @@ call_of_value-arguments-requires t c =
     let u = c.args.work.now in
     let v = c.value_of.new.work in
     let a = c.in_ok-f.ensures c.requires.called.syntax c.requires.called.is in
-    (omega arith, (a.whole, have_kept u v c.args.kids.now a.grows.keeps c.requires.parts))
+    (omega arith, (a.whole, within_kept u v c.args.kids.now a.grows.keeps c.requires.parts))
 
 pub call_of_value-returns : goal.call_of_value-returns
 call_of_value-returns t c = λ x xs p q.
@@ -695,21 +700,21 @@ call-call_of_library-requires t c =
       omega arith,
       (
         c.requires.whole,
-        have_others u c.in-Some.part.first c.in-Some.part.others.now
-            (subst (λ (z : List ℕ). HaveParts u z) c.in-Some.ensures c.requires.parts),
+        others_within u c.in-Some.part.first c.in-Some.part.others.now
+            (subst (λ (z : List ℕ). PartsWithin u c.args.depth z) c.in-Some.ensures c.requires.parts),
       ),
     )
 
 pub call-call_of_value-requires : goal.call-call_of_value-requires
 call-call_of_value-requires t c =
     let u = c.args.work.now in
-    let h = subst (λ (z : List ℕ). HaveParts u z) c.in-Some.ensures c.requires.parts in (
+    let h = subst (λ (z : List ℕ). PartsWithin u c.args.depth z) c.in-Some.ensures c.requires.parts in (
       omega arith,
       (
         c.requires.whole,
         (
-          have_first u c.in-Some.part.first c.in-Some.part.others.now h,
-          have_others u c.in-Some.part.first c.in-Some.part.others.now h,
+          first_within u c.in-Some.part.first c.in-Some.part.others.now h,
+          others_within u c.in-Some.part.first c.in-Some.part.others.now h,
         ),
       ),
     )
@@ -723,13 +728,13 @@ call-returns-in-Some-service t c = λ t' xs e p.
     let u = c.args.work.now in
     let m = cut u c.in-Some.part.first c.in-Some.part.others.now xs
     (subst (λ (z : List ℕ). AreParts u z xs) c.in-Some.ensures p) in
-    let o = opened u c.in-Some.part.first m.head c.in_ok-node-in-Some.node.now m.first c.in_ok-node-in-Some.ensures in
+    let o = opened u c.in-Some.part.first m.head c.node_at-node.result.now m.first c.node_at-node.ensures in
     answers_at quietly u c.call_of_library.new.work _
-    (called_service c.in-Some-service.number c.args.pos c.in_ok-node-in-Some.node.now.first (readings m.tail))
+    (called_service c.in-Some-service.number c.args.pos c.node_at-node.result.now.first (readings m.tail))
     OperandThere IsOperand c.call_of_library.result
     (λ s k. call_is t' m.head xs m.tail (Some c.in-Some-service.number) s m.is
-    (c.in_ok-service-in-Some.ensures m.head m.first s k ∙ c.in-Some-service.is)
-    ∙ service_is t' c.args.pos c.in_ok-node-in-Some.node.now.first m.head c.in-Some-service.number
+    (c.library-service.ensures m.head m.first s k ∙ c.in-Some-service.is)
+    ∙ service_is t' c.args.pos c.node_at-node.result.now.first m.head c.in-Some-service.number
     (readings m.tail) s e o.first)
     (c.call_of_library.ensures m.tail m.others)
 
@@ -741,7 +746,7 @@ call-returns-in-None-service t c = λ t' xs e p.
     answers_at quietly u c.call_of_value.new.work _
     (called_value c.args.pos (reading m.head) (readings m.tail)) OperandThere IsOperand c.call_of_value.result
     (λ s k. call_is t' m.head xs m.tail None s m.is
-    (c.in_ok-service-in-Some.ensures m.head m.first s k ∙ c.in-None-service.is)
+    (c.library-service.ensures m.head m.first s k ∙ c.in-None-service.is)
     ∙ value_is t' c.args.pos m.head (readings m.tail) s e)
     (c.call_of_value.ensures m.head m.tail m.first m.others)
 
@@ -765,7 +770,7 @@ one_type-type_of-requires t c = (
   omega arith,
   (
     c.requires.whole,
-    have_one c.args.work.now c.args.kids.now c.in-Some.k c.in-Some.ensures c.requires.parts,
+    one_within c.args.work.now c.args.kids.now c.in-Some.k c.in-Some.ensures c.requires.parts,
   ),
 )
 
@@ -816,20 +821,21 @@ length_of-returns t c = λ x p.
 
 pub specified-named_types-requires : goal.specified-named_types-requires
 specified-named_types-requires t c =
+    let some = deep c.args.work.now c.args.k c.requires.part in
     let u = c.args.work.now in (
       omega arith,
       (
         c.requires.whole,
-        subst (λ (ks : List ℕ). HaveParts u ks) (sym c.as_slice-kids.ensures)
-            (have_kids u c.args.k c.in_ok-node.node.now c.requires.part c.in_ok-node.ensures),
+        subst (λ (ks : List ℕ). PartsWithin u (c.args.depth - 1) ks) (sym c.as_slice-kids.ensures)
+            (kids_within u c.args.k c.node_at-node.result.now c.requires.part c.node_at-node.ensures),
       ),
     )
 
 pub specified-specified-requires : goal.specified-specified-requires
 specified-specified-requires t c =
     let u = c.args.work.now in
-    let n = c.in_ok-node.node.now in
-    let h = have_kids u c.args.k n c.requires.part c.in_ok-node.ensures in
+    let n = c.node_at-node.result.now in
+    let h = kids_within u c.args.k n c.requires.part c.node_at-node.ensures in
     let a = c.in_ok-named.ensures h.syntax (subst (λ (ks : List ℕ). AreParts u ks h.syntax)
     (sym c.as_slice-kids.ensures) h.are) in
     record {
@@ -843,8 +849,8 @@ specified-returns t c = λ x p.
     let u = c.args.work.now in
     let v = c.named_types.new.work in
     let w = c.specified.new.work in
-    let n = c.in_ok-node.node.now in
-    let o = opened u c.args.k x n p c.in_ok-node.ensures in
+    let n = c.node_at-node.result.now in
+    let o = opened u c.args.k x n p c.node_at-node.ensures in
     let lone : c.is_lone-lone.result ≡ (c.args.alone && length n.kids == 1) =
     c.is_lone-lone.ensures ∙ ap (λ (ks : List ℕ). c.args.alone && length ks == 1) c.as_slice-kids.ensures in
     let kids = subst (λ (ks : List ℕ). AreParts u ks o.parts) (sym c.as_slice-kids.ensures) o.node.parts in
@@ -870,18 +876,18 @@ specified-returns t c = λ x p.
 pub maybe_type-returns-in_ok-of : goal.maybe_type-returns-in_ok-of
 maybe_type-returns-in_ok-of t c = λ x p.
     let u = c.args.work.now in
-    let n = c.in_ok-node.node.now in
-    let o = opened u c.args.k x n p c.in_ok-node.ensures in
+    let n = c.node_at-node.result.now in
+    let o = opened u c.args.k x n p c.node_at-node.ensures in
     type_found u c.type_of.new.work c.args.alone x c.in_ok-of.of
     (ap names_type o.is ∙ names_type_is n.kind o.token o.parts ∙ c.names_type.ensures ∙ c.if-names_type.true)
     (c.in_ok-of.ensures x p)
 
 pub maybe_type-returns-in_err-of : goal.maybe_type-returns-in_err-of
 maybe_type-returns-in_err-of t c =
-    let e = err_from_is_err_and c.from_residual-in_err-of.result c.from_residual-in_err-of.ensures.1 in λ x p.
+    let e = err_from_is_err_and c.from_residual.result c.from_residual.ensures.1 in λ x p.
     let u = c.args.work.now in
-    let n = c.in_ok-node.node.now in
-    let o = opened u c.args.k x n p c.in_ok-node.ensures in
+    let n = c.node_at-node.result.now in
+    let o = opened u c.args.k x n p c.node_at-node.ensures in
     rw (e.1, e.2) (type_failed u c.type_of.new.work c.args.alone x _
     (ap names_type o.is ∙ names_type_is n.kind o.token o.parts ∙ c.names_type.ensures ∙ c.if-names_type.true)
     (c.in_err-of.ensures x p))
@@ -889,8 +895,8 @@ maybe_type-returns-in_err-of t c =
 pub maybe_type-returns-else-names_type : goal.maybe_type-returns-else-names_type
 maybe_type-returns-else-names_type t c = λ x p.
     let u = c.args.work.now in
-    let n = c.in_ok-node.node.now in
-    let o = opened u c.args.k x n p c.in_ok-node.ensures in
+    let n = c.node_at-node.result.now in
+    let o = opened u c.args.k x n p c.node_at-node.ensures in
     no_type_found u c.args.alone x c.requires.whole
     (ap names_type o.is ∙ names_type_is n.kind o.token o.parts ∙ c.names_type.ensures ∙ c.if-names_type.false)
 
@@ -914,8 +920,8 @@ named_types-maybe_type-requires t c =
       omega arith,
       (
         c.loop-part.invariant.whole,
-        have_first v c.in-Some.part.first c.in-Some.part.others.now
-            (subst (λ (z : List ℕ). HaveParts v z) c.in-Some.ensures c.loop-part.invariant.parts),
+        first_within v c.in-Some.part.first c.in-Some.part.others.now
+            (subst (λ (z : List ℕ). PartsWithin v c.args.depth z) c.in-Some.ensures c.loop-part.invariant.parts),
       ),
     )
 
@@ -929,14 +935,14 @@ named_types-loop-part-preserved t c =
     let alone = c.args.alone in
     let ts = c.loop-part.types in
     let us = c.push_some.new.types in
-    let h = subst (λ (z : List ℕ). HaveParts v z) c.in-Some.ensures c.loop-part.invariant.parts in
-    let f = have_first v k ks h in
+    let h = subst (λ (z : List ℕ). PartsWithin v c.args.depth z) c.in-Some.ensures c.loop-part.invariant.parts in
+    let f = first_within v k ks h in
     let a = c.in_ok-of.ensures f.syntax f.is in
     let there = types_grow_there v w ts.items us.items c.in_ok-of.of a.grows.keeps c.loop-part.invariant.there
     c.in_ok-push_some.ensures a.there in
     record {
       whole = a.whole;
-      parts = have_kept v w ks a.grows.keeps (have_others v k ks h);
+      parts = within_kept v w ks a.grows.keeps (others_within v k ks h);
       there = there;
       reads = λ xs q.
           fold_more c.args.work.now v w k ks (named_types alone xs (readings xs)) (types_on alone) (type_behind alone)
@@ -980,18 +986,19 @@ named_types-returns t c = λ xs q.
     (c.loop-part.invariant.reads xs q)) c.loop-part.invariant.there (λ s b i. i)
 
 pub type_of-type_of_node-requires : goal.type_of-type_of_node-requires
-type_of-type_of_node-requires t c = (
-  omega arith,
-  (
-    c.requires.whole,
-    have_kids c.args.work.now c.args.k c.in_ok-node.node.now c.requires.part c.in_ok-node.ensures,
-  ),
-)
+type_of-type_of_node-requires t c =
+    let some = deep c.args.work.now c.args.k c.requires.part in (
+      omega arith,
+      (
+        c.requires.whole,
+        kids_within c.args.work.now c.args.k c.node_at-node.result.now c.requires.part c.node_at-node.ensures,
+      ),
+    )
 
 pub type_of-returns : goal.type_of-returns
 type_of-returns t c = λ x p.
-    let o = opened c.args.work.now c.args.k x c.in_ok-node.node.now p c.in_ok-node.ensures in
-    at_node c.args.work.now _ c.in_ok-node.node.now x (λ r. r.type c.args.alone) TypeThere IsType _ o
+    let o = opened c.args.work.now c.args.k x c.node_at-node.result.now p c.node_at-node.ensures in
+    at_node c.args.work.now _ c.node_at-node.result.now x (λ r. r.type c.args.alone) TypeThere IsType _ o
     (c.type_of_node.ensures o.token o.parts o.node)
 
 pub type_of_node-returns-in-TypedefName : goal.type_of_node-returns-in-TypedefName
@@ -1048,8 +1055,8 @@ type_name-unstored-requires t c = (
   omega arith,
   (
     c.requires.whole,
-    have_first c.args.work.now c.in-Some.part.first c.in-Some.part.others.now
-        (subst (λ (z : List ℕ). HaveParts c.args.work.now z) c.in-Some.ensures c.requires.parts),
+    first_within c.args.work.now c.in-Some.part.first c.in-Some.part.others.now
+        (subst (λ (z : List ℕ). PartsWithin c.args.work.now c.args.depth z) c.in-Some.ensures c.requires.parts),
   ),
 )
 
@@ -1058,10 +1065,10 @@ type_name-within-requires t c =
     let u = c.args.work.now in
     let k = c.in-Some.part.first in
     let ks = c.in-Some.part.others.now in
-    let h = subst (λ (z : List ℕ). HaveParts u z) c.in-Some.ensures c.requires.parts in
-    let f = have_first u k ks h in
+    let h = subst (λ (z : List ℕ). PartsWithin u c.args.depth z) c.in-Some.ensures c.requires.parts in
+    let f = first_within u k ks h in
     let a = c.in_ok-s-in-Some.ensures f.syntax f.is in
-    (omega arith, (a.whole, have_kept u c.unstored.new.work ks a.grows.keeps (have_others u k ks h)))
+    (omega arith, (a.whole, within_kept u c.unstored.new.work ks a.grows.keeps (others_within u k ks h)))
 
 pub type_name-named_type-requires : goal.type_name-named_type-requires
 type_name-named_type-requires t c =
@@ -1070,10 +1077,10 @@ type_name-named_type-requires t c =
     let w = c.within.new.work in
     let k = c.in-Some.part.first in
     let ks = c.in-Some.part.others.now in
-    let h = subst (λ (z : List ℕ). HaveParts u z) c.in-Some.ensures c.requires.parts in
-    let f = have_first u k ks h in
+    let h = subst (λ (z : List ℕ). PartsWithin u c.args.depth z) c.in-Some.ensures c.requires.parts in
+    let f = first_within u k ks h in
     let a = c.in_ok-s-in-Some.ensures f.syntax f.is in
-    let g = have_kept u v ks a.grows.keeps (have_others u k ks h) in
+    let g = within_kept u v ks a.grows.keeps (others_within u k ks h) in
     let b = c.in_ok-d-in-Some.ensures g.syntax g.are in
     record {
       whole = b.whole;
@@ -1115,8 +1122,8 @@ pub record_specifier-tagged_record-requires : goal.record_specifier-tagged_recor
 record_specifier-tagged_record-requires t c =
     let u = c.args.work.now in
     let h = subst (λ (o : Option TagParts). IsTagged u o c.requires.parts.syntax) c.in-Some.is
-    (c.in_ok-found.ensures c.requires.parts.syntax c.requires.parts.are) in
-    (omega arith, (c.requires.whole, record { syntax = tail_of c.requires.parts.syntax; are = h.1 }))
+    (c.tag_of-found.ensures c.requires.parts.syntax c.requires.parts.are) in
+    (omega arith, (c.requires.whole, behind_within u c.args.kids.now _ c.requires.parts h.1))
 
 pub record_specifier-returns-in-None : goal.record_specifier-returns-in-None
 record_specifier-returns-in-None t c = λ t' xs e p.
@@ -1124,13 +1131,13 @@ record_specifier-returns-in-None t c = λ t' xs e p.
     answers_at quietly u c.untagged.new.work (record_specifier c.args.kind c.args.alone t' xs (readings xs))
     (untagged c.args.kind (readings xs) c.args.pos) TypeThere IsType c.untagged.result
     (λ s k. record_untagged c.args.kind c.args.alone t' c.args.pos xs (readings xs) s e
-    (subst (λ (o : Option TagParts). IsTagged u o xs) c.in-None.is (c.in_ok-found.ensures xs p)))
+    (subst (λ (o : Option TagParts). IsTagged u o xs) c.in-None.is (c.tag_of-found.ensures xs p)))
     (c.untagged.ensures xs p)
 
 pub record_specifier-returns-in-Some : goal.record_specifier-returns-in-Some
 record_specifier-returns-in-Some t c = λ t' xs e p.
     let u = c.args.work.now in
-    let h = subst (λ (o : Option TagParts). IsTagged u o xs) c.in-Some.is (c.in_ok-found.ensures xs p) in
+    let h = subst (λ (o : Option TagParts). IsTagged u o xs) c.in-Some.is (c.tag_of-found.ensures xs p) in
     let n = token_of u c.in-Some.tag.name in
     answers_at quietly u c.tagged_record.new.work (record_specifier c.args.kind c.args.alone t' xs (readings xs))
     (tagged_record c.args.kind c.args.alone n (readings (tail_of xs)) c.args.pos) TypeThere IsType
@@ -1144,7 +1151,7 @@ untagged-filled-requires t c =
       omega arith,
       (
         a.whole,
-        have_kept c.args.work.now c.new_tag.new.work c.args.kids.now a.grows.keeps
+        within_kept c.args.work.now c.new_tag.new.work c.args.kids.now a.grows.keeps
             c.requires.parts,
       ),
     )
@@ -1173,7 +1180,7 @@ tagged_record-filled-requires t c =
       omega arith,
       (
         a.whole,
-        have_kept c.args.work.now c.named_tag.new.work c.args.members.now a.grows.keeps
+        within_kept c.args.work.now c.named_tag.new.work c.args.members.now a.grows.keeps
             c.requires.parts,
       ),
     )
@@ -1198,7 +1205,7 @@ filled-all_members-requires t c =
       omega arith,
       (
         a.whole,
-        have_kept c.args.work.now c.begin_tag.new.work c.args.kids.now a.grows.keeps
+        within_kept c.args.work.now c.begin_tag.new.work c.args.kids.now a.grows.keeps
             c.requires.parts,
       ),
     )
@@ -1206,7 +1213,7 @@ filled-all_members-requires t c =
 pub filled-complete_tag-requires : goal.filled-complete_tag-requires
 filled-complete_tag-requires t c =
     let a = c.in_ok-begin_tag.ensures in
-    let h = have_kept c.args.work.now c.begin_tag.new.work c.args.kids.now a.grows.keeps c.requires.parts in
+    let h = within_kept c.args.work.now c.begin_tag.new.work c.args.kids.now a.grows.keeps c.requires.parts in
     let b = c.in_ok-members.ensures h.syntax h.are in
     record { whole = b.whole; members = b.there.there }
 
@@ -1257,8 +1264,8 @@ all_members-member-requires t c =
       (
         c.loop-part.invariant.whole,
         (
-          have_first v c.in-Some.part.first c.in-Some.part.others.now
-              (subst (λ (z : List ℕ). HaveParts v z) c.in-Some.ensures c.loop-part.invariant.parts),
+          first_within v c.in-Some.part.first c.in-Some.part.others.now
+              (subst (λ (z : List ℕ). PartsWithin v c.args.depth z) c.in-Some.ensures c.loop-part.invariant.parts),
           c.loop-part.invariant.there,
         ),
       ),
@@ -1272,13 +1279,13 @@ all_members-loop-part-preserved t c =
     let ks = c.in-Some.part.others.now in
     let ms = c.loop-part.members in
     let ns = c.in_ok-members.members in
-    let h = subst (λ (z : List ℕ). HaveParts v z) c.in-Some.ensures c.loop-part.invariant.parts in
-    let f = have_first v k ks h in
+    let h = subst (λ (z : List ℕ). PartsWithin v c.args.depth z) c.in-Some.ensures c.loop-part.invariant.parts in
+    let f = first_within v k ks h in
     let some = some_members v ms.all.items in
     let a = c.in_ok-members.ensures f.syntax some.0 f.is some.1 in
     record {
       whole = a.whole;
-      parts = have_kept v w ks a.grows.keeps (have_others v k ks h);
+      parts = within_kept v w ks a.grows.keeps (others_within v k ks h);
       there = a.there;
       reads = λ xs q. fold_more c.args.work.now v w k ks (all_members (readings xs) []) members_on members_of
           (AllMembersThere v ms) (AllMembersThere w ns) (AreMembers v ms.all.items)
@@ -1313,27 +1320,29 @@ all_members-returns t c = λ xs q.
 
 pub member-unstored-requires : goal.member-unstored-requires
 member-unstored-requires t c =
+    let some = deep c.args.work.now c.args.k c.requires.part in
     let u = c.args.work.now in
-    let h = subst (λ (z : List ℕ). HaveParts u z) (sym c.as_slice-kids.ensures)
-    (have_kids u c.args.k c.in_ok-node.node.now c.requires.part c.in_ok-node.ensures) in (
+    let h = subst (λ (z : List ℕ). PartsWithin u (c.args.depth - 1) z) (sym c.as_slice-kids.ensures)
+    (kids_within u c.args.k c.node_at-node.result.now c.requires.part c.node_at-node.ensures) in (
       omega arith,
       (
         c.requires.whole,
-        have_first u c.in-Some.part.first c.in-Some.part.others.now
-            (subst (λ (z : List ℕ). HaveParts u z) c.in-Some.ensures h),
+        first_within u c.in-Some.part.first c.in-Some.part.others.now
+            (subst (λ (z : List ℕ). PartsWithin u (c.args.depth - 1) z) c.in-Some.ensures h),
       ),
     )
 
 pub member-member_declarators-requires : goal.member-member_declarators-requires
 member-member_declarators-requires t c =
+    let some = deep c.args.work.now c.args.k c.requires.part in
     let u = c.args.work.now in
     let v = c.unstored.new.work in
     let k = c.in-Some.part.first in
     let ks = c.in-Some.part.others.now in
-    let h = subst (λ (z : List ℕ). HaveParts u z) c.in-Some.ensures
-    (subst (λ (z : List ℕ). HaveParts u z) (sym c.as_slice-kids.ensures)
-    (have_kids u c.args.k c.in_ok-node.node.now c.requires.part c.in_ok-node.ensures)) in
-    let f = have_first u k ks h in
+    let h = subst (λ (z : List ℕ). PartsWithin u (c.args.depth - 1) z) c.in-Some.ensures
+    (subst (λ (z : List ℕ). PartsWithin u (c.args.depth - 1) z) (sym c.as_slice-kids.ensures)
+    (kids_within u c.args.k c.node_at-node.result.now c.requires.part c.node_at-node.ensures)) in
+    let f = first_within u k ks h in
     let a = c.in_ok-s-in-Some.ensures f.syntax f.is in (
       omega arith,
       (
@@ -1341,18 +1350,24 @@ member-member_declarators-requires t c =
         (
           a.there,
           (
-            have_kept u v ks a.grows.keeps (have_others u k ks h),
+            within_kept u v ks a.grows.keeps (others_within u k ks h),
             all_members_kept u v c.args.members a.grows.keeps c.requires.members,
           ),
         ),
       ),
     )
 
+pub member-overflow_sub-depth : goal.member-overflow_sub-depth
+member-overflow_sub-depth t c = let some = deep c.args.work.now c.args.k c.requires.part in omega arith
+
+pub member-overflow_sub-depth-in-Some : goal.member-overflow_sub-depth-in-Some
+member-overflow_sub-depth-in-Some t c = let some = deep c.args.work.now c.args.k c.requires.part in omega arith
+
 pub member-returns-in-None : goal.member-returns-in-None
 member-returns-in-None t c = λ x ms p a.
     let u = c.args.work.now in
-    let n = c.in_ok-node.node.now in
-    let o = opened u c.args.k x n p c.in_ok-node.ensures in
+    let n = c.node_at-node.result.now in
+    let o = opened u c.args.k x n p c.node_at-node.ensures in
     let r : Result Members Refusal = Err (Code 120 n.pos) in
     at_node u u n x (λ q. q.members ms) AllMembersThere AreAllMembers r o
     (λ s h. no_member o.token n.pos o.parts (readings o.parts) ms s o.node.place
@@ -1363,8 +1378,8 @@ member-returns t c = λ x ms p a.
     let u = c.args.work.now in
     let v = c.unstored.new.work in
     let w = c.member_declarators.new.work in
-    let n = c.in_ok-node.node.now in
-    let o = opened u c.args.k x n p c.in_ok-node.ensures in
+    let n = c.node_at-node.result.now in
+    let o = opened u c.args.k x n p c.node_at-node.ensures in
     let m = behind u n.kids c.in-Some.part.first c.in-Some.part.others.now
     (sym c.as_slice-kids.ensures ∙ c.in-Some.ensures) o.parts o.node.parts in
     let b = c.has_register-register.result in
@@ -1407,8 +1422,8 @@ member_declarators-member_declarator-requires t c =
         (
           specified_there c.args.work.now v c.args.s i.keeps c.requires.specified,
           (
-            have_first v c.in-Some.part.first c.in-Some.part.others.now
-                (subst (λ (z : List ℕ). HaveParts v z) c.in-Some.ensures i.parts),
+            first_within v c.in-Some.part.first c.in-Some.part.others.now
+                (subst (λ (z : List ℕ). PartsWithin v c.args.depth z) c.in-Some.ensures i.parts),
             i.there,
           ),
         ),
@@ -1425,15 +1440,15 @@ member_declarators-loop-part-preserved t c =
     let ms = c.loop-part.all in
     let ns = c.in_ok-all.all in
     let inv = c.loop-part.invariant in
-    let h = subst (λ (z : List ℕ). HaveParts v z) c.in-Some.ensures inv.parts in
-    let f = have_first v k ks h in
+    let h = subst (λ (z : List ℕ). PartsWithin v c.args.depth z) c.in-Some.ensures inv.parts in
+    let f = first_within v k ks h in
     let some = some_members v ms.all.items in
     let s = some_specified v c.args.s in
     let a = c.in_ok-all.ensures s.0 f.syntax some.0 s.1 f.is some.1 in
     record {
       whole = a.whole;
       keeps = keeps_then u v w inv.keeps a.grows.keeps;
-      parts = have_kept v w ks a.grows.keeps (have_others v k ks h);
+      parts = within_kept v w ks a.grows.keeps (others_within v k ks h);
       there = a.there;
       reads = λ y xs zs i q j. fold_more u v w k ks (member_declarators y (readings xs) zs) (declarators_on y)
           (declarator_at y) (AllMembersThere v ms) (AllMembersThere w ns) (AreMembers v ms.all.items)
@@ -1500,8 +1515,8 @@ pub enum_specifier-tagged_enumeration-requires : goal.enum_specifier-tagged_enum
 enum_specifier-tagged_enumeration-requires t c =
     let u = c.args.work.now in
     let h = subst (λ (o : Option TagParts). IsTagged u o c.requires.parts.syntax) c.in-Some.is
-    (c.in_ok-found.ensures c.requires.parts.syntax c.requires.parts.are) in
-    (omega arith, (c.requires.whole, record { syntax = tail_of c.requires.parts.syntax; are = h.1 }))
+    (c.tag_of-found.ensures c.requires.parts.syntax c.requires.parts.are) in
+    (omega arith, (c.requires.whole, behind_within u c.args.kids.now _ c.requires.parts h.1))
 
 pub enum_specifier-returns-in-None : goal.enum_specifier-returns-in-None
 enum_specifier-returns-in-None t c = λ xs p.
@@ -1509,12 +1524,12 @@ enum_specifier-returns-in-None t c = λ xs p.
     answers_at quietly u c.listed.new.work (enum_specifier xs (readings xs))
     (listed (readings xs)) TypeThere IsType c.listed.result
     (λ s k. enum_untagged xs (readings xs) s (subst (λ (o : Option TagParts). IsTagged u o xs) c.in-None.is
-    (c.in_ok-found.ensures xs p))) (c.listed.ensures xs p)
+    (c.tag_of-found.ensures xs p))) (c.listed.ensures xs p)
 
 pub enum_specifier-returns-in-Some : goal.enum_specifier-returns-in-Some
 enum_specifier-returns-in-Some t c = λ xs p.
     let u = c.args.work.now in
-    let h = subst (λ (o : Option TagParts). IsTagged u o xs) c.in-Some.is (c.in_ok-found.ensures xs p) in
+    let h = subst (λ (o : Option TagParts). IsTagged u o xs) c.in-Some.is (c.tag_of-found.ensures xs p) in
     let n = token_of u c.in-Some.tag.name in
     answers_at quietly u c.tagged_enumeration.new.work (enum_specifier xs (readings xs))
     (tagged_enumeration n (readings (tail_of xs))) TypeThere IsType c.tagged_enumeration.result
@@ -1535,7 +1550,7 @@ tagged_enumeration-listed-requires t c =
       omega arith,
       (
         a.whole,
-        have_kept c.args.work.now c.new_enumeration.new.work c.args.list.now a.grows.keeps
+        within_kept c.args.work.now c.new_enumeration.new.work c.args.list.now a.grows.keeps
             c.requires.parts,
       ),
     )
@@ -1579,8 +1594,8 @@ enumerators-enumerator-requires t c =
       omega arith,
       (
         c.loop-part.invariant.whole,
-        have_first v c.in-Some.part.first c.in-Some.part.others.now
-            (subst (λ (z : List ℕ). HaveParts v z) c.in-Some.ensures c.loop-part.invariant.parts),
+        first_within v c.in-Some.part.first c.in-Some.part.others.now
+            (subst (λ (z : List ℕ). PartsWithin v c.args.depth z) c.in-Some.ensures c.loop-part.invariant.parts),
       ),
     )
 
@@ -1591,13 +1606,13 @@ enumerators-loop-part-preserved t c =
     let k = c.in-Some.part.first in
     let ks = c.in-Some.part.others.now in
     let n = to_z w128 c.loop-part.next-bits in
-    let h = subst (λ (z : List ℕ). HaveParts v z) c.in-Some.ensures c.loop-part.invariant.parts in
-    let f = have_first v k ks h in
+    let h = subst (λ (z : List ℕ). PartsWithin v c.args.depth z) c.in-Some.ensures c.loop-part.invariant.parts in
+    let f = first_within v k ks h in
     let fits : FitsSigned w128 c.in_ok-next.next = first_of (search rules, grind arith) in
     let a = c.in_ok-next.ensures f.syntax f.is in
     record {
       whole = a.whole;
-      parts = have_kept v w ks a.grows.keeps (have_others v k ks h);
+      parts = within_kept v w ks a.grows.keeps (others_within v k ks h);
       reads = λ xs q. subst (λ (m : ℤ). SoFar c.args.work.now w ks (enumerators (readings xs) (pos 0)) enumerators_on
           (Unit {0}) (λ z. z ≡ m)) (sym (to_z-of_z w128 c.in_ok-next.next fits))
           (enumerators_go c.args.work.now v w k ks (enumerators (readings xs) (pos 0)) n _
@@ -1627,12 +1642,13 @@ enumerators-returns t c = λ xs q.
 
 pub enumerator-valued-requires : goal.enumerator-valued-requires
 enumerator-valued-requires t c =
+    let some = deep c.args.work.now c.args.k c.requires.part in
     let u = c.args.work.now in (
       omega arith,
       (
         c.requires.whole,
-        subst (λ (ks : List ℕ). HaveParts u ks) (sym c.as_slice.ensures)
-            (have_kids u c.args.k c.in_ok-node.node.now c.requires.part c.in_ok-node.ensures),
+        subst (λ (ks : List ℕ). PartsWithin u (c.args.depth - 1) ks) (sym c.as_slice.ensures)
+            (kids_within u c.args.k c.node_at-node.result.now c.requires.part c.node_at-node.ensures),
       ),
     )
 
@@ -1640,8 +1656,8 @@ pub enumerator-returns-in-Enumerator : goal.enumerator-returns-in-Enumerator
 enumerator-returns-in-Enumerator t c = λ x p.
     let u = c.args.work.now in
     let w = c.valued.new.work in
-    let n = c.in_ok-node.node.now in
-    let o = opened u c.args.k x n p c.in_ok-node.ensures in
+    let n = c.node_at-node.result.now in
+    let o = opened u c.args.k x n p c.node_at-node.ensures in
     at_node u w n x (λ r. r.enumerator c.args.next) NumberThere (in_any IsNumber) c.valued.result o
     (subst (λ (l : Lexeme). Answers quietly u w (enumerator l (readings o.parts) c.args.next) NumberThere
     (in_any IsNumber) c.valued.result) (ap (token_of u) c.name_of.ensures
@@ -1655,16 +1671,16 @@ valued-constant-requires t c = (
   omega arith,
   (
     c.requires.whole,
-    have_first c.args.work.now c.in-Some.part.first c.in-Some.part.others.now
-        (subst (λ (z : List ℕ). HaveParts c.args.work.now z) c.in-Some.ensures c.requires.parts),
+    first_within c.args.work.now c.in-Some.part.first c.in-Some.part.others.now
+        (subst (λ (z : List ℕ). PartsWithin c.args.work.now c.args.depth z) c.in-Some.ensures c.requires.parts),
   ),
 )
 
 pub valued-enumerate-requires-in-Some : goal.valued-enumerate-requires-in-Some
 valued-enumerate-requires-in-Some t c =
     let u = c.args.work.now in
-    let f = have_first u c.in-Some.part.first c.in-Some.part.others.now
-    (subst (λ (z : List ℕ). HaveParts u z) c.in-Some.ensures c.requires.parts) in
+    let f = first_within u c.in-Some.part.first c.in-Some.part.others.now
+    (subst (λ (z : List ℕ). PartsWithin u c.args.depth z) c.in-Some.ensures c.requires.parts) in
     (c.in_ok-c-in-Some.ensures f.syntax f.is).whole
 
 pub valued-returns-in-None : goal.valued-returns-in-None
@@ -1701,18 +1717,19 @@ valued-returns-in_ok-c-in-Some t c = λ xs p.
 -- ---- declarators
 
 pub derived-declarator-requires : goal.derived-declarator-requires
-derived-declarator-requires t c = (
-  omega arith,
-  (
-    c.requires.whole,
-    have_kids c.args.work.now c.args.k c.in_ok-node.node.now c.requires.part c.in_ok-node.ensures,
-  ),
-)
+derived-declarator-requires t c =
+    let some = deep c.args.work.now c.args.k c.requires.part in (
+      omega arith,
+      (
+        c.requires.whole,
+        kids_within c.args.work.now c.args.k c.node_at-node.result.now c.requires.part c.node_at-node.ensures,
+      ),
+    )
 
 pub derived-returns : goal.derived-returns
 derived-returns t c = λ x p.
-    let o = opened c.args.work.now c.args.k x c.in_ok-node.node.now p c.in_ok-node.ensures in
-    at_node c.args.work.now _ c.in_ok-node.node.now x (λ r. r.derived) DerivedThere ShowsDerived _ o
+    let o = opened c.args.work.now c.args.k x c.node_at-node.result.now p c.node_at-node.ensures in
+    at_node c.args.work.now _ c.node_at-node.result.now x (λ r. r.derived) DerivedThere ShowsDerived _ o
     (c.declarator.ensures o.token o.parts o.node)
 
 pub declarator-returns-in-DeclaredName : goal.declarator-returns-in-DeclaredName
@@ -1776,8 +1793,8 @@ enclosed-derived-requires t c = (
   omega arith,
   (
     c.requires.whole,
-    have_first c.args.work.now c.in-Some.part.first c.in-Some.part.others.now
-        (subst (λ (z : List ℕ). HaveParts c.args.work.now z) c.in-Some.ensures c.requires.parts),
+    first_within c.args.work.now c.in-Some.part.first c.in-Some.part.others.now
+        (subst (λ (z : List ℕ). PartsWithin c.args.work.now c.args.depth z) c.in-Some.ensures c.requires.parts),
   ),
 )
 
@@ -1800,8 +1817,8 @@ within-derived-requires t c = (
   omega arith,
   (
     c.requires.whole,
-    have_first c.args.work.now c.in-Some.part.first c.in-Some.part.others.now
-        (subst (λ (z : List ℕ). HaveParts c.args.work.now z) c.in-Some.ensures c.requires.parts),
+    first_within c.args.work.now c.in-Some.part.first c.in-Some.part.others.now
+        (subst (λ (z : List ℕ). PartsWithin c.args.work.now c.args.depth z) c.in-Some.ensures c.requires.parts),
   ),
 )
 
@@ -1824,8 +1841,8 @@ pointer-within-requires t c = (
   omega arith,
   (
     c.requires.whole,
-    have_others c.args.work.now c.in-Some.part.first c.in-Some.part.others.now
-        (subst (λ (z : List ℕ). HaveParts c.args.work.now z) c.in-Some.ensures c.requires.parts),
+    others_within c.args.work.now c.in-Some.part.first c.in-Some.part.others.now
+        (subst (λ (z : List ℕ). PartsWithin c.args.work.now c.args.depth z) c.in-Some.ensures c.requires.parts),
   ),
 )
 
@@ -1862,7 +1879,7 @@ open_array-returns t c = λ t' xs p.
 
 pub array-row-requires : goal.array-row-requires
 array-row-requires t c =
-    let h = have_ends c.args.work.now c.args.kids.now c.in-Some.x.before.now c.in-Some.x.last c.in-Some.ensures c.requires.parts in (omega arith, (c.requires.whole, (h.0, h.1)))
+    let h = ends_within c.args.work.now c.args.kids.now c.in-Some.x.before.now c.in-Some.x.last c.in-Some.ensures c.requires.parts in (omega arith, (c.requires.whole, (h.0, h.1)))
 
 pub array-returns-in-None : goal.array-returns-in-None
 array-returns-in-None t c =
@@ -1880,7 +1897,7 @@ array-returns-in-Some t c = λ t' xs e p.
 pub row-length_of-requires : goal.row-length_of-requires
 row-length_of-requires t c =
     let a = c.in_ok-d.ensures c.requires.parts.syntax c.requires.parts.are in
-    (omega arith, (a.whole, has_kept c.args.work.now c.within.new.work c.args.count a.grows.keeps c.requires.count))
+    (omega arith, (a.whole, still_within c.args.work.now c.within.new.work c.args.count a.grows.keeps c.requires.count))
 
 pub row-returns : goal.row-returns
 row-returns t c = λ xs y p q.
@@ -1894,7 +1911,7 @@ row-returns t c = λ xs y p q.
 
 pub function-function_with-requires : goal.function-function_with-requires
 function-function_with-requires t c =
-    let h = have_ends c.args.work.now c.args.kids.now c.in-Some.x.before.now c.in-Some.x.last c.in-Some.ensures c.requires.parts in (omega arith, (c.requires.whole, (h.0, h.1)))
+    let h = ends_within c.args.work.now c.args.kids.now c.in-Some.x.before.now c.in-Some.x.last c.in-Some.ensures c.requires.parts in (omega arith, (c.requires.whole, (h.0, h.1)))
 
 pub function-returns-in-None : goal.function-returns-in-None
 function-returns-in-None t c =
@@ -1915,7 +1932,7 @@ function_with-prototype-requires t c =
       omega arith,
       (
         a.whole,
-        has_kept c.args.work.now c.within.new.work c.args.parameters a.grows.keeps
+        still_within c.args.work.now c.within.new.work c.args.parameters a.grows.keeps
             c.requires.parameters,
       ),
     )
@@ -1936,14 +1953,15 @@ function_with-returns t c = λ xs y p q.
 
 pub prototype-parameter_list-requires : goal.prototype-parameter_list-requires
 prototype-parameter_list-requires t c =
+    let some = deep c.args.work.now c.args.k c.requires.part in
     let u = c.args.work.now in
     let a = c.in_ok-enter.ensures in (
       omega arith,
       (
         a.whole,
-        have_kept u c.enter.new.work c.as_slice.result.now a.grows.keeps
-            (subst (λ (ks : List ℕ). HaveParts u ks) (sym c.as_slice.ensures)
-            (have_kids u c.args.k c.in_ok-node.node.now c.requires.part c.in_ok-node.ensures)),
+        within_kept u c.enter.new.work c.as_slice.result.now a.grows.keeps
+            (subst (λ (ks : List ℕ). PartsWithin u (c.args.depth - 1) ks) (sym c.as_slice.ensures)
+            (kids_within u c.args.k c.node_at-node.result.now c.requires.part c.node_at-node.ensures)),
       ),
     )
 
@@ -1951,9 +1969,9 @@ pub prototype-close-requires : goal.prototype-close-requires
 prototype-close-requires t c =
     let u = c.args.work.now in
     let a = c.in_ok-enter.ensures in
-    let h = have_kept u c.enter.new.work c.as_slice.result.now a.grows.keeps
-    (subst (λ (ks : List ℕ). HaveParts u ks) (sym c.as_slice.ensures)
-    (have_kids u c.args.k c.in_ok-node.node.now c.requires.part c.in_ok-node.ensures)) in
+    let h = within_kept u c.enter.new.work c.as_slice.result.now a.grows.keeps
+    (subst (λ (ks : List ℕ). PartsWithin u (c.args.depth - 1) ks) (sym c.as_slice.ensures)
+    (kids_within u c.args.k c.node_at-node.result.now c.requires.part c.node_at-node.ensures)) in
     (c.in_ok-params.ensures h.syntax h.are).whole
 
 pub prototype-returns : goal.prototype-returns
@@ -1962,8 +1980,8 @@ prototype-returns t c = λ x p.
     let v = c.enter.new.work in
     let w = c.parameter_list.new.work in
     let z = c.close.new.work in
-    let n = c.in_ok-node.node.now in
-    let o = opened u c.args.k x n p c.in_ok-node.ensures in
+    let n = c.node_at-node.result.now in
+    let o = opened u c.args.k x n p c.node_at-node.ensures in
     let a = c.in_ok-enter.ensures in
     let kids = parts_kept u v c.as_slice.result.now o.parts a.grows.keeps
     (subst (λ (ks : List ℕ). AreParts u ks o.parts) (sym c.as_slice.ensures) o.node.parts) in
@@ -1995,16 +2013,16 @@ parameter_list-parameter-requires t c =
       omega arith,
       (
         c.loop-part.invariant.whole,
-        have_first v c.in-Some.part.first c.in-Some.part.others.now
-            (subst (λ (z : List ℕ). HaveParts v z) c.in-Some.ensures c.loop-part.invariant.parts),
+        first_within v c.in-Some.part.first c.in-Some.part.others.now
+            (subst (λ (z : List ℕ). PartsWithin v c.args.depth z) c.in-Some.ensures c.loop-part.invariant.parts),
       ),
     )
 
 pub parameter_list-declare_parameter-requires : goal.parameter_list-declare_parameter-requires
 parameter_list-declare_parameter-requires t c =
     let v = c.loop-part.work in
-    let f = have_first v c.in-Some.part.first c.in-Some.part.others.now
-    (subst (λ (z : List ℕ). HaveParts v z) c.in-Some.ensures c.loop-part.invariant.parts) in
+    let f = first_within v c.in-Some.part.first c.in-Some.part.others.now
+    (subst (λ (z : List ℕ). PartsWithin v c.args.depth z) c.in-Some.ensures c.loop-part.invariant.parts) in
     let a = c.in_ok-p.ensures f.syntax f.is in
     record { whole = a.whole; there = a.there }
 
@@ -2025,13 +2043,13 @@ parameter_list-loop-part-preserved t c =
     let z = c.declare_parameter.new.work in
     let k = c.in-Some.part.first in
     let ks = c.in-Some.part.others.now in
-    let h = subst (λ (y : List ℕ). HaveParts v y) c.in-Some.ensures c.loop-part.invariant.parts in
-    let f = have_first v k ks h in
+    let h = subst (λ (y : List ℕ). PartsWithin v c.args.depth y) c.in-Some.ensures c.loop-part.invariant.parts in
+    let f = first_within v k ks h in
     let a = c.in_ok-p.ensures f.syntax f.is in
     let b = c.in_ok-declare_parameter.ensures.answers in
     record {
       whole = b.whole;
-      parts = have_kept w z ks b.grows.keeps (have_kept v w ks a.grows.keeps (have_others v k ks h));
+      parts = within_kept w z ks b.grows.keeps (within_kept v w ks a.grows.keeps (others_within v k ks h));
       reads = λ xs q. params_grow c.args.work.now v w z k ks c.is_lone-only.result
           (parameter_list 0 (length (readings xs) == 1) (readings xs)) c.loop-part.params.items
           c.declare_parameter.new.params.items c.in_ok-p.p c.if-p.false
@@ -2054,12 +2072,13 @@ parameter_list-returns t c = λ xs q.
 
 pub parameter-parameter_at-requires : goal.parameter-parameter_at-requires
 parameter-parameter_at-requires t c =
+    let some = deep c.args.work.now c.args.k c.requires.part in
     let u = c.args.work.now in (
       omega arith,
       (
         c.requires.whole,
-        subst (λ (ks : List ℕ). HaveParts u ks) (sym c.as_slice.ensures)
-            (have_kids u c.args.k c.in_ok-node.node.now c.requires.part c.in_ok-node.ensures),
+        subst (λ (ks : List ℕ). PartsWithin u (c.args.depth - 1) ks) (sym c.as_slice.ensures)
+            (kids_within u c.args.k c.node_at-node.result.now c.requires.part c.node_at-node.ensures),
       ),
     )
 
@@ -2067,8 +2086,8 @@ pub parameter-returns-in-Parameter : goal.parameter-returns-in-Parameter
 parameter-returns-in-Parameter t c = λ x p.
     let u = c.args.work.now in
     let w = c.parameter_at.new.work in
-    let n = c.in_ok-node.node.now in
-    let o = opened u c.args.k x n p c.in_ok-node.ensures in
+    let n = c.node_at-node.result.now in
+    let o = opened u c.args.k x n p c.node_at-node.ensures in
     at_node u w n x (λ r. r.parameter c.args.only) ParamThere (in_any IsParam) c.parameter_at.result o
     (subst (λ (l : Lexeme). Answers quietly u w (parameter_of l (readings o.parts) c.args.only) ParamThere
     (in_any IsParam) c.parameter_at.result)
@@ -2081,8 +2100,8 @@ parameter_at-unstored-requires t c = (
   omega arith,
   (
     c.requires.whole,
-    have_first c.args.work.now c.in-Some.part.first c.in-Some.part.others.now
-        (subst (λ (z : List ℕ). HaveParts c.args.work.now z) c.in-Some.ensures c.requires.parts),
+    first_within c.args.work.now c.in-Some.part.first c.in-Some.part.others.now
+        (subst (λ (z : List ℕ). PartsWithin c.args.work.now c.args.depth z) c.in-Some.ensures c.requires.parts),
   ),
 )
 
@@ -2091,10 +2110,10 @@ parameter_at-within-requires t c =
     let u = c.args.work.now in
     let k = c.in-Some.part.first in
     let ks = c.in-Some.part.others.now in
-    let h = subst (λ (z : List ℕ). HaveParts u z) c.in-Some.ensures c.requires.parts in
-    let f = have_first u k ks h in
+    let h = subst (λ (z : List ℕ). PartsWithin u c.args.depth z) c.in-Some.ensures c.requires.parts in
+    let f = first_within u k ks h in
     let a = c.in_ok-s-in-Some.ensures f.syntax f.is in
-    (omega arith, (a.whole, have_kept u c.unstored.new.work ks a.grows.keeps (have_others u k ks h)))
+    (omega arith, (a.whole, within_kept u c.unstored.new.work ks a.grows.keeps (others_within u k ks h)))
 
 pub parameter_at-parameter_from-requires : goal.parameter_at-parameter_from-requires
 parameter_at-parameter_from-requires t c =
@@ -2103,10 +2122,10 @@ parameter_at-parameter_from-requires t c =
     let w = c.within.new.work in
     let k = c.in-Some.part.first in
     let ks = c.in-Some.part.others.now in
-    let h = subst (λ (z : List ℕ). HaveParts u z) c.in-Some.ensures c.requires.parts in
-    let f = have_first u k ks h in
+    let h = subst (λ (z : List ℕ). PartsWithin u c.args.depth z) c.in-Some.ensures c.requires.parts in
+    let f = first_within u k ks h in
     let a = c.in_ok-s-in-Some.ensures f.syntax f.is in
-    let g = have_kept u v ks a.grows.keeps (have_others u k ks h) in
+    let g = within_kept u v ks a.grows.keeps (others_within u k ks h) in
     let b = c.in_ok-d-in-Some.ensures g.syntax g.are in
     record {
       whole = b.whole;
@@ -2145,12 +2164,12 @@ parameter_at-returns-in_ok-d-in-Some t c = λ xs p.
 
 pub member-returns-in_err-s-in-Some : goal.member-returns-in_err-s-in-Some
 member-returns-in_err-s-in-Some t c =
-    let e = err_from_is_err_and c.from_residual-in_err-s-in-Some.result c.from_residual-in_err-s-in-Some.ensures.1 in
+    let e = err_from_is_err_and c.from_residual.result c.from_residual.ensures.1 in
     λ x ms p a.
     let u = c.args.work.now in
     let v = c.unstored.new.work in
-    let n = c.in_ok-node.node.now in
-    let o = opened u c.args.k x n p c.in_ok-node.ensures in
+    let n = c.node_at-node.result.now in
+    let o = opened u c.args.k x n p c.node_at-node.ensures in
     let m = behind u n.kids c.in-Some.part.first c.in-Some.part.others.now
     (sym c.as_slice-kids.ensures ∙ c.in-Some.ensures) o.parts o.node.parts in
     let b = c.has_register-register.result in
@@ -2254,8 +2273,8 @@ prototype-returns-in_err-params t c =
     let u = c.args.work.now in
     let v = c.enter.new.work in
     let w = c.parameter_list.new.work in
-    let n = c.in_ok-node.node.now in
-    let o = opened u c.args.k x n p c.in_ok-node.ensures in
+    let n = c.node_at-node.result.now in
+    let o = opened u c.args.k x n p c.node_at-node.ensures in
     let a = c.in_ok-enter.ensures in
     let kids = parts_kept u v c.as_slice.result.now o.parts a.grows.keeps
     (subst (λ (ks : List ℕ). AreParts u ks o.parts) (sym c.as_slice.ensures) o.node.parts) in
@@ -2269,8 +2288,8 @@ prototype-returns-in_err-scope t c =
     let v = c.enter.new.work in
     let w = c.parameter_list.new.work in
     let z = c.close.new.work in
-    let n = c.in_ok-node.node.now in
-    let o = opened u c.args.k x n p c.in_ok-node.ensures in
+    let n = c.node_at-node.result.now in
+    let o = opened u c.args.k x n p c.node_at-node.ensures in
     let a = c.in_ok-enter.ensures in
     let kids = parts_kept u v c.as_slice.result.now o.parts a.grows.keeps
     (subst (λ (ks : List ℕ). AreParts u ks o.parts) (sym c.as_slice.ensures) o.node.parts) in
@@ -2280,11 +2299,11 @@ prototype-returns-in_err-scope t c =
 
 pub specified-returns-in_err-named : goal.specified-returns-in_err-named
 specified-returns-in_err-named t c =
-    let e = err_from_is_err_and c.from_residual-in_err-named.result c.from_residual-in_err-named.ensures.1 in λ x p.
+    let e = err_from_is_err_and c.from_residual.result c.from_residual.ensures.1 in λ x p.
     let u = c.args.work.now in
     let v = c.named_types.new.work in
-    let n = c.in_ok-node.node.now in
-    let o = opened u c.args.k x n p c.in_ok-node.ensures in
+    let n = c.node_at-node.result.now in
+    let o = opened u c.args.k x n p c.node_at-node.ensures in
     let lone : c.is_lone-lone.result ≡ (c.args.alone && length n.kids == 1) =
     c.is_lone-lone.ensures ∙ ap (λ (ks : List ℕ). c.args.alone && length ks == 1) c.as_slice-kids.ensures in
     let kids = subst (λ (ks : List ℕ). AreParts u ks o.parts) (sym c.as_slice-kids.ensures) o.node.parts in
@@ -2361,3 +2380,57 @@ valued-returns-in_err-c-in-Some t c =
     (λ s z. enumerator_with n (reading m.head) (readings xs) (readings m.tail) c.args.next s m.read)
     (failed quietly u v v (declarations.constant (reading m.head)) (λ z. enumerate n z.number z.first) ConstantThere
     (in_any IsConstant) NumberThere (in_any IsNumber) _ (c.in_err-c-in-Some.ensures m.head m.first)))
+
+-- ---- nodes that are there
+
+pub operand-node_at-node-requires : goal.operand-node_at-node-requires
+operand-node_at-node-requires t c = part_there c.args.work.now c.args.k c.requires.part
+
+pub specified-node_at-node-requires : goal.specified-node_at-node-requires
+specified-node_at-node-requires t c = part_there c.args.work.now c.args.k c.requires.part
+
+pub maybe_type-node_at-node-requires : goal.maybe_type-node_at-node-requires
+maybe_type-node_at-node-requires t c = part_there c.args.work.now c.args.k c.requires.part
+
+pub type_of-node_at-node-requires : goal.type_of-node_at-node-requires
+type_of-node_at-node-requires t c = part_there c.args.work.now c.args.k c.requires.part
+
+pub member-node_at-node-requires : goal.member-node_at-node-requires
+member-node_at-node-requires t c = part_there c.args.work.now c.args.k c.requires.part
+
+pub enumerator-node_at-node-requires : goal.enumerator-node_at-node-requires
+enumerator-node_at-node-requires t c = part_there c.args.work.now c.args.k c.requires.part
+
+pub derived-node_at-node-requires : goal.derived-node_at-node-requires
+derived-node_at-node-requires t c = part_there c.args.work.now c.args.k c.requires.part
+
+pub prototype-node_at-node-requires : goal.prototype-node_at-node-requires
+prototype-node_at-node-requires t c = part_there c.args.work.now c.args.k c.requires.part
+
+pub parameter-node_at-node-requires : goal.parameter-node_at-node-requires
+parameter-node_at-node-requires t c = part_there c.args.work.now c.args.k c.requires.part
+
+pub selected-node_at-node-requires : goal.selected-node_at-node-requires
+selected-node_at-node-requires t c =
+    let h = two_within c.args.work.now c.args.kids.now c.in-Some.x.first c.in-Some.x.second c.in-Some.ensures
+    c.requires.parts in
+    part_there c.args.work.now c.in-Some.x.second h.1
+
+pub call-node_at-node-requires : goal.call-node_at-node-requires
+call-node_at-node-requires t c =
+    let u = c.args.work.now in
+    part_there u c.in-Some.part.first
+    (first_within u c.in-Some.part.first c.in-Some.part.others.now
+    (subst (λ (z : List ℕ). PartsWithin u c.args.depth z) c.in-Some.ensures c.requires.parts))
+
+pub call-library-service-requires : goal.call-library-service-requires
+call-library-service-requires t c =
+    let u = c.args.work.now in
+    first_within u c.in-Some.part.first c.in-Some.part.others.now
+    (subst (λ (z : List ℕ). PartsWithin u c.args.depth z) c.in-Some.ensures c.requires.parts)
+
+pub record_specifier-tag_of-found-requires : goal.record_specifier-tag_of-found-requires
+record_specifier-tag_of-found-requires t c = have_parts c.args.work.now c.args.kids.now c.requires.parts
+
+pub enum_specifier-tag_of-found-requires : goal.enum_specifier-tag_of-found-requires
+enum_specifier-tag_of-found-requires t c = have_parts c.args.work.now c.args.kids.now c.requires.parts

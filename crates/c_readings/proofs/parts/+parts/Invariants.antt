@@ -2,7 +2,7 @@ use Rattle.std.proofs.Common.{◌+◌, ◌*◌, length}
 use Rattle.c_tree.specs.Syntax.{Syns}
 use Rattle.c_expressions.specs.Nodes.{IsWhole}
 use Rattle.c_elaborator.specs.Parts.{AreParts}
-use Rattle.c_elaborator.specs.Parts.{HaveParts}
+use Rattle.c_readings.specs.Within.{PartsWithin}
 use Rattle.c_readings.specs.Gathered.{ReadSoFar}
 use Rattle.std.specs.Prelude.{◌≡◌, ◌==◌, List, [], map, pos}
 use Rattle.c_tree.specs.Scopes.{Part}
@@ -125,7 +125,7 @@ decreases-arguments-loop-part l = length l.left
 abbrev pub invariant-arguments-loop-part : goal.invariant-arguments-loop-part
 invariant-arguments-loop-part l = record {
   whole : IsWhole l.work.nodes;
-  parts : HaveParts l.work l.left;
+  parts : PartsWithin l.work l.depth l.left;
   reads : (xs : Syns) → AreParts l.fn.work l.fn.kids xs → ReadSoFar l.fn.work l.work xs l.left l.values;
 }
 
@@ -270,7 +270,7 @@ decreases-parameter_list-loop-part l = length l.left
 abbrev pub invariant-named_types-loop-part : goal.invariant-named_types-loop-part
 invariant-named_types-loop-part l = record {
   whole : IsWhole l.work.nodes;
-  parts : HaveParts l.work l.left;
+  parts : PartsWithin l.work l.depth l.left;
   there : TypesThere l.work l.types;
   reads : (xs : Syns) → AreParts l.fn.work l.fn.kids xs →
       SoFar l.fn.work l.work l.left (named_types l.fn.alone xs (readings xs)) (types_on l.fn.alone)
@@ -280,7 +280,7 @@ invariant-named_types-loop-part l = record {
 abbrev pub invariant-all_members-loop-part : goal.invariant-all_members-loop-part
 invariant-all_members-loop-part l = record {
   whole : IsWhole l.work.nodes;
-  parts : HaveParts l.work l.left;
+  parts : PartsWithin l.work l.depth l.left;
   there : AllMembersThere l.work l.members;
   reads : (xs : Syns) → AreParts l.fn.work l.fn.kids xs →
       SoFar l.fn.work l.work l.left (all_members (readings xs) []) members_on (AllMembersThere l.work l.members)
@@ -291,7 +291,7 @@ abbrev pub invariant-member_declarators-loop-part : goal.invariant-member_declar
 invariant-member_declarators-loop-part l = record {
   whole : IsWhole l.work.nodes;
   keeps : Keeps l.fn.work l.work;
-  parts : HaveParts l.work l.left;
+  parts : PartsWithin l.work l.depth l.left;
   there : AllMembersThere l.work l.all;
   reads : (y : Specified) (xs : Syns) (zs : List Part) → IsSpecified l.fn.work l.fn.s y →
       AreParts l.fn.work l.fn.kids xs → AreMembers l.fn.work l.fn.members.all.items zs →
@@ -302,7 +302,7 @@ invariant-member_declarators-loop-part l = record {
 abbrev pub invariant-enumerators-loop-part : goal.invariant-enumerators-loop-part
 invariant-enumerators-loop-part l = record {
   whole : IsWhole l.work.nodes;
-  parts : HaveParts l.work l.left;
+  parts : PartsWithin l.work l.depth l.left;
   reads : (xs : Syns) → AreParts l.fn.work l.fn.kids xs →
       SoFar l.fn.work l.work l.left (enumerators (readings xs) (pos 0)) enumerators_on (NumberThere l.work l.next)
       (λ z. z ≡ l.next);
@@ -311,7 +311,7 @@ invariant-enumerators-loop-part l = record {
 abbrev pub invariant-parameter_list-loop-part : goal.invariant-parameter_list-loop-part
 invariant-parameter_list-loop-part l = record {
   whole : IsWhole l.work.nodes;
-  parts : HaveParts l.work l.left;
+  parts : PartsWithin l.work l.depth l.left;
   reads : (xs : Syns) → AreParts l.fn.work l.fn.kids xs →
       ParamsSoFar l.fn.work l.work l.left l.only
       (parameter_list 0 (length (readings xs) == 1) (readings xs)) l.params.items;

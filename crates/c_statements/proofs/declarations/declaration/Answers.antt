@@ -6,20 +6,22 @@ use Rattle.c_tree.specs.Declarations.{declaration}
 use Rattle.c_tree.specs.Programs.{readings}
 use Rattle.c_elaborator.specs.declared.work.Work.{Work}
 use Rattle.c_elaborator.specs.Answers.{Answers, freely}
-use Rattle.c_elaborator.specs.Parts.{AreParts, HaveParts}
-use Rattle.c_readings.proofs.Kids.{cut, no_parts, have_first, have_others}
+use Rattle.c_elaborator.specs.Parts.{AreParts}
+use Rattle.c_readings.proofs.Kids.{cut, no_parts}
 use Rattle.c_elaborator.specs.Items.{ItemsThere, IsItems}
 use Rattle.c_statements.proofs.Standing.{declaration_none, declaration_is}
+use Rattle.c_readings.specs.Within.{PartsWithin}
+use Rattle.c_readings.proofs.Within.{first_within, others_within}
 use Rattle.c_statements.proofs.declarations.declaration.Goals as goal
 
 pub declare_list-requires : goal.declare_list-requires
 declare_list-requires c =
     let u : Work = c.args.work.now in
-    let h = subst (λ (ks : List ℕ). HaveParts u ks) c.in-Some.ensures c.requires.parts in
+    let h = subst (λ (ks : List ℕ). PartsWithin u c.args.depth ks) c.in-Some.ensures c.requires.parts in
     record {
       whole = c.requires.whole;
-      part = have_first u c.in-Some.x.first c.in-Some.x.others.now h;
-      parts = have_others u c.in-Some.x.first c.in-Some.x.others.now h;
+      part = first_within u c.in-Some.x.first c.in-Some.x.others.now h;
+      parts = others_within u c.in-Some.x.first c.in-Some.x.others.now h;
     }
 
 pub returns-in-None : goal.returns-in-None

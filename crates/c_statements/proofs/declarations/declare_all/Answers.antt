@@ -6,11 +6,11 @@ use Rattle.c_tree.specs.Declarations.{declare_all}
 use Rattle.c_tree.specs.Programs.{reading, readings}
 use Rattle.c_elaborator.specs.declared.work.Work.{Work}
 use Rattle.c_elaborator.proofs.Sequencing.{keeps_same, keeps_then, type_there}
-use Rattle.c_elaborator.specs.Parts.{HaveParts}
-use Rattle.c_readings.proofs.Kids.{have_first, have_others, have_kept}
 use Rattle.c_statements.specs.Gather.{SoFar}
 use Rattle.c_statements.proofs.Gather.{declare_all_is, so_far_begins, so_far_ends, so_far_fails, so_far_steps}
 use Rattle.c_statements.proofs.Standing.{specified_kept, some_specified, is_some_specified}
+use Rattle.c_readings.specs.Within.{PartsWithin}
+use Rattle.c_readings.proofs.Within.{first_within, others_within, within_kept}
 use Rattle.c_statements.proofs.declarations.declare_all.Goals as goal
 
 pub loop-part-init : goal.loop-part-init
@@ -32,8 +32,8 @@ declared-requires c =
     record {
       whole = i.whole;
       specified = type_there u v c.args.s.of i.keeps c.requires.specified;
-      part = have_first v c.in-Some.part.first c.in-Some.part.others.now
-          (subst (λ (z : List ℕ). HaveParts v z) c.in-Some.ensures i.parts);
+      part = first_within v c.in-Some.part.first c.in-Some.part.others.now
+          (subst (λ (z : List ℕ). PartsWithin v c.args.depth z) c.in-Some.ensures i.parts);
     }
 
 pub loop-part-preserved : goal.loop-part-preserved
@@ -45,13 +45,13 @@ loop-part-preserved c =
     let i = c.loop-part.invariant in
     let k = c.in-Some.part.first in
     let ks = c.in-Some.part.others.now in
-    let h = subst (λ (z : List ℕ). HaveParts v z) c.in-Some.ensures i.parts in
-    let f = have_first v k ks h in
+    let h = subst (λ (z : List ℕ). PartsWithin v c.args.depth z) c.in-Some.ensures i.parts in
+    let f = first_within v k ks h in
     let a = c.in_ok-more.ensures (some_specified v s) f.syntax (is_some_specified v s) f.is in
     record {
       whole = a.whole;
       keeps = keeps_then u v w i.keeps a.grows;
-      parts = have_kept v w ks a.grows (have_others v k ks h);
+      parts = within_kept v w ks a.grows (others_within v k ks h);
       found = λ y xs hy p. so_far_steps (λ r. r.declared y) u v w xs k ks c.loop-part.items c.in_ok-more.more
           c.join.new.items
           (subst (λ (z : List ℕ). SoFar (λ r. r.declared y) u v xs z c.loop-part.items) c.in-Some.ensures

@@ -6,15 +6,15 @@ use Rattle.c_tree.specs.Declarations.{declaration, declare_all, is_alone}
 use Rattle.c_tree.specs.Programs.{reading, readings}
 use Rattle.c_elaborator.specs.declared.work.Work.{Work}
 use Rattle.c_elaborator.specs.Answers.{Answers, freely, quietly}
-use Rattle.c_elaborator.specs.Parts.{AreParts, HaveParts}
 use Rattle.c_elaborator.proofs.Sequencing.{free_law, freed, failed}
 use Rattle.c_declarators.specs.Parts.{SpecifiedThere, IsSpecified, in_any}
-use Rattle.c_readings.proofs.Kids.{cut, no_parts, have_first, have_others, have_kept, parts_kept}
+use Rattle.c_readings.proofs.Kids.{parts_kept}
 use Rattle.c_elaborator.specs.Items.{ItemsThere, IsItems}
 use Rattle.c_elaborator.proofs.Shown.{then_for}
 use Rattle.c_statements.proofs.Following.{for_each}
 use Rattle.c_statements.proofs.Named.{list_unspecified}
 use Rattle.c_statements.proofs.Standing.{declaration_none, declaration_is, alone_is, some_specified, is_some_specified}
+use Rattle.c_readings.proofs.Within.{within_kept}
 use Rattle.c_statements.proofs.declarations.declare_list.Goals as goal
 
 pub declare_all-requires : goal.declare_all-requires
@@ -25,7 +25,7 @@ declare_all-requires c =
     record {
       whole = a.whole;
       specified = a.there;
-      parts = have_kept u v c.args.others.now a.grows.keeps c.requires.parts;
+      parts = within_kept u v c.args.others.now a.grows.keeps c.requires.parts;
     }
 
 pub returns-in_err-s : goal.returns-in_err-s

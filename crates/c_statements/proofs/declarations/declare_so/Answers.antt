@@ -37,7 +37,7 @@ initialize-requires c =
     record {
       whole = b.whole;
       there = type_there v w c.in_ok-f.f.of b.grows a.there;
-      behind = has_behind_kept u w c.args.behind (keeps_then u v w a.grows.keeps b.grows) c.requires.behind;
+      behind = has_behind_kept c.args.depth u w c.args.behind (keeps_then u v w a.grows.keeps b.grows) c.requires.behind;
     }
 
 pub returns-in_err-f : goal.returns-in_err-f

@@ -14,7 +14,11 @@ use Rattle.c_elaborator.proofs.Shown.{then_for}
 use Rattle.c_statements.specs.Declaring.{behind_in}
 use Rattle.c_statements.proofs.Following.{for_each, fails_freed}
 use Rattle.c_statements.proofs.Standing.{has_behind_kept, behind_kept, specified_kept, some_derived, is_some_derived}
+use Rattle.c_readings.proofs.Within.{have_parts}
 use Rattle.c_statements.proofs.declarations.declare_with.Goals as goal
+
+pub behind_of-behind-requires : goal.behind_of-behind-requires
+behind_of-behind-requires c = have_parts c.args.work.now c.args.others.now c.requires.parts
 
 pub declare_named-requires : goal.declare_named-requires
 declare_named-requires c =
@@ -26,11 +30,12 @@ declare_named-requires c =
       specified = type_there u v c.args.s.of a.grows.keeps c.requires.specified;
       derived = a.there;
       behind =
-          has_behind_kept u v c.in_ok-behind.behind a.grows.keeps c.in_ok-behind.ensures.there;
+          has_behind_kept c.args.depth u v c.behind_of-behind.result a.grows.keeps
+          (c.behind_of-behind.ensures.there c.args.depth c.requires.parts);
     }
 
 pub returns-in_err-d : goal.returns-in_err-d
-returns-in_err-d c = let q = err_from_is_err_and c.from_residual-in_err-d.result c.from_residual-in_err-d.ensures.1 in
+returns-in_err-d c = let q = err_from_is_err_and c.from_residual.result c.from_residual.ensures.1 in
     λ y x ys hy hx hys.
     let u : Work = c.args.work.now in
     let v : Work = c.derived.new.work in
@@ -54,4 +59,4 @@ returns c = λ y x ys hy hx hys.
     (is_some_derived v d)
     (λ s e h. derived_weaker (shown_in v s) any_scope v d e (λ m n i. tt) h)
     (λ e h. c.declare_named.ensures y e (behind_in ys) (specified_kept u v c.args.s y k c.requires.specified hy) h
-    (behind_kept u v c.in_ok-behind.behind (behind_in ys) k (c.in_ok-behind.ensures.is ys hys))))
+    (behind_kept u v c.behind_of-behind.result (behind_in ys) k (c.behind_of-behind.ensures.is ys hys))))

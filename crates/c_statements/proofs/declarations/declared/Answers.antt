@@ -7,32 +7,37 @@ use Rattle.c_tree.specs.Declarations.{init_declarator}
 use Rattle.c_tree.specs.Programs.{reading, readings}
 use Rattle.c_elaborator.specs.declared.work.Work.{Work}
 use Rattle.c_elaborator.specs.Answers.{Answers, freely}
-use Rattle.c_elaborator.specs.Parts.{AreParts, HaveParts}
-use Rattle.c_readings.proofs.Kids.{opened, cut, no_parts, have_kids, have_first, have_others}
+use Rattle.c_elaborator.specs.Parts.{AreParts}
+use Rattle.c_readings.proofs.Kids.{opened, cut, no_parts}
 use Rattle.c_elaborator.specs.Items.{ItemsThere, IsItems}
 use Rattle.c_statements.specs.Declaring.{declares_with}
 use Rattle.c_statements.proofs.Standing.{reading_node, declarator_is, declarator_none}
+use Rattle.c_readings.specs.Within.{PartsWithin}
+use Rattle.c_readings.proofs.Within.{first_within, kids_low, others_within, part_there}
 use Rattle.c_statements.proofs.declarations.declared.Goals as goal
+
+pub node_at-node-requires : goal.node_at-node-requires
+node_at-node-requires c = part_there c.args.work.now c.args.k c.requires.part
 
 pub declare_with-requires : goal.declare_with-requires
 declare_with-requires c =
     let u : Work = c.args.work.now in
     let k = c.in-Some.x.first in
     let rest = c.in-Some.x.others.now in
-    let h = subst (λ (ks : List ℕ). HaveParts u ks) (sym c.as_slice.ensures ∙ c.in-Some.ensures)
-    (have_kids u c.args.k c.in_ok-node.node.now c.requires.part c.in_ok-node.ensures) in
+    let h = subst (λ (ks : List ℕ). PartsWithin u c.args.depth ks) (sym c.as_slice.ensures ∙ c.in-Some.ensures)
+    (kids_low u c.args.k c.node_at-node.result.now c.requires.part c.node_at-node.ensures) in
     record {
       whole = c.requires.whole;
       specified = c.requires.specified;
-      part = have_first u k rest h;
-      parts = have_others u k rest h;
+      part = first_within u k rest h;
+      parts = others_within u k rest h;
     }
 
 pub returns-in-None : goal.returns-in-None
 returns-in-None c = λ y x hy hx.
     let u : Work = c.args.work.now in
-    let n = c.in_ok-node.node.now in
-    let o = opened u c.args.k x n hx c.in_ok-node.ensures in
+    let n = c.node_at-node.result.now in
+    let o = opened u c.args.k x n hx c.node_at-node.ensures in
     let e : o.parts ≡ nil = no_parts u o.parts
     (subst (λ (ks : List ℕ). AreParts u ks o.parts) (sym c.as_slice.ensures ∙ c.in-None.ensures) o.node.parts)
     in
@@ -45,10 +50,10 @@ returns-in-None c = λ y x hy hx.
 pub returns-in-Some : goal.returns-in-Some
 returns-in-Some c = λ y x hy hx.
     let u : Work = c.args.work.now in
-    let n = c.in_ok-node.node.now in
+    let n = c.node_at-node.result.now in
     let k = c.in-Some.x.first in
     let rest = c.in-Some.x.others.now in
-    let o = opened u c.args.k x n hx c.in_ok-node.ensures in
+    let o = opened u c.args.k x n hx c.node_at-node.ensures in
     let m = cut u k rest o.parts (subst (λ (ks : List ℕ). AreParts u ks o.parts)
     (sym c.as_slice.ensures ∙ c.in-Some.ensures) o.node.parts) in
     subst (λ (r : Reading). Answers freely u c.declare_with.new.work

@@ -8,8 +8,9 @@ use Rattle.c_statements.specs.Statements.{ForHead, MaybeThere, IsMaybe, maybe_te
 use Rattle.c_statements.proofs.Failing.{second_failed, third_failed}
 use Rattle.c_elaborator.specs.Answers.{freely}
 use Rattle.c_elaborator.specs.Items.{context_in, ItemsThere, IsItems, items_in}
-use Rattle.c_readings.proofs.Kids.{part_kept, has_kept}
+use Rattle.c_readings.proofs.Kids.{part_kept}
 use Rattle.c_statements.proofs.Steps.{heads}
+use Rattle.c_readings.proofs.Within.{still_within}
 use Rattle.c_statements.proofs.heads.for_head.Goals as goal
 
 pub returns : goal.returns
@@ -29,7 +30,7 @@ optional_test-requires c =
     let u = c.args.work.now in
     let v = c.first_part.new.work in
     let a = c.in_ok-items.ensures c.requires.first.syntax c.requires.first.is in
-    record { whole = a.whole; part = has_kept u v c.args.parts.second a.grows c.requires.second }
+    record { whole = a.whole; part = still_within u v c.args.parts.second a.grows c.requires.second }
 
 pub optional_step-requires : goal.optional_step-requires
 optional_step-requires c =
@@ -37,11 +38,11 @@ optional_step-requires c =
     let v = c.first_part.new.work in
     let w = c.optional_test.new.work in
     let a = c.in_ok-items.ensures c.requires.first.syntax c.requires.first.is in
-    let f = has_kept u v c.args.parts.second a.grows c.requires.second in
+    let f = still_within u v c.args.parts.second a.grows c.requires.second in
     let b = c.in_ok-test.ensures f.syntax f.is in
     record {
       whole = b.whole;
-      part = has_kept u w c.args.parts.third (keeps_then u v w a.grows b.grows.keeps) c.requires.third;
+      part = still_within u w c.args.parts.third (keeps_then u v w a.grows b.grows.keeps) c.requires.third;
     }
 
 pub returns-in_err-items : goal.returns-in_err-items

@@ -19,20 +19,22 @@ use Rattle.c_initializers.specs.Slots.{FilledThere, IsFilled}
 use Rattle.c_initializers.proofs.PlaceLaws.{drop-next}
 use Rattle.c_statements.specs.declared.initial.Goal.{Goal}
 use Rattle.c_statements.specs.Initial.{asked_by, gives_items, SoFar}
-use Rattle.c_statements.proofs.Listing.{so_far_begins, so_far_steps, so_far_fails, so_far_ends, rest_have, item_there}
+use Rattle.c_statements.proofs.Listing.{so_far_begins, so_far_steps, so_far_fails, so_far_ends, item_there}
 use Rattle.c_statements.proofs.Listing.{place_is_there, part_is_there, part_refused}
 use Rattle.c_statements.proofs.Reading.{reads_braces, reads_string, reads_text, reads_value, string_same, lone_given}
-use Rattle.c_statements.proofs.Reading.{braced_listed, one_part, lone_part, first_part, node_parts}
+use Rattle.c_statements.proofs.Reading.{braced_listed, one_part, node_parts}
+use Rattle.c_readings.proofs.Within.{at_within, deep, have_parts, one_within, still_within}
 use Rattle.c_statements.proofs.initial.+initial.Goals as goal
 
 pub initializer-braced-requires : goal.initializer-braced-requires
-initializer-braced-requires t c = (
-  omega arith,
-  (
-    c.requires.whole,
-    (c.requires.there, node_parts c.args.work.now c.args.k c.in_ok-part.part c.in_ok-part.ensures c.requires.part),
-  ),
-)
+initializer-braced-requires t c =
+    let some = deep c.args.work.now c.args.k c.requires.part in (
+      omega arith,
+      (
+        c.requires.whole,
+        (c.requires.there, node_parts c.args.work.now c.args.k c.in_ok-part.part c.in_ok-part.ensures c.requires.part),
+      ),
+    )
 
 pub initializer-returns-in-BracedInitializer : goal.initializer-returns-in-BracedInitializer
 initializer-returns-in-BracedInitializer t c = λ x p.
@@ -77,13 +79,20 @@ initializer-returns-in_default t c = λ x p.
     (λ e. c.in_default.not-BracedInitializer (sym n.kind ∙ e)) (λ e. c.in_default.not-Text (sym n.kind ∙ e))))
     (c.plain_value-in_default.ensures x p)
 
+pub braced-lone_text-requires : goal.braced-lone_text-requires
+braced-lone_text-requires t c = record {
+  whole = c.requires.whole;
+  there = c.requires.there;
+  parts = have_parts c.args.work.now c.args.kids.now c.requires.parts;
+}
+
 pub braced-initializer-requires : goal.braced-initializer-requires
 braced-initializer-requires t c =
     let l = rw c.in-Some.is at c.in_ok-k.ensures in (
       omega arith,
       (
         c.requires.whole,
-        (c.requires.there, lone_part c.args.work.now c.in-Some.k c.args.kids.now l.0 c.requires.parts),
+        (c.requires.there, one_within c.args.work.now c.args.kids.now c.in-Some.k l.0 c.requires.parts),
       ),
     )
 
@@ -145,10 +154,7 @@ listed-initializer-requires t c =
     let u = c.args.work.now in
     let v = c.loop-k.work in
     let i = c.loop-k.k-index in
-    let ks = c.args.kids.now in
-    let given = c.loop-k.slots.items in
-    let xs = c.requires.parts.syntax in
-    let so_far = subst (λ (js : List ℕ). SoFar u v c.args.goal c.args.brace xs i js given) (drop-next ks i 0 c.loop-k-test.true) (c.loop-k.invariant.given xs c.requires.parts.are) in (
+    let ks = c.args.kids.now in (
       omega arith,
       (
         c.loop-k.invariant.whole,
@@ -156,8 +162,8 @@ listed-initializer-requires t c =
           part_is_there u v c.args.goal c.in_ok-part.part c.args.places.now
               (length ks) c.loop-k.number c.args.brace c.requires.places c.loop-k.invariant.keeps
               (c.in_ok-part.ensures {u = tt}),
-          first_part v (get_or ks i 0) (drop (i + 1) ks)
-              (rest_have u v c.args.goal c.args.brace xs i (get_or ks i 0 ∷ drop (i + 1) ks) given so_far),
+          still_within u v (get_or ks i 0) c.loop-k.invariant.keeps
+              (at_within u ks i 0 c.loop-k-test.true c.requires.parts),
         ),
       ),
     )
@@ -204,10 +210,7 @@ listed-loop-k-preserved t c =
     let a = c.requires.places in
     let part = c.in_ok-part.part in
     let h = c.in_ok-part.ensures {u = tt} in
-    let ys = c.requires.parts.syntax in
-    let here = subst (λ (js : List ℕ). SoFar u v g c.args.brace ys i js given) (drop-next ks i 0 c.loop-k-test.true)
-    (c.loop-k.invariant.given ys c.requires.parts.are) in
-    let first = first_part v k (drop (i + 1) ks) (rest_have u v g c.args.brace ys i (k ∷ drop (i + 1) ks) given here) in
+    let first = still_within u v k c.loop-k.invariant.keeps (at_within u ks i 0 c.loop-k-test.true c.requires.parts) in
     let d = c.in_ok-filled.ensures first.syntax first.is in
     record {
       keeps = keeps_then u v w c.loop-k.invariant.keeps d.grows.keeps;

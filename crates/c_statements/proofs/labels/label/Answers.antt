@@ -1,4 +1,3 @@
-use Rattle.c_elaborator.specs.Parts.{HaveParts}
 use Rattle.std.proofs.Common.{ℕ, List, Option, None, Ok, subst, sym}
 use Rattle.c_tree.specs.Scopes.{Doing}
 use Rattle.c_tree.specs.Statements.{case_label}
@@ -6,8 +5,9 @@ use Rattle.c_expressions.specs.Nodes.{type_in}
 use Rattle.c_elaborator.specs.Answers.{Answers, quietly}
 use Rattle.c_elaborator.proofs.Sequencing.{quiet_law, gave}
 use Rattle.c_statements.specs.Statements.{LabelThere, IsLabel}
-use Rattle.c_readings.proofs.Kids.{have_first}
 use Rattle.c_statements.proofs.Parting.{at_none, at_some, label_none_is, label_some_is}
+use Rattle.c_readings.specs.Within.{PartsWithin}
+use Rattle.c_readings.proofs.Within.{first_within}
 use Rattle.c_statements.proofs.labels.label.Goals as goal
 
 pub case_value-requires : goal.case_value-requires
@@ -16,8 +16,8 @@ case_value-requires c =
     record {
       whole = c.requires.whole;
       there = c.requires.there;
-      part = have_first u c.in-Some.x.first c.in-Some.x.others.now
-          (subst (λ (z : List ℕ). HaveParts u z) c.in-Some.ensures c.requires.parts);
+      part = first_within u c.in-Some.x.first c.in-Some.x.others.now
+          (subst (λ (z : List ℕ). PartsWithin u c.args.depth z) c.in-Some.ensures c.requires.parts);
     }
 
 pub returns-in-None : goal.returns-in-None

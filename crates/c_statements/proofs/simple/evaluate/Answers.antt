@@ -1,14 +1,15 @@
 use Rattle.c_elaborator.specs.Answers.{freely}
 use Rattle.c_elaborator.specs.Items.{ItemsThere, IsItems}
 use Rattle.c_statements.specs.Statements.{evaluate_one}
-use Rattle.c_statements.proofs.Stating.{from_one, not_one, have_one}
+use Rattle.c_statements.proofs.Stating.{from_one, not_one}
+use Rattle.c_readings.proofs.Within.{one_within}
 use Rattle.c_statements.proofs.simple.evaluate.Goals as goal
 
 pub evaluate_one-requires : goal.evaluate_one-requires
 evaluate_one-requires c =
     record {
       whole = c.requires.whole;
-      part = have_one c.args.work.now c.args.kids.now c.in-Some.k c.in-Some.ensures c.requires.parts;
+      part = one_within c.args.work.now c.args.kids.now c.in-Some.k c.in-Some.ensures c.requires.parts;
     }
 
 pub returns-in-None : goal.returns-in-None

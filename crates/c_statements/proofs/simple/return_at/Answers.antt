@@ -1,10 +1,10 @@
-use Rattle.c_elaborator.specs.Parts.{HaveParts}
 use Rattle.std.proofs.Common.{ℕ, List, subst}
 use Rattle.c_elaborator.specs.Answers.{freely}
 use Rattle.c_elaborator.specs.Items.{context_in, ItemsThere, IsItems}
 use Rattle.c_statements.specs.Statements.{return_of}
-use Rattle.c_readings.proofs.Kids.{have_first}
 use Rattle.c_statements.proofs.Parting.{at_none, at_some}
+use Rattle.c_readings.specs.Within.{PartsWithin}
+use Rattle.c_readings.proofs.Within.{first_within}
 use Rattle.c_statements.proofs.simple.return_at.Goals as goal
 
 pub return_value-requires : goal.return_value-requires
@@ -13,8 +13,8 @@ return_value-requires c =
     record {
       whole = c.requires.whole;
       context = c.requires.context;
-      part = have_first u c.in-Some.x.first c.in-Some.x.others.now
-          (subst (λ (z : List ℕ). HaveParts u z) c.in-Some.ensures c.requires.parts);
+      part = first_within u c.in-Some.x.first c.in-Some.x.others.now
+          (subst (λ (z : List ℕ). PartsWithin u c.args.depth z) c.in-Some.ensures c.requires.parts);
     }
 
 pub returns-in-None : goal.returns-in-None

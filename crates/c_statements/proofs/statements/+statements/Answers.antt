@@ -10,10 +10,10 @@ use Rattle.c_tree.specs.Statements.{all_items, substatement, statement_of, does,
 use Rattle.c_tree.specs.Statements.{one_action, for_action, in_a_loop, in_a_switch, switch_item, switch_items, no_cases}
 use Rattle.c_expressions.specs.Nodes.{type_in, term_in, term_count}
 use Rattle.c_elaborator.specs.Answers.{Answers, freely, TermThere, IsTerm, action_in}
-use Rattle.c_elaborator.specs.Parts.{AreParts, HaveParts}
+use Rattle.c_elaborator.specs.Parts.{AreParts}
 use Rattle.c_elaborator.proofs.Sequencing.{answers_at, failed, freed, keeps_same, keeps_then, type_there}
 use Rattle.c_elaborator.proofs.Going.{context_kept, context_there, none_there, one_there, term_there}
-use Rattle.c_statements.proofs.Placing.{node_kept, has_node_kept, kids_of, of_kind, at_place, at_same}
+use Rattle.c_statements.proofs.Placing.{node_kept, node_within_kept, of_kind, at_place, at_same}
 use Rattle.c_statements.proofs.Failing.{second_failed, third_failed}
 use Rattle.std.proofs.lemmas.Result.{err_from_is_err_and}
 use Rattle.c_elaborator.specs.declared.items.Context.{Context}
@@ -34,37 +34,46 @@ use Rattle.c_statements.specs.Statements.{for_head, for_in, switch_in, if_with, 
 use Rattle.c_statements.specs.Statements.{inside_of, HeadThere, head_in, switched, SwitchedThere, IsSwitched}
 use Rattle.c_statements.specs.Statements.{switched_on, CasesThere, IsCases, cases_in, switch_label}
 use Rattle.c_statements.proofs.Gather.{gathered, so_far_begins, so_far_ends, so_far_fails, so_far_steps}
-use Rattle.c_readings.proofs.Kids.{opened, has_node, have_kept, has_kept, have_first, have_others, part_kept}
+use Rattle.c_readings.proofs.Kids.{opened, part_kept}
 use Rattle.c_readings.proofs.Kids.{parts_kept}
 use Rattle.c_statements.proofs.Inside.{scope_is, is_scoped, nothing_inside, evaluated_is, returned_is, case_item}
 use Rattle.c_statements.proofs.Inside.{default_item, other_item}
-use Rattle.c_statements.proofs.Parting.{for_refused, for_answers, have_four, switch_refused, switch_answers}
+use Rattle.c_statements.proofs.Parting.{for_refused, for_answers, four_within, switch_refused, switch_answers}
 use Rattle.c_elaborator.proofs.Scoping.{in_scope_items, in_scope_failed, enter_failed, alone_in_scope}
 use Rattle.c_statements.proofs.Bracing.{in_scope_cases}
-use Rattle.c_statements.proofs.Stating.{reading_node, from_two, from_three, not_two, not_three, have_two, have_three}
+use Rattle.c_statements.proofs.Stating.{reading_node, from_two, from_three, not_two, not_three}
 use Rattle.c_statements.proofs.Steps.{Adds, for_names_values, maybe_there, same_block, blocks, ifs, ifs_else, whiles}
 use Rattle.c_statements.proofs.Steps.{dos, fors, switches}
+use Rattle.c_readings.specs.Within.{PartsWithin}
+use Rattle.c_readings.proofs.Within.{deep, first_within, kids_in, node_low, node_of, others_within, part_there}
+use Rattle.c_readings.proofs.Within.{still_within, three_within, two_within, within_kept}
 use Rattle.c_statements.proofs.statements.+statements.Goals as goal
 
 pub item-statement-requires : goal.item-statement-requires
-item-statement-requires t c = (
-  omega arith,
-  (
-    c.requires.whole,
-    (
-      c.requires.context,
-      has_node c.args.work.now c.args.k c.in_ok-node.node.now c.requires.part
-          c.in_ok-node.ensures,
-    ),
-  ),
-)
+item-statement-requires t c =
+    let some = deep c.args.work.now c.args.k c.requires.part in (
+      omega arith,
+      (
+        c.requires.whole,
+        (
+          c.requires.context,
+          node_of c.args.work.now c.args.k c.node_at-node.result.now c.requires.part c.node_at-node.ensures,
+        ),
+      ),
+    )
+
+pub item-node_at-node-requires : goal.item-node_at-node-requires
+item-node_at-node-requires t c = part_there c.args.work.now c.args.k c.requires.part
+
+pub switch_item-node_at-node-requires : goal.switch_item-node_at-node-requires
+switch_item-node_at-node-requires t c = part_there c.args.work.now c.args.k c.requires.part
 
 pub item-returns : goal.item-returns
 item-returns t c = λ x p.
-    let o = opened c.args.work.now c.args.k x c.in_ok-node.node.now p c.in_ok-node.ensures in
+    let o = opened c.args.work.now c.args.k x c.node_at-node.result.now p c.node_at-node.ensures in
     subst (λ (q : Reading). Answers freely c.args.work.now c.statement.new.work
     (q.item (context_in c.args.work.now c.args.context)) ItemsThere IsItems c.statement.result)
-    (sym (ap reading o.is ∙ reading_node c.in_ok-node.node.now.kind o.token o.parts))
+    (sym (ap reading o.is ∙ reading_node c.node_at-node.result.now.kind o.token o.parts))
     (c.statement.ensures o.token o.parts o.node)
 
 pub scoped-returns : goal.scoped-returns
@@ -97,8 +106,8 @@ all_items-item-requires t c =
         c.loop-part.invariant.whole,
         (
           context_there c.args.work.now v c.args.context c.loop-part.invariant.keeps c.requires.context,
-          have_first v c.in-Some.part.first c.in-Some.part.others.now
-              (subst (λ (z : List ℕ). HaveParts v z) c.in-Some.ensures c.loop-part.invariant.parts),
+          first_within v c.in-Some.part.first c.in-Some.part.others.now
+              (subst (λ (z : List ℕ). PartsWithin v c.args.depth z) c.in-Some.ensures c.loop-part.invariant.parts),
         ),
       ),
     )
@@ -112,13 +121,13 @@ all_items-loop-part-preserved t c =
     let ks = c.in-Some.part.others.now in
     let step = λ (d : meant.Context) (r : Reading). r.item d in
     let same = context_kept u v c.args.context c.loop-part.invariant.keeps c.requires.context in
-    let h = subst (λ (z : List ℕ). HaveParts v z) c.in-Some.ensures c.loop-part.invariant.parts in
-    let f = have_first v k ks h in
+    let h = subst (λ (z : List ℕ). PartsWithin v c.args.depth z) c.in-Some.ensures c.loop-part.invariant.parts in
+    let f = first_within v k ks h in
     let a = c.in_ok-more.ensures f.syntax f.is in
     record {
       whole = a.whole;
       keeps = keeps_then u v w c.loop-part.invariant.keeps a.grows;
-      parts = have_kept v w ks a.grows (have_others v k ks h);
+      parts = within_kept v w ks a.grows (others_within v k ks h);
       found = λ xs q. so_far_steps (step (context_in u c.args.context)) u v w xs k ks c.loop-part.items
           c.in_ok-more.more c.join.new.items
           (subst (λ (z : List ℕ). SoFar (step (context_in u c.args.context)) u v xs z c.loop-part.items)
@@ -149,7 +158,7 @@ block-returns t c = λ xs q.
 
 pub if_one-if_with-requires : goal.if_one-if_with-requires
 if_one-if_with-requires t c =
-    let h = have_two c.args.work.now c.args.kids.now c.in-Some.x.first c.in-Some.x.second c.in-Some.ensures c.requires.parts in (omega arith, (c.requires.whole, (c.requires.context, (h.0, h.1))))
+    let h = two_within c.args.work.now c.args.kids.now c.in-Some.x.first c.in-Some.x.second c.in-Some.ensures c.requires.parts in (omega arith, (c.requires.whole, (c.requires.context, (h.0, h.1))))
 
 pub if_one-returns-in-Some : goal.if_one-returns-in-Some
 if_one-returns-in-Some t c =
@@ -177,7 +186,7 @@ if_with-returns t c = λ x y p q.
 
 pub while_loop-while_with-requires : goal.while_loop-while_with-requires
 while_loop-while_with-requires t c =
-    let h = have_two c.args.work.now c.args.kids.now c.in-Some.x.first c.in-Some.x.second c.in-Some.ensures c.requires.parts in (omega arith, (c.requires.whole, (c.requires.context, (h.0, h.1))))
+    let h = two_within c.args.work.now c.args.kids.now c.in-Some.x.first c.in-Some.x.second c.in-Some.ensures c.requires.parts in (omega arith, (c.requires.whole, (c.requires.context, (h.0, h.1))))
 
 pub while_loop-returns-in-Some : goal.while_loop-returns-in-Some
 while_loop-returns-in-Some t c =
@@ -192,7 +201,7 @@ while_loop-returns-in-None t c =
 
 pub do_loop-do_with-requires : goal.do_loop-do_with-requires
 do_loop-do_with-requires t c =
-    let h = have_two c.args.work.now c.args.kids.now c.in-Some.x.first c.in-Some.x.second c.in-Some.ensures c.requires.parts in (omega arith, (c.requires.whole, (c.requires.context, (h.0, h.1))))
+    let h = two_within c.args.work.now c.args.kids.now c.in-Some.x.first c.in-Some.x.second c.in-Some.ensures c.requires.parts in (omega arith, (c.requires.whole, (c.requires.context, (h.0, h.1))))
 
 pub do_loop-returns-in-Some : goal.do_loop-returns-in-Some
 do_loop-returns-in-Some t c =
@@ -207,7 +216,7 @@ do_loop-returns-in-None t c =
 
 pub if_else-if_else_with-requires : goal.if_else-if_else_with-requires
 if_else-if_else_with-requires t c =
-    let h = have_three c.args.work.now c.args.kids.now c.in-Some.x.first c.in-Some.x.second c.in-Some.x.third
+    let h = three_within c.args.work.now c.args.kids.now c.in-Some.x.first c.in-Some.x.second c.in-Some.x.third
     c.in-Some.ensures c.requires.parts in
     (omega arith, (c.requires.whole, (c.requires.context, (h.0, (h.1, h.2)))))
 
@@ -232,7 +241,7 @@ if_with-substatement-requires t c =
         a.whole,
         (
           context_there u v c.args.context a.grows.keeps c.requires.context,
-          has_kept u v c.args.b a.grows.keeps c.requires.second,
+          still_within u v c.args.b a.grows.keeps c.requires.second,
         ),
       ),
     )
@@ -243,7 +252,7 @@ if_with-does-requires t c =
     let v = c.test.new.work in
     let w = c.substatement.new.work in
     let a = c.in_ok-on.ensures c.requires.first.syntax c.requires.first.is in
-    let f = has_kept u v c.args.b a.grows.keeps c.requires.second in
+    let f = still_within u v c.args.b a.grows.keeps c.requires.second in
     let b = c.in_ok-body.ensures f.syntax f.is in
     record {
       whole = b.whole;
@@ -328,7 +337,7 @@ switch_items-switch_item-requires t c =
     let u = c.args.work.now in
     let v = c.loop-part.work in
     let i = c.loop-part.invariant in
-    let h = subst (λ (z : List ℕ). HaveParts v z) c.in-Some.ensures i.parts in (
+    let h = subst (λ (z : List ℕ). PartsWithin v c.args.depth z) c.in-Some.ensures i.parts in (
       omega arith,
       (
         i.whole,
@@ -337,7 +346,7 @@ switch_items-switch_item-requires t c =
           (
             type_there u v c.args.of i.keeps c.requires.of,
             (
-              have_first v c.in-Some.part.first c.in-Some.part.others.now h,
+              first_within v c.in-Some.part.first c.in-Some.part.others.now h,
               (i.found c.requires.parts.syntax c.requires.parts.are).done.there,
             ),
           ),
@@ -353,8 +362,8 @@ switch_items-loop-part-preserved t c =
     let i = c.loop-part.invariant in
     let k = c.in-Some.part.first in
     let ks = c.in-Some.part.others.now in
-    let h = subst (λ (z : List ℕ). HaveParts v z) c.in-Some.ensures i.parts in
-    let f = have_first v k ks h in
+    let h = subst (λ (z : List ℕ). PartsWithin v c.args.depth z) c.in-Some.ensures i.parts in
+    let f = first_within v k ks h in
     let a = c.in_ok-cases.ensures f.syntax f.is in
     let same : context_in v c.args.context ≡ context_in u c.args.context =
     context_kept u v c.args.context i.keeps c.requires.context in
@@ -362,7 +371,7 @@ switch_items-loop-part-preserved t c =
     record {
       whole = a.whole;
       keeps = keeps_then u v w i.keeps a.grows;
-      parts = have_kept v w ks a.grows (have_others v k ks h);
+      parts = within_kept v w ks a.grows (others_within v k ks h);
       found = λ xs q. cases_step (context_in u c.args.context)
           (type_in u.nodes c.args.of) u v w xs k ks c.loop-part.cases c.in_ok-cases.cases
           (subst (λ (z : List ℕ). CasesSoFar (context_in u c.args.context)
@@ -574,7 +583,7 @@ switch_with-returns t c = λ x xs p q.
 pub for_loop-for_with-requires : goal.for_loop-for_with-requires
 for_loop-for_with-requires t c =
     let x = c.in-Some.x in
-    let h = have_four c.args.work.now c.args.kids.now x.head.first x.head.second x.head.third x.last c.in-Some.ensures
+    let h = four_within c.args.work.now c.args.kids.now x.head.first x.head.second x.head.third x.last c.in-Some.ensures
     c.requires.parts in
     (omega arith, (c.requires.whole, (c.requires.context, ((h.0, h.1, h.2), h.3))))
 
@@ -591,15 +600,15 @@ for_loop-returns-in-Some t c =
 pub switch-switch_with-requires : goal.switch-switch_with-requires
 switch-switch_with-requires t c =
     let u = c.args.work.now in
-    let h = subst (λ (z : List ℕ). HaveParts u z) c.in-Some.ensures c.requires.parts in (
+    let h = subst (λ (z : List ℕ). PartsWithin u c.args.depth z) c.in-Some.ensures c.requires.parts in (
       omega arith,
       (
         c.requires.whole,
         (
           c.requires.context,
           (
-            have_first u c.in-Some.x.first c.in-Some.x.others.now h,
-            have_others u c.in-Some.x.first c.in-Some.x.others.now h,
+            first_within u c.in-Some.x.first c.in-Some.x.others.now h,
+            others_within u c.in-Some.x.first c.in-Some.x.others.now h,
           ),
         ),
       ),
@@ -621,7 +630,7 @@ pub statement-declaration-requires : goal.statement-declaration-requires
 statement-declaration-requires t c =
     record {
       whole = c.requires.whole;
-      parts = kids_of c.args.work.now c.args.node.now c.as_slice-kids.result.now c.requires.node
+      parts = kids_in c.args.work.now c.args.node.now c.as_slice-kids.result.now c.requires.node
           c.as_slice-kids.ensures;
     }
 
@@ -629,7 +638,7 @@ pub statement-evaluate-requires : goal.statement-evaluate-requires
 statement-evaluate-requires t c =
     record {
       whole = c.requires.whole;
-      parts = kids_of c.args.work.now c.args.node.now c.as_slice-kids.result.now c.requires.node
+      parts = kids_in c.args.work.now c.args.node.now c.as_slice-kids.result.now c.requires.node
           c.as_slice-kids.ensures;
     }
 
@@ -638,7 +647,7 @@ statement-return_at-requires t c =
     record {
       whole = c.requires.whole;
       context = c.requires.context;
-      parts = kids_of c.args.work.now c.args.node.now c.as_slice-kids.result.now c.requires.node
+      parts = kids_in c.args.work.now c.args.node.now c.as_slice-kids.result.now c.requires.node
           c.as_slice-kids.ensures;
     }
 
@@ -668,14 +677,14 @@ scoped-inside-requires t c =
         e.whole,
         (
           context_there u v c.args.context e.grows c.requires.context,
-          has_node_kept u v c.args.node.now e.grows c.requires.node,
+          node_within_kept u v c.args.node.now e.grows c.requires.node,
         ),
       ),
     )
 
 pub scoped-leave-requires : goal.scoped-leave-requires
 scoped-leave-requires t c =
-    let n = has_node_kept c.args.work.now c.enter.new.work c.args.node.now c.in_ok-enter.ensures.grows c.requires.node
+    let n = node_within_kept c.args.work.now c.enter.new.work c.args.node.now c.in_ok-enter.ensures.grows c.requires.node
     in
     record { whole = (c.in_ok-items.ensures n.token n.syntax n.is).whole }
 
@@ -707,7 +716,7 @@ inside-block-requires t c = (
     c.requires.whole,
     (
       c.requires.context,
-      kids_of c.args.work.now c.args.node.now c.as_slice-kids.result.now c.requires.node
+      kids_in c.args.work.now c.args.node.now c.as_slice-kids.result.now c.requires.node
           c.as_slice-kids.ensures,
     ),
   ),
@@ -720,7 +729,7 @@ inside-if_one-requires t c = (
     c.requires.whole,
     (
       c.requires.context,
-      kids_of c.args.work.now c.args.node.now c.as_slice-kids.result.now c.requires.node
+      kids_in c.args.work.now c.args.node.now c.as_slice-kids.result.now c.requires.node
           c.as_slice-kids.ensures,
     ),
   ),
@@ -733,7 +742,7 @@ inside-if_else-requires t c = (
     c.requires.whole,
     (
       c.requires.context,
-      kids_of c.args.work.now c.args.node.now c.as_slice-kids.result.now c.requires.node
+      kids_in c.args.work.now c.args.node.now c.as_slice-kids.result.now c.requires.node
           c.as_slice-kids.ensures,
     ),
   ),
@@ -746,7 +755,7 @@ inside-while_loop-requires t c = (
     c.requires.whole,
     (
       c.requires.context,
-      kids_of c.args.work.now c.args.node.now c.as_slice-kids.result.now c.requires.node
+      kids_in c.args.work.now c.args.node.now c.as_slice-kids.result.now c.requires.node
           c.as_slice-kids.ensures,
     ),
   ),
@@ -759,7 +768,7 @@ inside-do_loop-requires t c = (
     c.requires.whole,
     (
       c.requires.context,
-      kids_of c.args.work.now c.args.node.now c.as_slice-kids.result.now c.requires.node
+      kids_in c.args.work.now c.args.node.now c.as_slice-kids.result.now c.requires.node
           c.as_slice-kids.ensures,
     ),
   ),
@@ -772,7 +781,7 @@ inside-for_loop-requires t c = (
     c.requires.whole,
     (
       c.requires.context,
-      kids_of c.args.work.now c.args.node.now c.as_slice-kids.result.now c.requires.node
+      kids_in c.args.work.now c.args.node.now c.as_slice-kids.result.now c.requires.node
           c.as_slice-kids.ensures,
     ),
   ),
@@ -785,7 +794,7 @@ inside-switch-requires t c = (
     c.requires.whole,
     (
       c.requires.context,
-      kids_of c.args.work.now c.args.node.now c.as_slice-kids.result.now c.requires.node
+      kids_in c.args.work.now c.args.node.now c.as_slice-kids.result.now c.requires.node
           c.as_slice-kids.ensures,
     ),
   ),
@@ -830,14 +839,14 @@ substatement-item-requires t c =
         e.whole,
         (
           context_there u v c.args.context e.grows c.requires.context,
-          has_kept u v c.args.k e.grows c.requires.part,
+          still_within u v c.args.k e.grows c.requires.part,
         ),
       ),
     )
 
 pub substatement-leave-requires : goal.substatement-leave-requires
 substatement-leave-requires t c =
-    let p = has_kept c.args.work.now c.enter.new.work c.args.k c.in_ok-enter.ensures.grows c.requires.part in
+    let p = still_within c.args.work.now c.enter.new.work c.args.k c.in_ok-enter.ensures.grows c.requires.part in
     record { whole = (c.in_ok-items.ensures p.syntax p.is).whole }
 
 pub substatement-returns-in_err-enter : goal.substatement-returns-in_err-enter
@@ -890,7 +899,7 @@ while_with-substatement-requires t c =
         a.whole,
         (
           subst (λ (o : Context). ContextThere v o) (sym c.in_a_loop.ensures) there,
-          has_kept u v c.args.b a.grows.keeps c.requires.second,
+          still_within u v c.args.b a.grows.keeps c.requires.second,
         ),
       ),
     )
@@ -901,7 +910,7 @@ while_with-does-requires t c =
     let v = c.test.new.work in
     let w = c.substatement.new.work in
     let a = c.in_ok-on.ensures c.requires.first.syntax c.requires.first.is in
-    let f = has_kept u v c.args.b a.grows.keeps c.requires.second in
+    let f = still_within u v c.args.b a.grows.keeps c.requires.second in
     let b = c.in_ok-body.ensures f.syntax f.is in
     record {
       whole = b.whole;
@@ -943,7 +952,7 @@ do_with-test-requires t c =
     let a = c.in_ok-body.ensures c.requires.first.syntax c.requires.first.is in
     record {
       whole = a.whole;
-      part = has_kept c.args.work.now c.substatement.new.work c.args.b a.grows c.requires.second;
+      part = still_within c.args.work.now c.substatement.new.work c.args.b a.grows c.requires.second;
     }
 
 pub do_with-does-requires : goal.do_with-does-requires
@@ -952,7 +961,7 @@ do_with-does-requires t c =
     let v = c.substatement.new.work in
     let w = c.test.new.work in
     let a = c.in_ok-body.ensures c.requires.first.syntax c.requires.first.is in
-    let f = has_kept u v c.args.b a.grows c.requires.second in
+    let f = still_within u v c.args.b a.grows c.requires.second in
     let b = c.in_ok-on.ensures f.syntax f.is in
     record { whole = b.whole; values = one_there (term_count w.nodes) c.in_ok-on.on b.there }
 
@@ -995,7 +1004,7 @@ if_else_with-substatement-requires t c =
         a.whole,
         (
           context_there u v c.args.context a.grows.keeps c.requires.context,
-          has_kept u v c.args.b a.grows.keeps c.requires.second,
+          still_within u v c.args.b a.grows.keeps c.requires.second,
         ),
       ),
     )
@@ -1006,7 +1015,7 @@ if_else_with-substatement-requires-2 t c =
     let v = c.test.new.work in
     let w = c.substatement.new.work in
     let a = c.in_ok-on.ensures c.requires.first.syntax c.requires.first.is in
-    let f = has_kept u v c.args.b a.grows.keeps c.requires.second in
+    let f = still_within u v c.args.b a.grows.keeps c.requires.second in
     let b = c.in_ok-body.ensures f.syntax f.is in
     let k = keeps_then u v w a.grows.keeps b.grows in (
       omega arith,
@@ -1014,7 +1023,7 @@ if_else_with-substatement-requires-2 t c =
         b.whole,
         (
           context_there u w c.args.context k c.requires.context,
-          has_kept u w c.args.c k c.requires.third,
+          still_within u w c.args.c k c.requires.third,
         ),
       ),
     )
@@ -1026,9 +1035,9 @@ if_else_with-does-requires t c =
     let w = c.substatement.new.work in
     let x = c.substatement-2.new.work in
     let a = c.in_ok-on.ensures c.requires.first.syntax c.requires.first.is in
-    let f = has_kept u v c.args.b a.grows.keeps c.requires.second in
+    let f = still_within u v c.args.b a.grows.keeps c.requires.second in
     let b = c.in_ok-body.ensures f.syntax f.is in
-    let g = has_kept u w c.args.c (keeps_then u v w a.grows.keeps b.grows) c.requires.third in
+    let g = still_within u w c.args.c (keeps_then u v w a.grows.keeps b.grows) c.requires.third in
     let e = c.in_ok-other.ensures g.syntax g.is in
     record {
       whole = e.whole;
@@ -1088,7 +1097,7 @@ for_with-substatement-requires t c =
         a.whole,
         (
           subst (λ (o : Context). ContextThere v o) (sym c.in_a_loop.ensures) there,
-          has_kept u v c.args.x.last a.grows c.requires.body,
+          still_within u v c.args.x.last a.grows c.requires.body,
         ),
       ),
     )
@@ -1101,7 +1110,7 @@ for_with-does-requires t c =
     let r = c.requires.head in
     let h = c.in_ok-head.head in
     let a = c.in_ok-head.ensures r.0.syntax r.1.syntax r.2.syntax r.0.is r.1.is r.2.is in
-    let f = has_kept u v c.args.x.last a.grows c.requires.body in
+    let f = still_within u v c.args.x.last a.grows c.requires.body in
     let b = c.in_ok-body.ensures f.syntax f.is in
     record {
       whole = b.whole;
@@ -1144,7 +1153,7 @@ switch_body-switch_items-requires t c =
           subst (λ (o : Context). ContextThere v o) (sym c.in_a_switch.ensures) there,
           (
             type_there u v c.args.of e.grows c.requires.of,
-            have_kept u v c.args.kids.now e.grows c.requires.parts,
+            within_kept u v c.args.kids.now e.grows c.requires.parts,
           ),
         ),
       ),
@@ -1152,7 +1161,7 @@ switch_body-switch_items-requires t c =
 
 pub switch_body-leave-requires : goal.switch_body-leave-requires
 switch_body-leave-requires t c =
-    let p = have_kept c.args.work.now c.enter.new.work c.args.kids.now c.in_ok-enter.ensures.grows c.requires.parts in
+    let p = within_kept c.args.work.now c.enter.new.work c.args.kids.now c.in_ok-enter.ensures.grows c.requires.parts in
     record { whole = (c.in_ok-cases.ensures p.syntax p.are).whole }
 
 pub switch_body-returns-in_err-enter : goal.switch_body-returns-in_err-enter
@@ -1212,7 +1221,7 @@ switch_with-switch_body-requires t c =
         a.whole,
         (
           context_there u v c.args.context a.grows.keeps c.requires.context,
-          (a.there.0, have_kept u v c.args.kids.now a.grows.keeps c.requires.parts),
+          (a.there.0, within_kept u v c.args.kids.now a.grows.keeps c.requires.parts),
         ),
       ),
     )
@@ -1223,7 +1232,7 @@ switch_with-does-requires t c =
     let v = c.switched.new.work in
     let w = c.switch_body.new.work in
     let a = c.in_ok-on.ensures c.requires.on.syntax c.requires.on.is in
-    let f = have_kept u v c.args.kids.now a.grows.keeps c.requires.parts in
+    let f = within_kept u v c.args.kids.now a.grows.keeps c.requires.parts in
     let b = c.in_ok-cases.ensures f.syntax f.are in
     record {
       whole = b.whole;
@@ -1257,12 +1266,12 @@ switch_with-returns-in_err-cases t c =
 pub switch_item-labelled-requires : goal.switch_item-labelled-requires
 switch_item-labelled-requires t c =
     let u = c.args.work.now in
-    let n = c.in_ok-node.node.now in
+    let n = c.node_at-node.result.now in
     record {
       whole = c.requires.whole;
       there = c.requires.of;
-      parts = kids_of u n c.as_slice-kids.result.now
-          (has_node u c.args.k n c.requires.part c.in_ok-node.ensures) c.as_slice-kids.ensures;
+      parts = kids_in u n c.as_slice-kids.result.now
+          (node_low u c.args.k n c.requires.part c.node_at-node.ensures) c.as_slice-kids.ensures;
       cases =
           c.requires.cases;
     }
@@ -1270,12 +1279,12 @@ switch_item-labelled-requires t c =
 pub switch_item-labelled-requires-in-Default : goal.switch_item-labelled-requires-in-Default
 switch_item-labelled-requires-in-Default t c =
     let u = c.args.work.now in
-    let n = c.in_ok-node.node.now in
+    let n = c.node_at-node.result.now in
     record {
       whole = c.requires.whole;
       there = c.requires.of;
-      parts = kids_of u n c.as_slice-kids.result.now
-          (has_node u c.args.k n c.requires.part c.in_ok-node.ensures) c.as_slice-kids.ensures;
+      parts = kids_in u n c.as_slice-kids.result.now
+          (node_low u c.args.k n c.requires.part c.node_at-node.ensures) c.as_slice-kids.ensures;
       cases =
           c.requires.cases;
     }
@@ -1284,12 +1293,12 @@ pub switch_item-returns-in-Case : goal.switch_item-returns-in-Case
 switch_item-returns-in-Case t c = λ x p.
     let u = c.args.work.now in
     let w = c.labelled.new.work in
-    let n = c.in_ok-node.node.now in
+    let n = c.node_at-node.result.now in
     let r = c.labelled.result in
     let d = context_in u c.args.context in
     let of = type_in u.nodes c.args.of in
     let cs = cases_in u c.args.cases in
-    let o = opened u c.args.k x n p c.in_ok-node.ensures in
+    let o = opened u c.args.k x n p c.node_at-node.ensures in
     subst (λ (y : Syn). Answers freely u w (switch_item d of y (reading y) cs) CasesThere IsCases r)
     (sym (o.is ∙ ap (λ (k : NodeKind). node k o.token o.parts) c.in-Case.is))
     (subst (λ (e : Doing statements.Cases). Answers freely u w e CasesThere IsCases r)
@@ -1303,12 +1312,12 @@ pub switch_item-returns-in-Default : goal.switch_item-returns-in-Default
 switch_item-returns-in-Default t c = λ x p.
     let u = c.args.work.now in
     let w = c.labelled-in-Default.new.work in
-    let n = c.in_ok-node.node.now in
+    let n = c.node_at-node.result.now in
     let r = c.labelled-in-Default.result in
     let d = context_in u c.args.context in
     let of = type_in u.nodes c.args.of in
     let cs = cases_in u c.args.cases in
-    let o = opened u c.args.k x n p c.in_ok-node.ensures in
+    let o = opened u c.args.k x n p c.node_at-node.ensures in
     subst (λ (y : Syn). Answers freely u w (switch_item d of y (reading y) cs) CasesThere IsCases r)
     (sym (o.is ∙ ap (λ (k : NodeKind). node k o.token o.parts) c.in-Default.is))
     (subst (λ (e : Doing statements.Cases). Answers freely u w e CasesThere IsCases r)
@@ -1322,12 +1331,12 @@ pub switch_item-returns-in_default : goal.switch_item-returns-in_default
 switch_item-returns-in_default t c = λ x p.
     let u = c.args.work.now in
     let w = c.further_item.new.work in
-    let n = c.in_ok-node.node.now in
+    let n = c.node_at-node.result.now in
     let r = c.further_item.result in
     let d = context_in u c.args.context in
     let of = type_in u.nodes c.args.of in
     let cs = cases_in u c.args.cases in
-    let o = opened u c.args.k x n p c.in_ok-node.ensures in
+    let o = opened u c.args.k x n p c.node_at-node.ensures in
     subst (λ (y : Syn). Answers freely u w (switch_item d of y (reading x) cs) CasesThere IsCases r) (sym o.is)
     (subst (λ (e : Doing statements.Cases). Answers freely u w e CasesThere IsCases r)
     (sym (other_item d of n.kind o.token o.parts (reading x) cs c.in_default.not-Case c.in_default.not-Default))

@@ -2,10 +2,11 @@ use Rattle.std.proofs.Common.{length, ◌+◌, ◌*◌}
 use Rattle.c_tree.specs.Syntax.{Syns}
 use Rattle.c_expressions.specs.Nodes.{IsWhole, type_in}
 use Rattle.c_elaborator.specs.Answers.{Keeps}
-use Rattle.c_elaborator.specs.Parts.{AreParts, HaveParts}
+use Rattle.c_elaborator.specs.Parts.{AreParts}
 use Rattle.c_statements.specs.Gather.{SoFar}
 use Rattle.c_statements.specs.Switching.{CasesSoFar}
 use Rattle.c_elaborator.specs.Items.{context_in}
+use Rattle.c_readings.specs.Within.{PartsWithin}
 use Rattle.c_statements.proofs.statements.+statements.Given as goal
 
 abbrev pub decreases-item : goal.decreases-item
@@ -84,7 +85,7 @@ abbrev pub invariant-all_items-loop-part : goal.invariant-all_items-loop-part
 invariant-all_items-loop-part l = record {
   whole : IsWhole l.work.nodes;
   keeps : Keeps l.fn.work l.work;
-  parts : HaveParts l.work l.left;
+  parts : PartsWithin l.work l.depth l.left;
   found : (xs : Syns) → AreParts l.fn.work l.fn.kids xs →
       SoFar (λ r. r.item (context_in l.fn.work l.fn.context)) l.fn.work l.work xs l.left l.items;
 }
@@ -96,7 +97,7 @@ abbrev pub invariant-switch_items-loop-part : goal.invariant-switch_items-loop-p
 invariant-switch_items-loop-part l = record {
   whole : IsWhole l.work.nodes;
   keeps : Keeps l.fn.work l.work;
-  parts : HaveParts l.work l.left;
+  parts : PartsWithin l.work l.depth l.left;
   found : (xs : Syns) → AreParts l.fn.work l.fn.kids xs →
       CasesSoFar (context_in l.fn.work l.fn.context)
       (type_in l.fn.work.nodes l.fn.of) l.fn.work l.work xs l.left l.cases;

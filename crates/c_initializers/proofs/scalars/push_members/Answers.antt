@@ -1,0 +1,59 @@
+use Rattle.std.proofs.Common.{◌≡◌, ◌+◌, ◌-◌, ◌<◌, ◌++◌, List, get_or, length, drop, map, refl, sym, ap, subst, ◌∙◌}
+use Rattle.std.proofs.Common.{arith}
+use Rattle.std.specs.List.{All}
+use Rattle.std.proofs.lemmas.List.Elements.{All-push}
+use Rattle.c_tree.specs.Initializers.{all_scalars, scalars_of, tag_scalars}
+use Rattle.c_expressions.specs.Nodes.{type_in, type_count}
+use Rattle.c_initializers.specs.declared.places.Place.{Place}
+use Rattle.c_initializers.specs.declared.scalars.Row.{Row}
+use Rattle.c_initializers.specs.Places.{place_in}
+use Rattle.c_initializers.specs.Rows.{IsRowThere, rows_scalars}
+use Rattle.c_initializers.proofs.PlaceLaws.{no-depth, one-depth}
+use Rattle.c_initializers.proofs.RowLaws.{adds-no-row, member-row, single-row}
+use Rattle.c_initializers.proofs.scalars.push_members.Goals as goal
+
+pub returns-then-tags-eq0 : goal.returns-then-tags-eq0
+returns-then-tags-eq0 c = adds-no-row c.args.work.now c.args.rows.now.items _
+    (λ s. ap (λ d. tag_scalars d s c.args.tag c.args.at) c.if-tags-eq0.true ∙ no-depth s c.args.tag c.args.at)
+
+pub loop-left-preserved : goal.loop-left-preserved
+loop-left-preserved c =
+    let w = c.args.work.now in
+    let ms = c.in_ok-members.members.items in
+    let i = c.loop-left.left - 1 in
+    let m = c.index-m.result.now in
+    let q : m ≡ get_or ms i m = c.index-m.ensures in
+    let e = c.in_ok-push_row.ensures in
+    let l : i < length ms = omega (arith, c.loop-left.invariant.within, c.loop-left-test.true) in
+    let z : i + 1 ≡ c.loop-left.left = omega (arith, c.loop-left-test.true) in
+    record {
+      within = omega (arith, c.loop-left.invariant.within);
+      there = λ h. subst (λ (x : List Row). All (IsRowThere w) x) (sym e)
+          (All-push (IsRowThere w) c.loop-left.rows.items _ (c.loop-left.invariant.there h)
+          (subst (λ (x : Row). x.of < type_count w.nodes) (sym c.single.ensures)
+          (subst (λ (x : Place). x.of < type_count w.nodes) (sym q) (c.in_ok-members.ensures.there i m l))));
+      are = λ s h.
+          let go = tag_scalars (c.args.tags - 1) s in
+          member-row w s go ms i m c.args.at c.loop-left.rows.items c.push_row.new.rows.items c.args.rows.now.items _ l e
+          (single-row w s c.single.result m.of c.in_ok-moved.field-0 (c.args.tags - 1) c.single.ensures
+          ∙ ap (scalars_of s go (type_in w.nodes m.of)) c.in_ok-moved.ensures
+          ∙ ap (λ (p : Place). scalars_of s go (type_in w.nodes p.of) (c.args.at + p.at)) q)
+          (subst (λ n. rows_scalars w s c.loop-left.rows.items ≡ all_scalars s go (map (place_in w) (drop n ms)) c.args.at
+          ++ rows_scalars w s c.args.rows.now.items) (sym z) (c.loop-left.invariant.are s h));
+    }
+
+pub returns : goal.returns
+returns c =
+    let w = c.args.work.now in
+    let ms = c.in_ok-members.members.items in
+    let z : c.loop-left.left ≡ 0 = omega (arith, c.loop-left-test.false) in
+    record {
+      there = c.loop-left.invariant.there;
+      are = λ s h.
+          let go = tag_scalars (c.args.tags - 1) s in
+          c.loop-left.invariant.are s h
+          ∙ ap (λ n. all_scalars s go (map (place_in w) (drop n ms)) c.args.at ++ rows_scalars w s c.args.rows.now.items) z
+          ∙ ap (λ x. x ++ rows_scalars w s c.args.rows.now.items)
+          (ap (λ ps. all_scalars s go ps c.args.at) (c.in_ok-members.ensures.are s h)
+          ∙ sym (one-depth c.args.tags (c.args.tags - 1) s c.args.tag c.args.at (omega (arith, c.if-tags-eq0.false)) refl));
+    }
