@@ -4,4 +4,3 @@ pub mod Fitting
 pub mod Roomy
 pub mod Sizes
 pub mod Started
-pub mod Weights

@@ -1,10 +1,10 @@
 //! Runs of a program's meaning.
 
-ghost use Rattle.std.specs.Prelude.{◌-◌, ◌<◌, ◌≤◌, ◌^◌, IfOk};
+ghost use Rattle.std.specs.Prelude.{◌-◌, ◌<◌, ◌^◌, IfOk, OnErr};
 ghost use Rattle.ck_base.specs.Calls.{seen, IsRun, Counted};
-ghost use Rattle.c_tree.specs.File.{HasRoom, weight_limit};
+ghost use Rattle.stopped_runs.specs.Stopping.{StoppedShort};
+ghost use Rattle.c_tree.specs.File.{HasRoom};
 ghost use Rattle.c_tree.specs.Typing.{Sound};
-ghost use Rattle.c_tree.specs.Weight.{weight};
 ghost use Rattle.cheri_c_sem.specs.Runs.{strict};
 ghost use Rattle.mean_steps.specs.Machine.{limits};
 
@@ -18,7 +18,9 @@ use obj_mem::Ending;
 use std::alloc::Global;
 
 /// The strict run of a program, with so many turns. `Turns` comes exactly where one more turn is needed. Calls in
-/// progress and unfinished expressions stand in vectors.
+/// progress and unfinished expressions stand in vectors. Where memory is wanting, what was read and put is the
+/// beginning of the run.
+#[tactic(auto, using(stopped_runs::proofs::Shortened::not_begun))]
 pub fn mean<I: Input, O: Sink>(
     alloc: Global,
     p: &Typed,
@@ -28,14 +30,17 @@ pub fn mean<I: Input, O: Sink>(
 ) -> Result<Ending, NoMemory>
     requires sound { Sound p.now }
     requires room { HasRoom p.now }
-    requires light { weight p.now ≤ weight_limit }
     requires source_room { I.faults input.old < 2 ^ 64 - 1 }
     requires sink_room { O.faults out.old < 2 ^ 64 - 1 }
-    ensures { turns < 2 ^ 47 → IfOk result (λ e. IsRun (λ w. strict p.now w turns)
-        (seen (I.left input.old) (I.faults input.old) (O.held out.old) (O.faults out.old))
-        (seen (I.left input.new) (I.faults input.new) (O.held out.new) (O.faults out.new)) e × Counted limits
+    ensures run { IfOk result (λ e. IsRun (λ w. strict p.now w turns)
         (seen (I.left input.old) (I.faults input.old) (O.held out.old) (O.faults out.old))
         (seen (I.left input.new) (I.faults input.new) (O.held out.new) (O.faults out.new)) e) }
+    ensures counted { IfOk result (λ e. Counted limits
+        (seen (I.left input.old) (I.faults input.old) (O.held out.old) (O.faults out.old))
+        (seen (I.left input.new) (I.faults input.new) (O.held out.new) (O.faults out.new)) e) }
+    ensures short { OnErr result (StoppedShort (λ w. strict p.now w turns)
+        (seen (I.left input.old) (I.faults input.old) (O.held out.old) (O.faults out.old))
+        (seen (I.left input.new) (I.faults input.new) (O.held out.new) (O.faults out.new))) }
 {
     let types = Types::new(alloc, p)?;
     let offsets = Offsets::new(alloc, p)?;

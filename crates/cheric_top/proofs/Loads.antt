@@ -1,5 +1,5 @@
 -- What a file loads to, by what it is read as and how that is judged.
-use Rattle.std.proofs.Common.{◌≡◌, ℕ, List, Result, Ok, Err, refl, ap, ◌∙◌}
+use Rattle.std.proofs.Common.{◌≡◌, ℕ, List, Ok, Err, ap, ◌∙◌}
 use Rattle.elf_file.specs.declared.image.Image.{Image}
 use Rattle.elf_file.specs.declared.refusal.ElfRefusal.{ElfRefusal}
 use Rattle.elf_file.specs.Reading.{reading}

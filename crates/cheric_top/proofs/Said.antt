@@ -21,7 +21,7 @@ use Rattle.ck_base.specs.declared.refusal.Refusal.TheVariants.{Code, NoMemory}
 use Rattle.bounds_place.specs.declared.sizes.Sizes.{Sizes}
 use Rattle.cheric_build.specs.FromFile.{IsFileRefusal}
 use Rattle.cheric_top.specs.Answers.{not_built, refused_as}
-use Rattle.cheric_top.specs.Command.{FilesSeen, HasRead, IsReadable, IsUnreadable, ExecStopped, MeanStopped, NotBuilt}
+use Rattle.cheric_top.specs.Command.{FilesSeen, HasRead, IsReadable, IsUnreadable, ExecStopped, NotBuilt}
 use Rattle.cheric_top.specs.Command.{BuildSays, files_seen}
 
 -- ---- files
@@ -49,11 +49,6 @@ gets_unread (Some files) name h = h
 pub not_built_says : (s : Seen) (file : List ℕ) (r : Refusal) → IsFileRefusal file r → NotBuilt s s file (not_built r)
 not_built_says s file (Code code pos) h = (refl, h)
 not_built_says s file NoMemory h = refl
-
--- nor is its meaning run
-pub mean_stopped : (s : Seen) (file : List ℕ) (r : Refusal) → IsFileRefusal file r → MeanStopped s s file (not_built r)
-mean_stopped s file (Code code place) h = (refl, h)
-mean_stopped s file NoMemory h = tt
 
 -- and puts no name
 pub not_put : (s : FilesSeen) (file elf : List ℕ) (sizes : Sizes) (r : Refusal) → IsFileRefusal file r →

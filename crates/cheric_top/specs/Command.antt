@@ -1,8 +1,9 @@
 -- The command: what each answer says of the words, the files, the input and the output.
-use Rattle.std.specs.Prelude.{◌≡◌, ◌⊎◌, ℕ, ◌<◌, ◌^◌, ◌≤◌, List, [], length, Option, Some, None, Ok, Err, ⊤}
+use Rattle.std.specs.Prelude.{◌≡◌, ◌⊎◌, ℕ, ◌<◌, ◌≤◌, List, [], length, Option, Some, None, Ok, Err, ⊤}
 use Rattle.ck_base.specs.Files.{FileMap, HasFile, SameOthers}
 use Rattle.ck_base.specs.Calls.{Seen, seen, IsRun, Counted}
 use Rattle.ck_base.specs.Runs.{outcome, ending_alone}
+use Rattle.stopped_runs.specs.Stopping.{StoppedShort}
 use Rattle.ck_base.specs.declared.refusal.Refusal.TheVariants.{Code}
 use Rattle.c_tree.specs.File.{Accepts}
 use Rattle.c_tree.specs.declared.typed.Typed.{Typed}
@@ -136,25 +137,29 @@ ExecSays before after file steps answer =
 
 -- ---- mode `mean`
 
--- the file is accepted as a program, of whose strict meaning so many turns were run, where these are fewer than 2^47;
--- and the ending is answered
+-- the file is accepted as a program, of whose strict meaning so many turns were run; and the ending is answered
 pub record RanStrict (before after : Seen) (file : List ℕ) (turns : ℕ) (answer : Answer) : Type 0 where
   pub program : Typed
   pub accepted : Accepts file program
   pub ending : Ending
-  pub ran : turns < 2 ^ 47 →
-      IsRun (λ w. strict program w turns) before after ending × Counted meant_limits before after ending
+  pub ran : IsRun (λ w. strict program w turns) before after ending
+  pub counted : Counted meant_limits before after ending
   pub answered : answer ≡ meant ending
 
--- the file was refused, or there was no memory
-abbrev pub MeanStopped : Seen → Seen → List ℕ → Answer → Type 0
-MeanStopped before after file (Refused code pos) = (after ≡ before) × IsFileRefusal file (Code code pos)
-MeanStopped before after file Memory = ⊤
-MeanStopped before after file answer = ⊥
+-- the file is accepted as a program, of whose strict meaning so many turns were to be run, and memory stopped that
+pub record StoppedStrict (before after : Seen) (file : List ℕ) (turns : ℕ) : Type 0 where
+  pub program : Typed
+  pub accepted : Accepts file program
+  pub short : StoppedShort (λ w. strict program w turns) before after
+
+-- the run stopped for want of memory, or the file was not built
+abbrev pub MeanStopped : Seen → Seen → List ℕ → ℕ → Answer → Type 0
+MeanStopped before after file turns answer =
+    NotBuilt before after file answer ⊎ ((answer ≡ Memory) × StoppedStrict before after file turns)
 
 abbrev pub MeanSays : Seen → Seen → List ℕ → ℕ → Answer → Type 0
 MeanSays before after file turns answer =
-    MeanStopped before after file answer ⊎ RanStrict before after file turns answer
+    MeanStopped before after file turns answer ⊎ RanStrict before after file turns answer
 
 -- ---- mode `build`
 

@@ -1,6 +1,10 @@
 -- A run goes on, act by act.
-use Rattle.std.proofs.Common.{◌≡◌, ℕ, ◌-◌, ◌^◌, ◌<◌, Ok, Err, sym, subst}
+use mathlib.Core.Path.{fun_ext}
+use Rattle.std.proofs.Common.{◌≡◌, ℕ, ◌-◌, ◌^◌, ◌<◌, Result, Ok, Err, sym, subst, arith}
 use Rattle.ck_base.specs.Calls.{Seen, IsRun, Counted}
+use Rattle.ck_base.specs.Runs.{ending_alone}
+use Rattle.stopped_runs.specs.Stopping.{StoppedShort}
+use Rattle.stopped_runs.proofs.Shortened.{stopped_short}
 use Rattle.c_tree.specs.declared.typed.Typed.{Typed}
 use Rattle.obj_mem.specs.declared.ending.Ending.{Ending}
 use Rattle.cheri_c_sem.specs.Calls.{meant}
@@ -9,8 +13,9 @@ use Rattle.cheri_c_sem.specs.Operations.{Operations}
 use Rattle.cheri_c_sem.specs.Programs.{program_tree}
 use Rattle.mean_steps.specs.Machine.{Moment, act, first_moment, limits}
 use Rattle.mean_steps.specs.Weights.{acts_left}
-use Rattle.mean_steps.proofs.Runs.{Lasts, begins, comes_to_end, goes_on, lessens}
+use Rattle.mean_steps.proofs.Runs.{Lasts, begins, comes_to_end, enough, goes_on, lessens, outcome_meant}
 use Rattle.mean_run.specs.Acts.{Stepped}
+use Rattle.mean_run.specs.declared.work.Stop.{Stop}
 use Rattle.mean_run.specs.declared.work.Stop.TheVariants as stop
 use Rattle.mean_run.specs.Views.{funs_of}
 
@@ -22,18 +27,37 @@ module _ (ops : Operations Store) (p : Typed) (turns : ℕ) where
   pub begun : (before : Seen) (m : Moment Store) → m ≡ first_moment ops (program_tree p) turns → Going before before m
   begun before m e = subst (λ m. Going before before m) (sym e) (begins ops (program_tree p) turns before)
 
-  module _ (before now next : Seen) (m m' : Moment Store) (going : Going before now m) where
-    pub further : Stepped (act ops (funs_of p) m) now next m m' (Ok tt) → Going before next m'
-    unfolding program_tree
-    further was = goes_on ops (program_tree p) turns going was
+  -- the next act is that of the same operations
+  module _ (before now next : Seen) (m : Moment Store) (going : Going before now m) (o : Operations Store)
+      (same : o ≡ ops) where
+    abbrev pub Acts : Moment Store → Result (Unit {0}) Stop → Type 0
+    Acts m' r = Stepped (act o (funs_of p) m) now next m m' r
 
-    pub fewer : Stepped (act ops (funs_of p) m) now next m m' (Ok tt) →
-        acts_left (funs_of p) m' < acts_left (funs_of p) m
+    of_same : (m' : Moment Store) (r : Result (Unit {0}) Stop) → Acts m' r →
+        Stepped (act ops (funs_of p) m) now next m m' r
+    of_same m' r was = subst (λ o. Stepped (act o (funs_of p) m) now next m m' r) same was
+
+    pub further : (m' : Moment Store) → Acts m' (Ok tt) → Going before next m'
     unfolding program_tree
-    fewer was = lessens ops (program_tree p) turns next m' going was
+    further m' was = goes_on ops (program_tree p) turns going (of_same m' (Ok tt) was)
+
+    pub fewer : (m' : Moment Store) → Acts m' (Ok tt) → acts_left (funs_of p) m' < acts_left (funs_of p) m
+    unfolding program_tree
+    fewer m' was = lessens ops (program_tree p) turns next m' going (of_same m' (Ok tt) was)
 
     pub over : (e : Ending) → before.source_faults < 2 ^ 64 - 1 → before.sink_faults < 2 ^ 64 - 1 →
-        Stepped (act ops (funs_of p) m) now next m m' (Err (stop.Ended e)) →
+        Acts m (Err (stop.Ended e)) →
         IsRun (λ w. meant ops (program_tree p) w turns) before next e × Counted limits before next e
     unfolding program_tree
-    over e source sink was = comes_to_end ops (program_tree p) turns m source sink going was
+    over e source sink was =
+        comes_to_end ops (program_tree p) turns m source sink going (of_same m (Err (stop.Ended e)) was)
+
+    pub short : next ≡ now → StoppedShort (λ w. meant ops (program_tree p) w turns) before next
+    short kept =
+        let q = program_tree p in
+        let (k, few, within, running) = going in
+        subst (λ o. StoppedShort o before next)
+        (fun_ext (λ w. outcome_meant ops q w turns (enough ops q turns) (omega arith)))
+        (subst (StoppedShort _ before) (sym kept)
+        (stopped_short limits (act ops q.funs) ending_alone (enough ops q turns) (first_moment ops q turns)
+        before now m k running))

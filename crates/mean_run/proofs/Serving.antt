@@ -29,7 +29,7 @@ pub does_stepped : (a : Act (Moment Store) Ending) (seen : Seen) (old new : Mome
     Does a new r → Stepped a seen seen old new r
 does_stepped a seen old new (Ok u) d =
     subst (λ a. Acted limits a seen seen old new None) (sym d) (refl, refl, refl)
-does_stepped a seen old new (Err stop.NoMemory) d = tt
+does_stepped a seen old new (Err stop.NoMemory) d = refl
 does_stepped a seen old new (Err (stop.Ended e)) d =
     subst (λ a. Acted limits a seen seen old old (Some e)) (sym d) (refl, refl, refl)
 

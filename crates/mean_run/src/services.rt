@@ -25,7 +25,7 @@ use crate::storage::{AllocateFault, Storage};
 use crate::work::{Stop, fault_end};
 use ck_base::{Pos, Sink, Source};
 use mean_operations::Work;
-use mean_types::number_of;
+use mean_types::{NOTHING, number_of};
 use obj_mem::{Ending, Fault, Value};
 
 /// A number that is answered, as a value.
@@ -134,8 +134,13 @@ impl State {
             (seen (I.left input.old) (I.faults input.old) sink faults)
             (seen (I.left input.new) (I.faults input.new) sink faults) m (moment_of p self.new held) result }
     {
+        // Want of memory shows before a byte is read.
+        self.give(NOTHING)?;
         match input.next() {
-            Ok(byte) => self.give_value(byte_value(byte)),
+            Ok(byte) => {
+                self.values.replace(byte_value(byte));
+                Ok(())
+            }
             Err(_) => Err(Stop::Ended(Ending::ReadFault)),
         }
     }

@@ -1,6 +1,6 @@
 //! A list whose next item is on top.
 ghost use Rattle.std.specs.Prelude.{◌≡◌, [], ◌∷◌, OnOk, OnErr};
-ghost use Rattle.mean_run.specs.Stacks.{Pops};
+ghost use Rattle.mean_run.specs.Stacks.{Pops, with_top};
 
 use ck_base::NoMemory;
 use std::alloc::Global;
@@ -43,5 +43,16 @@ impl<T: Drop> Stack<T> {
         ensures { Pops self.old self.new result }
     {
         self.items.pop()
+    }
+
+    /// Another item is on top, where there is one.
+    #[tactic(auto, using(crate::proofs::Reversed::replaced, crate::proofs::Reversed::none_replaced))]
+    pub fn replace(&mut self, x: T)
+        ensures { self.new ≡ with_top x self.old }
+    {
+        let count = self.items.len();
+        if count > 0 {
+            self.items[count - 1] = x;
+        }
     }
 }

@@ -1,7 +1,8 @@
 //! A step of a run, and whole runs.
 
-ghost use Rattle.std.specs.Prelude.{◌≡◌, ◌∷◌, ◌<◌, ◌-◌, ◌^◌, ℕ, IfOk, [], false, map};
+ghost use Rattle.std.specs.Prelude.{◌≡◌, ◌∷◌, ◌<◌, ◌-◌, ◌^◌, IfOk, OnErr, [], false, map};
 ghost use Rattle.ck_base.specs.Calls.{seen, IsRun, Counted};
+ghost use Rattle.stopped_runs.specs.Stopping.{StoppedShort};
 ghost use Rattle.c_tree.specs.declared.typed.Typed.{Typed};
 ghost use Rattle.cheri_c_sem.specs.Calls.{meant};
 ghost use Rattle.cheri_c_sem.specs.Expressions.{expr_tree};
@@ -12,7 +13,6 @@ ghost use Rattle.cheri_c_sem.specs.Programs.{program_tree, stmt_tree};
 ghost use Rattle.mean_steps.specs.Machine as machine;
 ghost use Rattle.mean_steps.specs.Machine.{Moment, act, act_on, at_test, designate, evaluate, execs_behind};
 ghost use Rattle.mean_steps.specs.Machine.{finish_item, first_moment, limits, proceed};
-ghost use Rattle.mean_steps.specs.Weights.{acts_left};
 ghost use Rattle.mean_run.specs.Acts.{Stepped};
 ghost use Rattle.mean_run.specs.Views.{funs_of, item_of, loop_of, moment_of, parts_of, vars_at};
 ghost use Rattle.mean_run.specs.Parts.{Does, Unless_wanting};
@@ -229,7 +229,7 @@ impl State {
         Err(Stop::Ended(Ending::Exit((number_of(v) % 256) as u8)))
     }
 
-    /// The run goes on to its end. From the first moment, and where few acts are left, it is the one that is meant.
+    /// Runs from the first moment to the end, or to want of memory.
     pub fn run<B: Storage, I: Input, O: Sink>(
         &mut self,
         m: &mut B,
@@ -237,24 +237,29 @@ impl State {
         input: &mut I,
         out: &mut O,
     ) -> Result<Ending, NoMemory>
-        requires { IsSource s.now }
-        ensures { IsFit s.now.p.now → (turns : ℕ) → moment_of s.now.p.now self.old (B.held m.old)
-            ≡ first_moment (B.meaning m.old) (program_tree s.now.p.now) turns →
-            acts_left (funs_of s.now.p.now) (moment_of s.now.p.now self.old (B.held m.old)) < 2 ^ 64 - 1 →
-            I.faults input.old < 2 ^ 64 - 1 → O.faults out.old < 2 ^ 64 - 1 →
-            IfOk result (λ e. IsRun (λ w. meant (B.meaning m.old) (program_tree s.now.p.now) w turns)
-            (seen (I.left input.old) (I.faults input.old) (O.held out.old) (O.faults out.old))
-            (seen (I.left input.new) (I.faults input.new) (O.held out.new) (O.faults out.new)) e × Counted limits
+        requires source { IsSource s.now }
+        requires fit { IsFit s.now.p.now }
+        requires first { moment_of s.now.p.now self.old (B.held m.old)
+            ≡ first_moment (B.meaning m.old) (program_tree s.now.p.now) self.old.left }
+        requires source_room { I.faults input.old < 2 ^ 64 - 1 }
+        requires sink_room { O.faults out.old < 2 ^ 64 - 1 }
+        ensures run { IfOk result (λ e. IsRun (λ w. meant (B.meaning m.old) (program_tree s.now.p.now) w self.old.left)
             (seen (I.left input.old) (I.faults input.old) (O.held out.old) (O.faults out.old))
             (seen (I.left input.new) (I.faults input.new) (O.held out.new) (O.faults out.new)) e) }
+        ensures counted { IfOk result (λ e. Counted limits
+            (seen (I.left input.old) (I.faults input.old) (O.held out.old) (O.faults out.old))
+            (seen (I.left input.new) (I.faults input.new) (O.held out.new) (O.faults out.new)) e) }
+        ensures short { OnErr result (StoppedShort
+            (λ w. meant (B.meaning m.old) (program_tree s.now.p.now) w self.old.left)
+            (seen (I.left input.old) (I.faults input.old) (O.held out.old) (O.faults out.old))
+            (seen (I.left input.new) (I.faults input.new) (O.held out.new) (O.faults out.new))) }
     {
-        'acts: for _ in 0..u64::MAX {
+        'acts: loop {
             match self.step(m, s, input, out) {
                 Ok(()) => {}
                 Err(Stop::Ended(ending)) => return Ok(ending),
                 Err(Stop::NoMemory) => return Err(NoMemory),
             }
         }
-        Ok(Ending::Turns)
     }
 }

@@ -5,7 +5,7 @@ use Rattle.std.specs.Prelude.{slice_get, option_map}
 use Rattle.std.proofs.lemmas.List.{map-set, set_past, length-map, map-append}
 use Rattle.std.proofs.lemmas.Option.{slice_get-map, slice_get_past, slice_get-get_or}
 use Rattle.cap_concentrate.specs.Rounding.{owned}
-use Rattle.cap_concentrate.proofs.Owned.{owned_near, owned_small}
+use Rattle.cap_concentrate.proofs.Owned.{owned_near}
 use Rattle.obj_mem.specs.Objects.{Life, Active, Mode, fresh, with_life, zero_object}
 use Rattle.object_memory.proofs.Roundings.{alignment_below}
 use Rattle.object_memory.specs.declared.notes.Note as noted
@@ -13,8 +13,8 @@ use Rattle.object_memory.specs.Views.{ObjectView, filled}
 use Rattle.object_memory.specs.Answers.{shape_of, content_of, shapes_of, contents_of}
 use Rattle.object_memory.specs.Memories.{memory_at}
 
-pub owned_bound : (n : ℕ) → n ≤ 67108864 → owned n < 2 ^ 63
-owned_bound n h = omega (arith, owned_small n (omega (arith, h)))
+pub owned_bound : (n : ℕ) → n ≤ 2 ^ 40 → owned n < 2 ^ 63
+owned_bound n h = omega (arith, owned_near n, alignment_below n, h)
 
 pub owned_most : (n : ℕ) → n < 2 ^ 63 → owned n < 2 ^ 64
 owned_most n h = omega (arith, owned_near n, alignment_below n, h)

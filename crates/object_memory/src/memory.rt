@@ -165,7 +165,7 @@ impl<'a> Memory<'a> {
     /// placed mode.
     #[tactic(auto, using(crate::proofs::Changed::owned_bound))]
     pub fn add(&mut self, length: u64, base: Option<u64>) -> Result<u64, NoMemory>
-        requires { length ≤ 67108864 }
+        requires { length ≤ 2 ^ 40 }
         ensures memory { OnOk result (memory_of self.new
             ≡ added (mode_of self.old.mode) (memory_of self.old) length (base_or base)) }
         ensures number { IfOk result (λ k. k ≡ count_of (memory_of self.old)) }

@@ -15,11 +15,11 @@ use Rattle.tac_steps.proofs.Fewer.{fewer}
 use Rattle.tac_steps.proofs.Runs.{Lasts, begins, goes_on, comes_to_end}
 use Rattle.tac_run.specs.Moments.{IsSound, Leads}
 use Rattle.tac_run.specs.Ready.{IsRoomy, objects_by}
-use Rattle.tac_run.specs.Stopping.{StoppedShort}
+use Rattle.stopped_runs.specs.Stopping.{StoppedShort}
 use Rattle.tac_run.specs.Views.{moment_of, ops_in}
 use Rattle.tac_run.specs.declared.run.Run.{Run}
 use Rattle.tac_run.proofs.Acts.{acts_stay_sound_law}
-use Rattle.tac_run.proofs.Shortened.{stopped_short}
+use Rattle.stopped_runs.proofs.Shortened.{stopped_short}
 
 leads_to : (P : Moment Store → Type 0) (a : Act (Moment Store) Ending) (before after : Seen) (old new : Moment Store) →
     Leads P a → Acted limits a before after old new None → P new

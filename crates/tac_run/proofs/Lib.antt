@@ -8,7 +8,6 @@ mod Keeps
 mod Temps
 mod Sounding
 mod Acts
-mod Shortened
 mod Going
 mod Starts
 mod Calling

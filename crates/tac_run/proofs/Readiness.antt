@@ -1,12 +1,10 @@
--- Typing, room and a legal map give what a run asks of a program.
+-- Typing and a legal map give what a run asks of a program.
 use Rattle.std.proofs.Common.{◌≡◌, ℕ, zero, suc, ◌+◌, ◌^◌, ◌<◌, ◌≤◌, List, [], ◌∷◌, length, map, Option, Some, None}
 use Rattle.std.proofs.Common.{refl, ap, subst, arith}
-use Rattle.std.specs.Prelude.{slice_get, slice_index_or, sum_by}
-use Rattle.std.proofs.lemmas.List.Sums.{sum_by-cons}
-use Rattle.std.proofs.lemmas.Option.{none-some, same_Some}
+use Rattle.std.specs.Prelude.{slice_get, slice_index_or}
+use Rattle.std.proofs.lemmas.Option.{none-some}
 use Rattle.cap_concentrate.specs.Rounding.{owned}
 use Rattle.cap_concentrate.proofs.Owned.{owned_ge, owned_small}
-use Rattle.c_tree.specs.File.{HasRoom, literal_room}
 use Rattle.c_tree.specs.Layout.{Extent, size_limit}
 use Rattle.c_tree.specs.Terms.{Program}
 use Rattle.c_tree.specs.Typing.{Sound}
@@ -58,15 +56,7 @@ literal_owned (y ∷ ls) (b ∷ bs) x zero l e =
     subst (λ z. owned (length z.bytes) ≤ 2 ^ 40) same (omega (arith, to))
 literal_owned (y ∷ ls) (b ∷ bs) x (suc k) l e = literal_owned ls bs x.1 k l e
 
--- one of a sum
-one_of : {A : Type 0} (f : A → ℕ) (xs : List A) (k : ℕ) (x : A) → slice_get xs k ≡ Some x → f x ≤ sum_by f xs
-one_of f [] k x e = absurd (none-some x e)
-one_of f (y ∷ ys) zero x e =
-    let same : f y ≡ f x = ap f (same_Some y x e) in
-    omega (arith, same, sum_by-cons f y ys)
-one_of f (y ∷ ys) (suc k) x e = omega (arith, sum_by-cons f y ys, one_of f ys k x e)
-
-module _ (p : Typed) (q : Program) (o : IsOrdered p) (s : Shows p q) (w : WellTyped p) (room : HasRoom p) (m : Map)
+module _ (p : Typed) (q : Program) (o : IsOrdered p) (s : Shows p q) (w : WellTyped p) (m : Map)
     (legal : Legal p m) where
   exact : AreExact (needs_of (weight_in p) p).globals m.globals ×
       AreExact (needs_of (weight_in p) p).literals m.literals
@@ -140,8 +130,7 @@ module _ (p : Typed) (q : Program) (o : IsOrdered p) (s : Shows p q) (w : WellTy
 
   literals_short : AreShort p.literals
   literals_short k l e =
-      let statics = room.statics in
-      omega (arith, statics, one_of literal_room p.literals k l e, owned_ge (length l.bytes))
+      omega (arith, owned_ge (length l.bytes), literal_owned p.literals m.literals exact.1 k l e)
 
   ready : IsReady p m
   ready =
@@ -157,7 +146,7 @@ module _ (p : Typed) (q : Program) (o : IsOrdered p) (s : Shows p q) (w : WellTy
         literal_bases = λ k. let base = base_small _ _ exact.1 k in omega arith;
       }
 
-pub sound_is_ready : (p : Typed) (m : Map) → Sound p → HasRoom p → Legal p m → IsReady p m
-sound_is_ready p m sound room legal =
+pub sound_is_ready : (p : Typed) (m : Map) → Sound p → Legal p m → IsReady p m
+sound_is_ready p m sound legal =
     let t = sound.types.types in
-    ready p t.program t.ordered t.shows (well_typed p sound) room m legal
+    ready p t.program t.ordered t.shows (well_typed p sound) m legal

@@ -19,7 +19,7 @@ use Rattle.tac_steps.specs.Machine.{Moment, act, first_moment, limits}
 use Rattle.tac_steps.specs.Weights.{acts_left}
 use Rattle.tac_run.specs.Moments.{IsSound}
 use Rattle.tac_run.specs.Ready.{IsReady, objects_by}
-use Rattle.tac_run.specs.Stopping.{StoppedShort}
+use Rattle.stopped_runs.specs.Stopping.{StoppedShort}
 use Rattle.tac_run.proofs.Meant.{means, sunk}
 use Rattle.tac_run.proofs.Starts.{first_sound}
 

@@ -4,4 +4,3 @@ pub mod Ready
 pub mod Moments
 pub mod Holdings
 pub mod Views
-pub mod Stopping

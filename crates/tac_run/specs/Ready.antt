@@ -32,9 +32,9 @@ pub record IsRoomy (p : Typed) (m : Map) : Type 0 where
 abbrev pub AreSmall : List CType → List VarDef → Type 0
 AreSmall types vars = (k : ℕ) (v : VarDef) → slice_get vars k ≡ Some v → size_in types v.of ≤ size_limit
 
--- literals of lengths within the limit
+-- literals no longer than all addresses
 abbrev pub AreShort : List Literal → Type 0
-AreShort literals = (k : ℕ) (l : Literal) → slice_get literals k ≡ Some l → length l.bytes ≤ size_limit
+AreShort literals = (k : ℕ) (l : Literal) → slice_get literals k ≡ Some l → length l.bytes ≤ 2 ^ 40
 
 -- bounds of links end within 64 bits
 abbrev pub AreBounded : List Link → Type 0

@@ -192,7 +192,7 @@ impl<'a> Held<'a> {
 
     /// The next object, which is a literal.
     pub fn add_literal(&mut self, k: u64, length: u64) -> Result<(), NoMemory>
-        requires { length ≤ 67108864 }
+        requires { length ≤ 2 ^ 40 }
         ensures { OnOk result (self.new ≡ with_store self.old ((ops_of self.old).add_literal self.old.store k length)) }
     {
         let _object = self

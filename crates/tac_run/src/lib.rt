@@ -2,8 +2,8 @@
 //!
 //! Promise: of a sound program and a legal map, a run of well-formed code is what the code means, in the world of the
 //! call; one that memory stops is the beginning of it.
-//! Definitions (`specs/`): `Ready`, `Moments`, `Bases`, `Holdings`, `Views`, `Stopping`.
-//! Main lemmas (`proofs/`): `Acts`, `Starts`, `Meant`, `Readiness`, `Shortened`.
+//! Definitions (`specs/`): `Ready`, `Moments`, `Bases`, `Holdings`, `Views`.
+//! Main lemmas (`proofs/`): `Acts`, `Starts`, `Meant`, `Readiness`.
 #![tactic(auto)]
 
 mod calls;

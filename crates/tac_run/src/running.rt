@@ -2,7 +2,6 @@
 ghost use Rattle.std.specs.Prelude.{◌≡◌, ◌+◌, ◌-◌, ◌^◌, ◌<◌, true, IfOk, OnErr, Some};
 ghost use Rattle.ck_base.specs.Calls.{seen, IsRun, Counted};
 ghost use Rattle.ck_base.specs.Runs.{outcome, ending_alone};
-ghost use Rattle.c_tree.specs.File.{HasRoom};
 ghost use Rattle.c_tree.specs.Typing.{Sound};
 ghost use Rattle.obj_mem.specs.Needs.{Legal};
 ghost use Rattle.cheri_c_sem.specs.Calls.{start};
@@ -15,7 +14,7 @@ ghost use Rattle.tac_steps.specs.Weights.{acts_left};
 ghost use Rattle.tac_run.specs.Moments.{IsSound};
 ghost use Rattle.tac_run.specs.Ready.{IsReady, objects_by};
 ghost use Rattle.tac_run.specs.Holdings.{ops_of};
-ghost use Rattle.tac_run.specs.Stopping.{StoppedShort};
+ghost use Rattle.stopped_runs.specs.Stopping.{StoppedShort};
 ghost use Rattle.tac_run.specs.Views.{moment_of, ops_in};
 
 use crate::calls::{add_locals, with_zeros};
@@ -105,10 +104,9 @@ fn first<'a>(
     })
 }
 
-/// Runs code, as its meaning says, under a map, with so many turns, in the world of the call. The program's objects
-/// have room, as those of each accepted program do. Where memory is wanting, what was read and put is the beginning of
-/// the run.
-#[tactic(auto, using(crate::proofs::Shortened::not_begun))]
+/// Runs code, as its meaning says, under a map, with so many turns, in the world of the call. Where memory is wanting,
+/// what was read and put is the beginning of the run.
+#[tactic(auto, using(stopped_runs::proofs::Shortened::not_begun))]
 pub fn run_tac<I: Source, O: Sink>(
     alloc: Global,
     t: &Tac,
@@ -120,7 +118,6 @@ pub fn run_tac<I: Source, O: Sink>(
 ) -> Result<Ending, NoMemory>
     requires formed { is_well_formed t.now p.now ≡ true }
     requires sound { Sound p.now }
-    requires room { HasRoom p.now }
     requires legal { Legal p.now m.now }
     requires source_room { I.faults input.old < 2 ^ 64 - 1 }
     requires sink_room { O.faults out.old < 2 ^ 64 - 1 }

@@ -1,8 +1,8 @@
-use Rattle.std.proofs.Common.{inl, inr, sym, subst}
+use Rattle.std.proofs.Common.{inl, inr, refl, sym, subst}
 use Rattle.ck_base.specs.Calls.{seen}
-use Rattle.cheric_top.specs.Command.{MeanStopped}
+use Rattle.cheric_top.specs.Command.{NotBuilt}
 use Rattle.cheric_top.specs.declared.answer.Answer.{Answer}
-use Rattle.cheric_top.proofs.Said.{mean_stopped}
+use Rattle.cheric_top.proofs.Said.{not_built_says}
 use Rattle.cheric_top.proofs.meaning.mean_file.Goals as goal
 
 pub returns-in-Err : goal.returns-in-Err
@@ -10,8 +10,8 @@ returns-in-Err g c =
     let file = c.args.file.now in
     let now = seen (g.I.Source.left c.args.input.now) (g.I.Source.faults c.args.input.now)
     (g.O.Sink.held c.args.out.now) (g.O.Sink.faults c.args.out.now) in
-    inl (subst (λ (answer : Answer). MeanStopped now now file answer) (sym c.not_built.ensures)
-    (mean_stopped now file c.in-Err.refusal c.in-Err.ensures.refused))
+    inl (inl (subst (λ (answer : Answer). NotBuilt now now file answer) (sym c.not_built.ensures)
+    (not_built_says now file c.in-Err.refusal c.in-Err.ensures.refused)))
 
 pub returns-in-Ok-mean : goal.returns-in-Ok-mean
 returns-in-Ok-mean g c =
@@ -19,6 +19,18 @@ returns-in-Ok-mean g c =
       program = c.in-Ok.program;
       accepted = c.in-Ok.ensures.accepted;
       ending = c.in-Ok-mean.ending;
-      ran = c.in-Ok-mean.ensures;
+      ran = c.in-Ok-mean.ensures.run;
+      counted = c.in-Ok-mean.ensures.counted;
       answered = c.meant.ensures;
     })
+
+pub returns : goal.returns
+returns g c =
+    inl (inr (
+      refl,
+      record {
+        program = c.in-Ok.program;
+        accepted = c.in-Ok.ensures.accepted;
+        short = c.in-Err-mean.ensures.short;
+      },
+    ))

@@ -9,7 +9,7 @@ use Rattle.tac_run.proofs.running.run_tac.Goals as goal
 
 pub start-requires-clause-ready : goal.start-requires-clause-ready
 start-requires-clause-ready g c =
-    sound_is_ready c.args.p.now c.args.m.now c.requires.sound c.requires.room c.requires.legal
+    sound_is_ready c.args.p.now c.args.m.now c.requires.sound c.requires.legal
 
 pub returns-in-None-clause-run : goal.returns-in-None-clause-run
 returns-in-None-clause-run g c =
@@ -21,13 +21,13 @@ returns-in-None-clause-run g c =
 pub first-requires-clause-ready : goal.first-requires-clause-ready
 first-requires-clause-ready g c =
     subst (IsReady c.args.p.now) (sym (ap (λ (h : Holding). h.map) c.in_ok-memory.ensures))
-    (sound_is_ready c.args.p.now c.args.m.now c.requires.sound c.requires.room c.requires.legal)
+    (sound_is_ready c.args.p.now c.args.m.now c.requires.sound c.requires.legal)
 
 pub run-requires-clause-ready : goal.run-requires-clause-ready
 run-requires-clause-ready g c =
     subst (IsReady c.args.p.now)
     (sym (c.in_ok-first-in-Some.ensures.map ∙ ap (λ (h : Holding). h.map) c.in_ok-memory.ensures))
-    (sound_is_ready c.args.p.now c.args.m.now c.requires.sound c.requires.room c.requires.legal)
+    (sound_is_ready c.args.p.now c.args.m.now c.requires.sound c.requires.legal)
 
 pub run-requires-clause-sound : goal.run-requires-clause-sound
 run-requires-clause-sound g c =
@@ -37,7 +37,7 @@ run-requires-clause-sound g c =
     (subst (λ n. ops.enter c.args.p.now.main n ≡ Some c.in-Some.address) c.stack_top.ensures (sym c.in-Some.ensures))
     c.in_ok-first-in-Some.ensures.moment
     (subst (IsReady c.args.p.now) (sym (ap (λ (h : Holding). h.map) c.in_ok-memory.ensures))
-    (sound_is_ready c.args.p.now c.args.m.now c.requires.sound c.requires.room c.requires.legal))
+    (sound_is_ready c.args.p.now c.args.m.now c.requires.sound c.requires.legal))
     c.requires.formed
 
 pub returns-clause-run : goal.returns-clause-run

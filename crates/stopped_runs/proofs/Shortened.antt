@@ -8,7 +8,7 @@ use Rattle.ck_base.specs.RunLaws.{Running, IfSome-from, Appends-nil, grows, run-
 use Rattle.ck_base.specs.RunLaws.{run-puts, run-put_fails, run-reads, run-read_fails}
 use Rattle.ck_base.specs.Runs.{Act, Goes, Puts, Reads, Ends, Limits, with_put, with_read, run, outcome}
 use Rattle.ck_base.specs.World.{World, Done, Outcome, fails_after}
-use Rattle.tac_run.specs.Stopping.{sure_world, StoppedShort}
+use Rattle.stopped_runs.specs.Stopping.{sure_world, StoppedShort}
 
 module _ {S E : Type 0} (limits : Limits E) (act : S → Act S E) where
   -- ---- the reads only grow in number
