@@ -3,7 +3,7 @@
 
 use crate::calls::{Answer, answers, answers_input, built_file, sure_file};
 use cheric_build::build;
-use ck_base::{NoMemory, Refusal};
+use ck_base::{NoMemory, Pos, Refusal};
 use std::alloc::Global;
 use std::test::Fail;
 
@@ -96,6 +96,36 @@ fn is_answered(alloc: Global, count: usize, status: u8, line: &str) -> Result<bo
         line,
     };
     answers(alloc, &mut files, "cheric run a.c", [0; 2], answer)
+}
+
+/// Short files whose lists have more than 4,194,304 scalars in sum, which are answered before a zero is made of the
+/// last one.
+const LARGE: [&str; 3] = [
+    "int main(void){char a[67108864]={1};return 0;}",
+    "int main(void){char a[67108864]={};return 0;}",
+    "int main(void){char a[65536]=\"\",b[4128769]={1};return 0;}",
+];
+
+#[test]
+fn large_lists_of_locals_want_memory(rt: HostRuntime) -> Result<(), Fail> {
+    let alloc = rt.alloc();
+    for &file in &LARGE {
+        let answer = build(alloc, file.as_bytes()).err();
+        assert!(rt; matches!(answer, Some(Refusal::NoMemory)), "{file}");
+    }
+    Ok(())
+}
+
+/// An address past 2^63 bytes, in an array that is too short when its length is known.
+const FAR: &str = "extern char c[];char*p=c+0x7fffffffffffffff+0x7fffffffffffffff;char c[1];
+int main(void){return 0;}";
+
+#[test]
+fn a_far_address_is_refused_at_the_end(rt: HostRuntime) -> Result<(), Fail> {
+    let alloc = rt.alloc();
+    let answer = build(alloc, FAR.as_bytes()).err();
+    assert!(rt; matches!(answer, Some(Refusal::Code(134, Pos { line: 1, col: 24 }))));
+    Ok(())
 }
 
 #[test]

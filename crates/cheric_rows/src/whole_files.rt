@@ -104,6 +104,18 @@ fn pointers(alloc: Global, count: u32) -> Result<String, Fail> {
     Ok(file)
 }
 
+/// So many types, each an array of the one before, and a local of the last with an initialiser.
+fn arrays(alloc: Global, count: u32) -> Result<String, Fail> {
+    let mut file = String::from_str(alloc, "typedef int T0;")?;
+    let mut last = 0;
+    for k in 1..=count {
+        write!(file, "typedef T{last} T{k}[1];")?;
+        last = k;
+    }
+    write!(file, "int main(void){{T{last} x={{}};return 0;}}")?;
+    Ok(file)
+}
+
 /// So many unions, each with two members of the one before, and an array of one element if the last is as large as
 /// `int`.
 fn unions(alloc: Global, count: u32) -> Result<String, Fail> {
@@ -152,6 +164,14 @@ fn values(alloc: Global, count: usize) -> Result<String, Fail> {
 fn a_long_chain_of_types_is_typed(rt: HostRuntime) -> Result<(), Fail> {
     let alloc = rt.alloc();
     let file = pointers(alloc, 5_000)?;
+    assert_eq!(rt; front(alloc, file.as_bytes()).err(), None);
+    Ok(())
+}
+
+#[test]
+fn a_local_in_many_arrays_is_typed(rt: HostRuntime) -> Result<(), Fail> {
+    let alloc = rt.alloc();
+    let file = arrays(alloc, 5_000)?;
     assert_eq!(rt; front(alloc, file.as_bytes()).err(), None);
     Ok(())
 }

@@ -15,6 +15,3 @@ mod words;
 
 pub use auditing::audit;
 pub use verdict::Verdict;
-
-#[cfg(test)]
-mod tests;

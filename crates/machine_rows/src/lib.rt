@@ -8,6 +8,8 @@
 #![tactic(auto)]
 
 #[cfg(test)]
+mod audits;
+#[cfg(test)]
 mod capabilities;
 #[cfg(test)]
 mod concentrate;
@@ -21,6 +23,8 @@ mod loading;
 mod machines;
 #[cfg(test)]
 mod memory;
+#[cfg(test)]
+mod texts;
 #[cfg(test)]
 mod words;
 #[cfg(test)]

@@ -8,7 +8,5 @@
 mod listing;
 mod names;
 mod operands;
-#[cfg(test)]
-mod vectors;
 
 pub use listing::line;

@@ -9,8 +9,6 @@ mod calling;
 mod live;
 mod loops;
 mod operands;
-#[cfg(test)]
-mod tests;
 mod uses;
 
 pub use calling::{calls, outgoing};

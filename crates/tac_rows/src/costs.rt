@@ -111,16 +111,36 @@ fn code(alloc: Global, temps: u32, numbers: usize, args: usize) -> Result<Tac, A
 }
 
 #[test]
-fn instructions(rt: HostRuntime) -> Result<(), Fail> {
-    assert_eq!(rt; cost(&constant(2047)), 4);
-    assert_eq!(rt; cost(&constant(2048)), 11);
-    assert_eq!(rt; cost(&sum(I64)), 10);
-    assert_eq!(rt; cost(&sum(I32)), 12);
-    assert_eq!(rt; cost(&sum(I8)), 13);
-    assert_eq!(rt; cost(&conversion(TacKind::Int(I64), WORD)), 6);
-    assert_eq!(rt; cost(&conversion(POINTER, WORD)), 7);
-    assert_eq!(rt; cost(&conversion(WORD, POINTER)), 8);
-    assert_eq!(rt; cost(&conversion(WORD, TacKind::Int(Bool))), 8);
+fn constants(rt: HostRuntime) {
+    for (value, words) in [(2047, 4), (2048, 11)] {
+        assert_eq!(rt; cost(&constant(value)), words);
+    }
+}
+
+#[test]
+fn operations(rt: HostRuntime) {
+    for (kind, words) in [(I64, 10), (I32, 12), (I8, 13)] {
+        assert_eq!(rt; cost(&sum(kind)), words);
+    }
+}
+
+// What a conversion is from and to, and what it costs.
+const CONVERSIONS: [(TacKind, TacKind, u64); 4] = [
+    (TacKind::Int(I64), WORD, 6),
+    (POINTER, WORD, 7),
+    (WORD, POINTER, 8),
+    (WORD, TacKind::Int(Bool), 8),
+];
+
+#[test]
+fn conversions(rt: HostRuntime) {
+    for &(old, new, words) in &CONVERSIONS {
+        assert_eq!(rt; cost(&conversion(old, new)), words);
+    }
+}
+
+#[test]
+fn a_move_and_a_call(rt: HostRuntime) -> Result<(), Fail> {
     let moved = TacInstr::Offset {
         to: 0,
         base: 0,
@@ -152,12 +172,23 @@ fn within(alloc: Global, temps: u32, numbers: usize, args: usize) -> Result<bool
     Ok(is_within_costs(&code, &program))
 }
 
+// Temps, numbers and arguments of code, and whether it is within the program.
+const WITHIN: [(u32, usize, usize, bool); 5] = [
+    (18, 17, 0, true),
+    (17, 15, 9, true),
+    (19, 0, 0, false),
+    (18, 0, 9, false),
+    (0, 18, 0, false),
+];
+
 #[test]
 fn within_the_program(rt: HostRuntime) -> Result<(), Fail> {
-    assert!(rt; within(rt.alloc(), 18, 17, 0)?);
-    assert!(rt; within(rt.alloc(), 17, 15, 9)?);
-    assert!(rt; !within(rt.alloc(), 19, 0, 0)?);
-    assert!(rt; !within(rt.alloc(), 18, 0, 9)?);
-    assert!(rt; !within(rt.alloc(), 0, 18, 0)?);
+    for &(temps, numbers, args, is_within) in &WITHIN {
+        let found = within(rt.alloc(), temps, numbers, args)?;
+        assert!(rt;
+            found == is_within,
+            "{temps} temps, {numbers} numbers, {args} arguments"
+        );
+    }
     Ok(())
 }

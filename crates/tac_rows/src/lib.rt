@@ -9,7 +9,13 @@
 #[cfg(test)]
 mod costs;
 #[cfg(test)]
+mod frames;
+#[cfg(test)]
 mod homes;
+#[cfg(test)]
+mod intervals;
+#[cfg(test)]
+mod register_places;
 #[cfg(test)]
 mod shifts;
 #[cfg(test)]

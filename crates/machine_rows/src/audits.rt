@@ -1,6 +1,6 @@
 // Images of four words and one relocation, and what their audit answers.
 
-use crate::{Verdict, audit};
+use elf_audit::{Verdict, audit};
 use elf_file::{Image, Reloc, Sequence, View, write};
 use image_load::load;
 use std::alloc::{AllocError, Global};

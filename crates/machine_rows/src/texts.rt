@@ -1,6 +1,5 @@
-//! Texts of instructions: values of an independent model.
+// Texts of instructions: values of an independent model.
 
-use crate::line;
 use rv_instr::BranchOp::*;
 use rv_instr::CapGetOp::*;
 use rv_instr::CapImmOp::*;
@@ -12,6 +11,7 @@ use rv_instr::ShiftOp::*;
 use rv_instr::StoreOp::*;
 use rv_instr::UpperOp::*;
 use rv_instr::*;
+use rv_text::line;
 use std::alloc::Global;
 use std::process::Abort;
 

@@ -3,13 +3,13 @@ ghost use Rattle.std.specs.Prelude.{◌≡◌, ◌^◌, ◌<◌, true, IfOk, len
 ghost use Rattle.tac_live.specs.Calls.{most_places};
 ghost use Rattle.tac_live.specs.Live.{is_numbered};
 
-use crate::{calls, intervals, outgoing};
 use ck_base::{Pos, Sequence};
 use ck_int::IntKind;
 use reg_alloc::Interval;
 use std::alloc::{AllocError, Global};
 use std::test::Fail;
 use tac_ir::{LibOp, TacFun, TacInstr, TacKind};
+use tac_live::{calls, intervals, outgoing};
 
 // t0 is a parameter, t1 lives around the loop, t2 is straight in it, t3 is unused.
 fn looping(alloc: Global) -> Result<TacFun, AllocError>
