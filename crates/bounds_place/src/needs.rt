@@ -2,10 +2,9 @@
 ghost use Rattle.std.specs.Prelude.{◌≡◌, ℕ, ◌+◌, ◌^◌, ◌<◌, ◌≤◌, ◌≡◌, map, OnOk, IfOk, sum_by, nat_lt, length};
 ghost use Rattle.std.specs.List.{list_any};
 ghost use Rattle.cap_concentrate.specs.Rounding.{alignment, owned};
-ghost use Rattle.c_tree.specs.Layout.{size_limit};
+ghost use Rattle.c_tree.specs.Layout.{object_alignment, size_limit};
 ghost use Rattle.cap_layout.specs.Answers.{greatest_align};
 ghost use Rattle.cap_layout.specs.Kept.{AreLayoutsOf};
-ghost use Rattle.obj_mem.specs.Objects.{object_alignment};
 ghost use Rattle.obj_mem.specs.Legal.{room_of};
 ghost use Rattle.obj_mem.specs.Needs.{need_of, global_need, literal_need, local_needs};
 ghost use Rattle.bounds_place.specs.Rows.{need, room, counted, owned_need};

@@ -1,11 +1,11 @@
 -- The listing of a text: one line for each of its words.
-use Rattle.std.specs.Prelude.{ℕ, zero, suc, ◌+◌, ◌*◌, ◌/◌, ◌%◌, List, [], ◌∷◌, ◌++◌, length, take, drop, Option, Some}
+use Rattle.std.specs.Prelude.{ℕ, zero, suc, ◌+◌, ◌*◌, ◌/◌, ◌%◌, List, [], ◌∷◌, ◌++◌, length, Option, Some}
 use Rattle.std.specs.Prelude.{None, false, codes, decimal}
 use Rattle.std.specs.Fmt.{digit_glyph}
 use Rattle.rv_instr.specs.declared.instr.Instr.{Instr}
 use Rattle.rv_code.specs.Decoding.{decode_of}
 use Rattle.rv_text.specs.Listing.{text}
-use Rattle.tag_mem.specs.Numbers.{little_number}
+use Rattle.tag_mem.specs.Numbers.{word_in}
 use Rattle.build_text.specs.Lines.{lines}
 
 -- the last n hexadecimal digits of a number, in lower case
@@ -21,10 +21,6 @@ instruction_text (Some i) = text i
 -- the address in decimal, the word as eight hexadecimal digits, and its instruction
 abbrev pub word_line : ℕ → ℕ → List ℕ
 word_line at w = decimal at ++ codes " " ++ last_digits 8 w ++ codes " " ++ instruction_text (decode_of w) ++ codes "\n"
-
--- word k of a text
-abbrev pub word_in : List ℕ → ℕ → ℕ
-word_in bytes k = little_number (take 4 (drop (4 * k) bytes))
 
 -- the listing of a text that begins at this address
 abbrev pub listing_text : ℕ → List ℕ → List ℕ

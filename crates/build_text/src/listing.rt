@@ -3,7 +3,8 @@
 ghost use Rattle.std.specs.Prelude.{◌≡◌, ◌++◌, ◌+◌, ◌*◌, ◌/◌, ◌<◌, ◌≤◌, ◌^◌, false, length, OnOk, IfOk, codes, decimal};
 ghost use Rattle.std.specs.Prelude.{string_bytes};
 ghost use Rattle.std.specs.Fmt.{digit_glyph};
-ghost use Rattle.build_text.specs.Listing.{last_digits, word_line, word_in, listing_text};
+ghost use Rattle.tag_mem.specs.Numbers.{word_in};
+ghost use Rattle.build_text.specs.Listing.{last_digits, word_line, listing_text};
 
 use ck_base::NoMemory;
 use itoa::Buffer;

@@ -1,11 +1,11 @@
 -- A C file as a whole: which typed program it is, or the first rule that it breaks.
-use Rattle.std.specs.Prelude.{◌≡◌, ℕ, ◌+◌, ◌<◌, ◌≤◌, max, if◌then◌else◌, List, length, sum_by, slice_get, Option, Some}
+use Rattle.std.specs.Prelude.{◌≡◌, ℕ, ◌+◌, ◌<◌, ◌≤◌, if◌then◌else◌, List, length, sum_by, slice_get, Option, Some}
 use Rattle.std.specs.Prelude.{None, ◌⊎◌}
 use Rattle.ck_base.specs.declared.positions.Pos.{Pos}
 use Rattle.ck_base.specs.Tokens.{Lexeme}
 use Rattle.ck_base.specs.Lexes.{Lexes, position_after}
 use Rattle.ck_base.specs.Lexes as lexing
-use Rattle.cap_concentrate.specs.Rounding.{owned, alignment}
+use Rattle.cap_concentrate.specs.Rounding.{owned}
 use Rattle.c_tree.specs.declared.typed.CType.{CType}
 use Rattle.c_tree.specs.declared.typed.GlobalDef.{GlobalDef}
 use Rattle.c_tree.specs.declared.typed.Literal.{Literal}
@@ -15,7 +15,7 @@ use Rattle.c_tree.specs.declared.typed.Typed.{Typed}
 use Rattle.c_tree.specs.Brackets.{height_limit, excess}
 use Rattle.c_tree.specs.Syntax.{Syn, height}
 use Rattle.c_tree.specs.Parses.{DerivesFile}
-use Rattle.c_tree.specs.Layout.{Extent, extent}
+use Rattle.c_tree.specs.Layout.{Extent, extent, object_alignment}
 use Rattle.c_tree.specs.Weight as weights
 use Rattle.c_tree.specs.Typing.{TypesSyntax, RefusesSyntax, Alike}
 
@@ -32,14 +32,10 @@ weight_limit = 7780
 
 -- ---- the room of objects
 
--- the alignment of an object: at least 16, and what its type and its length need
-abbrev pub object_align : Extent → ℕ
-object_align x = max 16 (max x.align (alignment x.size))
-
 -- an object's owned length and its alignment
 abbrev pub object_room : Option Extent → ℕ
 object_room None = 0
-object_room (Some x) = owned x.size + object_align x
+object_room (Some x) = owned x.size + object_alignment x.align x.size
 
 abbrev pub global_room : List CType → GlobalDef → ℕ
 global_room types g = object_room (extent types g.of)

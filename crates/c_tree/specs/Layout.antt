@@ -37,6 +37,10 @@ abbrev pub with_extent : {A : Type 0} → Option Extent → (Extent → Option A
 with_extent None f = None
 with_extent (Some x) f = f x
 
+-- the alignment of an object: the greatest of 16, its type's and that of its length
+abbrev pub object_alignment : ℕ → ℕ → ℕ
+object_alignment type_alignment n = max 16 (max type_alignment (alignment n))
+
 -- ---- members
 
 -- A member has the alignment of its type and that of its length, and owns the owned length of its own.

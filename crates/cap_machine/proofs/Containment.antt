@@ -1,11 +1,10 @@
 -- An act keeps a contained state, and so does a run of any length in any world of bytes.
 use Rattle.std.proofs.Common.{◌≡◌, ℕ, zero, suc, ◌-◌, ◌^◌, ◌<◌, inl, inr, Bool, true, false, List, Option, Some, None}
 use Rattle.std.proofs.Common.{Result, Ok, Err, refl, sym, ap, ◌∙◌, subst, arith}
-use Rattle.std.specs.Prelude.{All, IfSome, slice_get, length, ◌==◌, if◌then◌else◌}
-use Rattle.std.proofs.lemmas.Bool.{false≢true, eq-eqb, cases_lt}
-use Rattle.std.proofs.lemmas.Option.{same_Some, slice_get-get_or, slice_get_past}
-use Rattle.std.proofs.lemmas.List.Elements.{All-get_or}
-use Rattle.ck_base.specs.World.{World, Done, fails_after, nothing_done}
+use Rattle.std.specs.Prelude.{IfSome, slice_get, length, ◌==◌, if◌then◌else◌}
+use Rattle.std.proofs.lemmas.Bool.{false≢true, eq-eqb}
+use Rattle.std.proofs.lemmas.Option.{same_Some}
+use Rattle.ck_base.specs.World.{World, Done, GivesBytes, fails_after, nothing_done}
 use Rattle.ck_base.specs.Runs.{Act, Goes, Puts, Reads, Ends, Stopped, stopped, with_put, with_read, act_in, run}
 use Rattle.cap_ops.specs.declared.access.Access.TheVariants as access
 use Rattle.cap_ops.specs.declared.access.Cause.{Cause}
@@ -32,6 +31,10 @@ use Rattle.cap_machine.proofs.TextMemory.{word_read}
 use Rattle.cap_machine.proofs.KeptRows.{set_integer_kept, upper_kept, op_kept, shift_kept, imm_kept, branch_kept}
 use Rattle.cap_machine.proofs.KeptRows.{cjal_kept, cjalr_kept, load_kept, clc_kept, store_kept, cap_imm_kept}
 use Rattle.cap_machine.proofs.KeptRows.{cap_reg_kept, cap_get_kept}
+
+pub byte_read : (w : World) → GivesBytes w → (k : ℕ) (o : Option ℕ) → slice_get w.bytes k ≡ o → IfSome o (λ b. b < 256)
+byte_read w bytes k None e = tt
+byte_read w bytes k (Some b) e = bytes k b e
 
 module _ (t : Text) (well : LiesWell t) (text : IsContainedText t) where
   module _ (m : Machine) (has : IsContained t m) where
@@ -115,45 +118,39 @@ module _ (t : Text) (well : LiesWell t) (text : IsContainedText t) where
   abbrev StopsContained : Stopped Machine End → Type 0
   StopsContained r = LeavesContained t r.state (Some r.ending)
 
-  byte_within : (bytes : List ℕ) (k : ℕ) → All (λ b. b < 256) bytes → IfSome (slice_get bytes k) (λ b. b < 256)
-  byte_within bytes k small = elim (cases_lt k (length bytes)) as (λ _. IfSome (slice_get bytes k) (λ b. b < 256)) [
-    | inl within ↦ rw (slice_get-get_or bytes k 0 within) (All-get_or (λ b. b < 256) bytes k 0 within small)
-    | inr past ↦ rw (slice_get_past bytes k past) tt
-  ]
-
   stops : (m : Machine) (d : Done) (e : End) → IsContained t m → IsProper e → StopsContained (stopped m d e)
   stops m d e has proper = record { state = has; proper = proper }
 
-  acted_kept : (w : World) → All (λ b. b < 256) w.bytes → (m : Machine) (d : Done) → IsContained t m →
+  acted_kept : (w : World) → GivesBytes w → (m : Machine) (d : Done) → IsContained t m →
       (go : Machine → Done → Stopped Machine End) →
       ((m' : Machine) (d' : Done) → IsContained t m' → StopsContained (go m' d'))
       → (a : Act Machine End) → Keeps t a → StopsContained (act_in limits w m d go a)
-  acted_kept w small m d has go again (Goes m') kept = again m' d kept
-  acted_kept w small m d has go again (Puts b m') kept = by (fails_after w.failing_put (length d.output))
+  acted_kept w bytes m d has go again (Goes m') kept = again m' d kept
+  acted_kept w bytes m d has go again (Puts b m') kept = by (fails_after w.failing_put (length d.output))
     where
       by : (f : Bool) → StopsContained (if f then stopped m d WriteFault else go m' (with_put d b))
       by true = stops m d WriteFault has tt
       by false = again m' (with_put d b) kept
-  acted_kept w small m d has go again (Reads to) kept = by (fails_after w.failing_read d.reads)
+  acted_kept w bytes m d has go again (Reads to) kept = by (fails_after w.failing_read d.reads)
     where
       by : (f : Bool) → StopsContained (if f then stopped m d ReadFault
           else go (to (slice_get w.bytes d.reads)) (with_read d))
       by true = stops m d ReadFault has tt
       by false = again (to (slice_get w.bytes d.reads)) (with_read d)
-          (kept (slice_get w.bytes d.reads) (byte_within w.bytes d.reads small))
-  acted_kept w small m d has go again (Ends e) kept = stops m d e has kept
+          (kept (slice_get w.bytes d.reads) (byte_read w bytes d.reads _ refl))
+  acted_kept w bytes m d has go again (Ends e) kept = stops m d e has kept
 
-  run_kept : (w : World) → All (λ b. b < 256) w.bytes → (n : ℕ) (m : Machine) (d : Done) → IsContained t m →
+  run_kept : (w : World) → GivesBytes w → (n : ℕ) (m : Machine) (d : Done) → IsContained t m →
       StopsContained (run limits act w n m d)
   unfolding run
-  run_kept w small zero m d has = stops m d Steps has tt
-  run_kept w small (suc n) m d has =
-      acted_kept w small m d has (run limits act w n) (λ m' d' has'. run_kept w small n m' d' has') (act m)
+  run_kept w bytes zero m d has = stops m d Steps has tt
+  run_kept w bytes (suc n) m d has =
+      acted_kept w bytes m d has (run limits act w n) (λ m' d' has'. run_kept w bytes n m' d' has') (act m)
       (act_kept m has)
 
   -- each state of a run up to its end: that after any number of acts
   pub runs_contained : (m : Machine) → IsContained t m → RunsContained t m
-  runs_contained m has w small steps = run_kept w small steps m nothing_done has
+  runs_contained m has w bytes steps = run_kept w bytes steps m nothing_done has
 
 -- ---- what a step did
 

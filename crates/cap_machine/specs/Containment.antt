@@ -1,7 +1,7 @@
 -- Containment: what holds of each state of a run whose text is contained, from its first state up to its end.
 use Rattle.std.specs.Prelude.{◌≡◌, ℕ, ◌-◌, ◌%◌, ◌^◌, ◌<◌, ◌≤◌, ◌⊎◌, true, false, List, length, slice_index, Option}
-use Rattle.std.specs.Prelude.{Some, All, Contains, IfSome}
-use Rattle.ck_base.specs.World.{World}
+use Rattle.std.specs.Prelude.{Some, Contains, IfSome}
+use Rattle.ck_base.specs.World.{World, GivesBytes}
 use Rattle.ck_base.specs.Runs.{Act, Goes, Puts, Reads, Ends, outcome, state_and_ending}
 use Rattle.cap_ops.specs.declared.capability.Cap.{Cap}
 use Rattle.cap_ops.specs.declared.capability.TheConstants.{UNSEALED, SENTRY, EXECUTE}
@@ -95,7 +95,7 @@ pub record LeavesContained (t : Text) (m : Machine) (answer : Option End) : Type
 abbrev pub StaysContained : Machine → Machine → Option End → Type 0
 StaysContained old new answer = (t : Text) → IsContainedText t → IsContained t old → LeavesContained t new answer
 
--- each run from this state, of any number of steps, in any world of bytes
+-- each run from this state, of any number of steps, in any world that gives bytes
 abbrev pub RunsContained : Text → Machine → Type 0
-RunsContained t m = (w : World) → All (λ b. b < 256) w.bytes → (steps : ℕ) →
+RunsContained t m = (w : World) → GivesBytes w → (steps : ℕ) →
     let last = (outcome limits act state_and_ending m steps w).ending in LeavesContained t last.0 (Some last.1)

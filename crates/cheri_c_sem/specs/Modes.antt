@@ -37,8 +37,8 @@ abbrev pub overflows : IntKind → ℤ → Bool
 overflows k z = is_signed (form_of k) && not (int_le (least_of (form_of k)) z && int_le z (greatest_of (form_of k)))
 
 -- a shift count is negative, or not below the width of the promoted left operand (C11 6.5.7p3)
-abbrev pub is_outside : IntKind → ℤ → Bool
-is_outside k y = int_lt y (pos 0) || int_le (pos (promoted_width_of k)) y
+abbrev pub outside_width : IntKind → ℤ → Bool
+outside_width k y = int_lt y (pos 0) || int_le (pos (promoted_width_of k)) y
 
 -- A left shift of a negative signed number, or one whose result its kind doesn't have (C11 6.5.7p4)
 abbrev pub loses : IntKind → ℤ → ℤ → Bool
@@ -54,8 +54,8 @@ is_undefined Rem k x y = int_eq y (pos 0) || overflows k (int_div x y)
 is_undefined And k x y = false
 is_undefined Or k x y = false
 is_undefined Xor k x y = false
-is_undefined Shl k x y = is_outside k y || loses k x y
-is_undefined Shr k x y = is_outside k y
+is_undefined Shl k x y = outside_width k y || loses k x y
+is_undefined Shr k x y = outside_width k y
 
 abbrev pub int_of : Mode → IntOp → IntKind → IntKind → ℕ → ℕ → Result ℕ Fault
 int_of (Placed a) op k count x y = Ok (binary_of op k x y)

@@ -1,23 +1,21 @@
 -- What is built of a file's program is built of the file, and why its program is refused is why the file is.
-use Rattle.std.proofs.Common.{◌≡◌, ℕ, ◌<◌, ◌≤◌, true, false, List, Result, Ok, Err, subst, sym, inl, inr}
+use Rattle.std.proofs.Common.{◌≡◌, ℕ, ◌<◌, ◌≤◌, List, Result, Ok, Err, subst, sym, inl, inr}
 use Rattle.std.specs.Prelude.{IfOk, IfErr, OnOk}
 use Rattle.ck_base.specs.declared.positions.Pos.{Pos}
 use Rattle.ck_base.specs.declared.refusal.Refusal.{Refusal}
 use Rattle.ck_base.specs.declared.refusal.Refusal.TheVariants.{Code, NoMemory}
 use Rattle.c_tree.specs.declared.typed.Typed.{Typed}
-use Rattle.c_tree.specs.File.{weight_limit, Accepts, Refused, OneFile}
+use Rattle.c_tree.specs.File.{weight_limit, HasRoom, Accepts, Refused, OneFile}
 use Rattle.c_tree.specs.File as files
 use Rattle.c_tree.specs.Typing.{Sound}
 use Rattle.c_tree.specs.Weight.{weight}
 use Rattle.obj_mem.specs.declared.map.Map.{Map}
-use Rattle.bounds_place.specs.Placing.{exceeds}
 use Rattle.c_facts.proofs.Sound.{well_typed}
 use Rattle.cheric_build.specs.Front.{IsTyped, IsBroken}
 use Rattle.typed_build.specs.Built.{start, IsBuilt, IsRefusal, ExceedsBy}
 use Rattle.typed_build.specs.declared.building.Built.{Built}
 use Rattle.typed_build.specs.Registers.{UsesRegisters}
 use Rattle.cheric_build.specs.FromFile.{IsBuiltFrom, IsFileRefusal, IsMadeOf}
-use Rattle.cheric_build.proofs.Rooms.{has_room, has_no_room}
 use Rattle.typed_build.proofs.SameBuilt.{built_same}
 
 -- ---- what the front end refuses
@@ -29,21 +27,21 @@ broken_file file NoMemory r = r
 -- ---- a file that has this program, and one answer
 
 module _ (file : List ℕ) (once : OneFile file) (p : Typed) (t : IsTyped file p) (s : Sound p) where
-  pub accepted : exceeds p ≡ false → weight p ≤ weight_limit → Accepts file p
-  accepted w light = record {
+  pub accepted : HasRoom p → weight p ≤ weight_limit → Accepts file p
+  accepted room light = record {
     tokens = t.tokens;
     syntax = t.syntax;
     reads = t.reads;
     types = t.types;
-    room = has_room p t.syntax t.types s w;
+    room = room;
     light = light;
   }
 
-  pub no_room : exceeds p ≡ true → Refused file 141 start
-  no_room h = files.room t.tokens t.syntax p t.reads t.types (has_no_room p t.syntax t.types s h)
+  pub no_room : (HasRoom p → ⊥) → Refused file 141 start
+  no_room h = files.room t.tokens t.syntax p t.reads t.types h
 
-  pub heavy : exceeds p ≡ false → weight_limit < weight p → Refused file 142 start
-  heavy w h = files.too_heavy t.tokens t.syntax p t.reads t.types (has_room p t.syntax t.types s w) h
+  pub heavy : HasRoom p → weight_limit < weight p → Refused file 142 start
+  heavy room h = files.too_heavy t.tokens t.syntax p t.reads t.types room h
 
   each : (elf : List ℕ) (m : Map) (count : ℕ) → IsBuilt p elf m count → Accepts file p → (q : Typed) → Accepts file q →
       IsBuilt q elf m count
@@ -52,7 +50,7 @@ module _ (file : List ℕ) (once : OneFile file) (p : Typed) (t : IsTyped file p
       built_same p q both.program (well_typed p s) b.types.ordered both.first both.second elf m count h
 
   pub built_of : (r : Result Built Refusal) → IfOk r (λ b. IsBuilt p b.elf.items b.map b.count) →
-      OnOk r (exceeds p ≡ false) → OnOk r (weight p ≤ weight_limit) →
+      OnOk r (HasRoom p) → OnOk r (weight p ≤ weight_limit) →
       IfOk r (λ b. IsBuiltFrom file b.elf.items b.map b.count)
   built_of (Ok b) h w light =
       let a = accepted w light in
@@ -60,7 +58,7 @@ module _ (file : List ℕ) (once : OneFile file) (p : Typed) (t : IsTyped file p
   built_of (Err e) h w light = tt
 
   pub made_of : (r : Result Built Refusal) → IfOk r (λ b. UsesRegisters p b.code b.places.items b.elf.items b.map) →
-      OnOk r (exceeds p ≡ false) → OnOk r (weight p ≤ weight_limit) →
+      OnOk r (HasRoom p) → OnOk r (weight p ≤ weight_limit) →
       IfOk r (λ b. IsMadeOf file b.code b.places.items b.elf.items b.map)
   made_of (Ok b) h w light = record { program = p; accepted = accepted w light; used = h }
   made_of (Err e) h w light = tt

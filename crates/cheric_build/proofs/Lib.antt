@@ -1,4 +1,3 @@
 pub mod Fronted
-pub mod Rooms
 pub mod Once
 pub mod FileAnswers

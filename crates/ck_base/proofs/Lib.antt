@@ -1,1 +1,2 @@
 mod NamedFiles
+pub mod Fronts

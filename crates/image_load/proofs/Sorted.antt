@@ -11,8 +11,8 @@ use Rattle.elf_file.specs.declared.image.Reloc.{Reloc}
 use Rattle.image_load.specs.declared.refusal.LoadRefusal.{LoadRefusal}
 use Rattle.image_load.specs.declared.refusal.LoadRefusal.TheVariants as refusal
 use Rattle.image_load.specs.Judging.{Extent, Judged, end_of, text_of, initial_of, segments_of, lies_well, segments_fit}
-use Rattle.image_load.specs.Judging.{overlap, some_overlap, lies_inside, is_entry, is_exact, is_place, is_capability}
-use Rattle.image_load.specs.Judging.{guard, judged_relocs, then_judged, judged}
+use Rattle.image_load.specs.Judging.{overlap, some_overlap, lies_inside, is_entry, is_encodable, is_place}
+use Rattle.image_load.specs.Judging.{is_capability, guard, judged_relocs, then_judged, judged}
 use Rattle.image_load.specs.Loading.{Loads}
 use Rattle.image_load.specs.State.{region_of, with_region, regions_of}
 use Rattle.image_load.proofs.Walk.{and_both, passed}
@@ -183,9 +183,9 @@ relocs_pass (Err e) rest h = absurd (let g : ◌≡◌ {A = Judged} (Err e) (Ok 
 pub record IsLoadedWell (i : Image) : Type 0 where
   pub spread : IsSpread (text_of i) (initial_of i) i.heap i.stack
   pub relocs : judged_relocs (initial_of i) i.relocs (Ok tt) ≡ Ok tt
-  pub text : is_exact (text_of i) ≡ true
-  pub table : is_exact i.table ≡ true
-  pub stack : is_exact i.stack ≡ true
+  pub text : is_encodable (text_of i) ≡ true
+  pub table : is_encodable i.table ≡ true
+  pub stack : is_encodable i.stack ≡ true
 
 pub judged_well : (i : Image) → judged i ≡ Ok tt → IsLoadedWell i
 unfolding judged
@@ -232,7 +232,8 @@ judged_own i =
     (own_guard (lies_inside i.table d) refusal.Overlap _ (λ h. cc)
     (own_guard (is_entry i.entry t) refusal.Entry _ (λ h. cc)
     (own_then _ _ (own_relocs d i.relocs)
-    (own_guard (is_exact t && is_exact i.table && is_exact i.stack) refusal.Bounds (Ok tt) (λ h. cc) none)))))
+    (own_guard (is_encodable t && is_encodable i.table && is_encodable i.stack) refusal.Bounds (Ok tt) (λ h. cc)
+    none)))))
 
 pub loads_refused : (i : Image) (e : LoadRefusal) → judged i ≡ Err e → Loads i (Err e)
 loads_refused i refusal.Segment h = h

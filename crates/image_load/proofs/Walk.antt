@@ -12,7 +12,7 @@ use Rattle.cap_machine.specs.Rows.{memory_bits}
 use Rattle.elf_file.specs.declared.image.Reloc.{Reloc}
 use Rattle.image_load.specs.declared.refusal.LoadRefusal.{LoadRefusal}
 use Rattle.image_load.specs.declared.refusal.LoadRefusal.TheVariants as refusal
-use Rattle.image_load.specs.Judging.{Extent, Judged, end_of, is_exact, is_place, is_capability, capability_of}
+use Rattle.image_load.specs.Judging.{Extent, Judged, end_of, is_encodable, is_place, is_capability, capability_of}
 use Rattle.image_load.specs.Judging.{judged_relocs}
 use Rattle.image_load.specs.State.{relocated}
 
@@ -22,9 +22,9 @@ pub and_both : (a b : Bool) → (a && b) ≡ true → (a ≡ true) × (b ≡ tru
 and_both true b h = (refl, h)
 and_both false b h = absurd cc
 
-pub exact_facts : (e : Extent) → is_exact e ≡ true →
+pub exact_facts : (e : Extent) → is_encodable e ≡ true →
     (end_of e ≤ 2 ^ 64) × (least_base e.0 (end_of e) ≡ e.0) × (least_top e.0 (end_of e) ≡ end_of e)
-unfolding is_exact
+unfolding is_encodable
 exact_facts e h =
     let f = and_both _ _ h in
     let g = and_both _ _ f.0 in
@@ -72,7 +72,7 @@ passed false x e h = absurd cc
 
 pub record IsLoadable (r : Reloc) : Type 0 where
   pub even : r.place % 16 ≡ 0
-  pub exact : is_exact (r.base, r.length) ≡ true
+  pub exact : is_encodable (r.base, r.length) ≡ true
 
 loadable_by : (r : Reloc) (i : Extent) → is_place r.place i ≡ true → is_capability r ≡ true → IsLoadable r
 unfolding is_place is_capability

@@ -60,8 +60,8 @@ is_entry at text = nat_le text.0 at && nat_lt at (end_of text) && at % 4 == 0
 -- ---- capabilities
 
 -- the bounds can be encoded as they are: they are the least bounds of themselves
-unfoldable pub is_exact : Extent → Bool
-is_exact e = nat_le (end_of e) (2 ^ 64) && nat_eq (least_base e.0 (end_of e)) e.0
+unfoldable pub is_encodable : Extent → Bool
+is_encodable e = nat_le (end_of e) (2 ^ 64) && nat_eq (least_base e.0 (end_of e)) e.0
     && nat_eq (least_top e.0 (end_of e)) (end_of e)
 
 -- the permission word: bits 0 to 6 are permissions, bit 63 says sentry, and the others are 0; a sentry has Execute
@@ -89,7 +89,7 @@ unfoldable pub is_place : ℕ → Extent → Bool
 is_place at initial = at % 16 == 0 && nat_le initial.0 at && nat_le (at + 16) (end_of initial)
 
 unfoldable pub is_capability : Reloc → Bool
-is_capability r = is_permission_word r.perms && is_exact (r.base, r.length) && keeps_extent r
+is_capability r = is_permission_word r.perms && is_encodable (r.base, r.length) && keeps_extent r
 
 -- ---- the tests
 
@@ -117,4 +117,4 @@ judged i =
     (guard (lies_inside i.table (initial_of i)) refusal.Overlap
     (guard (is_entry i.entry (text_of i)) refusal.Entry
     (then_judged (judged_relocs (initial_of i) i.relocs (Ok tt))
-    (guard (is_exact (text_of i) && is_exact i.table && is_exact i.stack) refusal.Bounds (Ok tt))))))
+    (guard (is_encodable (text_of i) && is_encodable i.table && is_encodable i.stack) refusal.Bounds (Ok tt))))))

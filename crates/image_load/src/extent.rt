@@ -1,7 +1,7 @@
 //! Extents, and the tests of a loader on them.
 ghost use Rattle.std.specs.Prelude.{◌≡◌, ◌+◌, ◌<◌, ◌≤◌, ◌^◌, true};
 ghost use Rattle.image_load.specs.Judging.{end_of, lies_well, segments_fit, overlap, some_overlap, lies_inside};
-ghost use Rattle.image_load.specs.Judging.{is_entry, is_exact, is_place, is_permission_word, is_sentry};
+ghost use Rattle.image_load.specs.Judging.{is_entry, is_encodable, is_place, is_permission_word, is_sentry};
 ghost use Rattle.cap_ops.specs.Bounded.{bounded};
 
 use cap_concentrate::{Fields, set_bounds};
@@ -84,9 +84,9 @@ pub fn is_place(at: u64, initial: Extent) -> bool
 }
 
 /// Whether a capability can have these bounds as they are.
-#[tactic(auto, unfolding(crate::specs::Judging::is_exact))]
-pub fn is_exact(e: Extent) -> bool
-    ensures { result ≡ is_exact e }
+#[tactic(auto, unfolding(crate::specs::Judging::is_encodable))]
+pub fn is_encodable(e: Extent) -> bool
+    ensures { result ≡ is_encodable e }
 {
     let end = end_of(e);
     if end > 1 << 64 {
@@ -113,7 +113,7 @@ pub fn is_permission_word(word: u64) -> bool
 
 /// The capability of an extent.
 pub fn bounded(e: Extent, perms: u16, otype: u32, address: u64) -> Cap
-    requires exact { is_exact e ≡ true }
+    requires exact { is_encodable e ≡ true }
     requires perms { perms < 4096 }
     requires otype { otype < 2 ^ 18 }
     ensures { result ≡ bounded e.0 (end_of e) perms otype address }

@@ -1,12 +1,12 @@
 //! Which images are refused.
 ghost use Rattle.std.specs.Prelude.{◌≡◌, ◌+◌, ◌<◌, true, Ok, Some, slice_get};
 ghost use Rattle.image_load.specs.Judging.{Extent as ExtentOf, text_of, initial_of, address_of, capability_of};
-ghost use Rattle.image_load.specs.Judging.{keeps_extent, is_capability, is_exact, judged_relocs, judged};
+ghost use Rattle.image_load.specs.Judging.{keeps_extent, is_capability, is_encodable, judged_relocs, judged};
 ghost use Rattle.cap_ops.specs.Capability.{base, top};
 ghost use Rattle.elf_file.specs.Image.{words_of};
 
 use crate::extent::{
-    Extent, bounded, is_entry, is_exact, is_permission_word, is_place, is_sentry, lies_inside,
+    Extent, bounded, is_encodable, is_entry, is_permission_word, is_place, is_sentry, lies_inside,
     segments_fit, some_overlap,
 };
 use crate::refusal::LoadRefusal;
@@ -82,7 +82,7 @@ fn address_of(r: Reloc) -> u64
 
 /// The capability of a relocation with exact bounds.
 pub fn capability_of(r: Reloc) -> Cap
-    requires { is_exact (r.base, r.length) ≡ true }
+    requires { is_encodable (r.base, r.length) ≡ true }
     ensures { result ≡ capability_of r }
 {
     let otype = if is_sentry(r.perms) { SENTRY } else { UNSEALED };
@@ -97,7 +97,7 @@ pub fn capability_of(r: Reloc) -> Cap
 /// Whether it has the bounds of the relocation at its address.
 #[tactic(auto, unfolding(crate::specs::Judging::keeps_extent))]
 fn keeps_extent(r: Reloc) -> bool
-    requires { is_exact (r.base, r.length) ≡ true }
+    requires { is_encodable (r.base, r.length) ≡ true }
     ensures { result ≡ keeps_extent r }
 {
     let c = capability_of(r);
@@ -109,7 +109,7 @@ fn keeps_extent(r: Reloc) -> bool
 fn is_capability(r: Reloc) -> bool
     ensures { result ≡ is_capability r }
 {
-    is_permission_word(r.perms) && is_exact((r.base, r.length)) && keeps_extent(r)
+    is_permission_word(r.perms) && is_encodable((r.base, r.length)) && keeps_extent(r)
 }
 
 /// Relocation by relocation, its place and then its capability.
@@ -149,7 +149,7 @@ pub fn judge(view: &View<'_>) -> Result<(), LoadRefusal>
         return Err(LoadRefusal::Entry);
     }
     judge_relocs(view, initial)?;
-    if is_exact(text) && is_exact(table) && is_exact(stack) {
+    if is_encodable(text) && is_encodable(table) && is_encodable(stack) {
         Ok(())
     } else {
         Err(LoadRefusal::Bounds)

@@ -2,7 +2,7 @@
 ghost use Rattle.std.specs.Prelude.{All, ◌≡◌, ◌%◌, ◌≤◌, ◌<◌, ◌^◌, ℕ, true, Ok, OnOk, IfOk, List, length, nat_lt};
 ghost use Rattle.std.specs.List.{prefix_len};
 ghost use Rattle.cap_concentrate.specs.declared.fields.Fields.{Fields as FieldsOf};
-ghost use Rattle.image_load.specs.Judging.{end_of, segments_of, text_of, initial_of, judged, is_exact};
+ghost use Rattle.image_load.specs.Judging.{end_of, segments_of, text_of, initial_of, judged, is_encodable};
 ghost use Rattle.image_load.specs.State.{with_region, regions_of, relocated, memory_of, of_extent, machine_of};
 ghost use Rattle.image_load.specs.State.{registers_of};
 ghost use Rattle.image_load.specs.Loading.{Loads};

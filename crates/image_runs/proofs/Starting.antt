@@ -3,7 +3,7 @@ use Rattle.std.proofs.Common.{◌≡◌, ℕ, ◌+◌, ◌<◌, List, [], length
 use Rattle.std.proofs.Common.{subst, arith}
 use Rattle.std.specs.Prelude.{slice_get}
 use Rattle.std.proofs.lemmas.Option.{slice_get_within}
-use Rattle.ck_base.specs.World.{World, nothing_done}
+use Rattle.ck_base.specs.World.{World, GivesBytes, nothing_done}
 use Rattle.cap_ops.specs.declared.access.Cause.{Cause}
 use Rattle.cap_machine.specs.declared.end.End.TheVariants as end
 use Rattle.cap_machine.specs.declared.machine.Machine.{Machine}
@@ -23,7 +23,7 @@ use Rattle.select_runs.specs.Acts.{place}
 use Rattle.select_runs.specs.Calling.{Begins, EntersWithin, begin_words}
 use Rattle.select_runs.specs.Jumps.{LeadsTo}
 use Rattle.select_runs.specs.Operands.{IsAtPoint, ground_of}
-use Rattle.select_whole.specs.Matching.{IsOfBytes, Started, Starts}
+use Rattle.select_whole.specs.Matching.{Started, Starts}
 use Rattle.select_whole.specs.Visited.{Whole, entry_of, gives_by, locals_of, main_of, ops_of, tac_at}
 use Rattle.select_whole.proofs.Moves.{has_words}
 use Rattle.image_runs.specs.Asked.{FunctionIs, IsCode, IsLoaded, IsSelected}
@@ -33,7 +33,7 @@ use Rattle.image_runs.proofs.Labels.{hops}
 use Rattle.image_runs.proofs.Standing.{begins_with}
 
 module _ (g : Whole) (a : IsSelected g) (c : IsCode g) (l : IsLoaded g) (calls : CallsFirst g) (m : Machine)
-    (x : IsFirst g m) (w : World) (bytes : IsOfBytes w) where
+    (x : IsFirst g m) (w : World) (bytes : GivesBytes w) where
   abbrev main : ℕ
   main = main_of g
 

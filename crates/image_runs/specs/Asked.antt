@@ -3,19 +3,16 @@
 use Rattle.std.specs.Prelude.{◌≡◌, ℕ, ◌+◌, ◌*◌, ◌<◌, ◌≤◌, true, List, ◌∷◌, ◌++◌, length, Option, Some, None}
 use Rattle.std.specs.Prelude.{slice_get}
 use Rattle.std.specs.List.{Contains}
-use Rattle.ck_base.specs.Agreement.{Sides, DoesWhatIsMeant, KeepsToOutside, DoesAllThatIsMeant}
-use Rattle.ck_base.specs.Runs.{outcome, ending_alone}
-use Rattle.ck_base.specs.World.{World}
+use Rattle.ck_base.specs.Agreement.{Sides, DoesWhatIsMeant}
+use Rattle.ck_base.specs.World.{World, GivesBytes}
 use Rattle.ck_base.specs.declared.positions.Pos.{Pos}
 use Rattle.cap_ops.specs.declared.access.Cause.{Cause}
-use Rattle.cap_machine.specs.Step.{act, limits}
 use Rattle.cap_machine.specs.declared.end.End.{End}
 use Rattle.cap_machine.specs.declared.end.End.TheVariants as end
 use Rattle.cap_machine.specs.declared.machine.Machine.{Machine}
 use Rattle.rv_instr.specs.declared.instr.Instr.{Instr}
 use Rattle.c_tree.specs.Typing.{Sound}
 use Rattle.obj_mem.specs.Needs.{Legal, needs_of, weight_in}
-use Rattle.obj_mem.specs.Endings.{is_turns, is_outside}
 use Rattle.obj_mem.specs.declared.ending.Ending.{Ending}
 use Rattle.obj_mem.specs.declared.ending.Ending.TheVariants as ending
 use Rattle.obj_mem.specs.declared.map.Frame.{Frame}
@@ -33,7 +30,7 @@ use Rattle.place_inject.specs.Entering.{IsFrameOf}
 use Rattle.place_inject.specs.Frames.{homes_of}
 use Rattle.place_inject.specs.Spills.{StackIsThere}
 use Rattle.place_inject.specs.Tables.{TableIsThere}
-use Rattle.tracked_runs.specs.Matching.{IsReport}
+use Rattle.tracked_runs.specs.Matching.{IsReport, sides_of}
 use Rattle.select_words.specs.Services.{KeepSome}
 use Rattle.select_words.specs.Entries.{stack_place}
 use Rattle.select_words.specs.Zeroing.{ZeroWords, granules}
@@ -43,7 +40,7 @@ use Rattle.select_runs.specs.Instructions.{IsOperation}
 use Rattle.select_runs.specs.Operands.{IsText, ground_of}
 use Rattle.select_runs.specs.Returning.{StubAt}
 use Rattle.select_runs.specs.Selecting.{selecting}
-use Rattle.select_whole.specs.Matching.{AreFine, IsOfBytes, Starts}
+use Rattle.select_whole.specs.Matching.{AreFine, Starts}
 use Rattle.select_whole.specs.Runs.{IsInteger, last_acts}
 use Rattle.select_whole.specs.Visited.{Whole, gives_at, kinds_at, locals_of, main_of}
 use Rattle.rv_select.specs.Selected.{AreNumbers, FunctionStands}
@@ -135,7 +132,7 @@ module _ (g : Whole) where
     pub promoted : (fun : ℕ) (f : TacFun) → Has fun f → (i : TacInstr) (rest : List TacInstr) → IsAt f i rest
         → IsInteger i → IsOperation i
     -- under a legal map the code means what the program means
-    pub same : Legal g.program g.setting.map → (w : World) → IsOfBytes w → (turns : ℕ)
+    pub same : Legal g.program g.setting.map → (w : World) → GivesBytes w → (turns : ℕ)
         → tac g.setting.code g.program g.setting.map w turns ≡ placed g.program g.setting.map w turns
 
   -- ---- what is of the machine that was loaded
@@ -155,7 +152,7 @@ module _ (g : Whole) where
     pub code : IsCode
     pub loaded : IsLoaded
     -- in so many acts the machine comes to where the first function is entered
-    pub starts : (w : World) → IsOfBytes w → Starts g w first m
+    pub starts : (w : World) → GivesBytes w → Starts g w first m
     -- what endings report, and how many acts there are for each turn
     pub reports : IsReport g.report
     pub fine : AreFine g
@@ -163,25 +160,11 @@ module _ (g : Whole) where
 
 -- ---- what is then known
 
--- both sides in one world
-abbrev pub sides_in : Whole → World → Machine → Sides End Ending
-sides_in g w m = record {
-  machine = λ v n. outcome limits act ending_alone m n w;
-  meaning = λ v n. placed g.program g.setting.map w n;
-  steps = end.Steps;
-  is_turns = is_turns;
-  is_outside = is_outside;
-  report = g.report;
-}
-
--- in a world that gives bytes the machine does what the program means, in both directions, and all of it within the
--- count for each turn
-pub record RunsAsMeantIn (g : Whole) (count : ℕ) (m : Machine) (w : World) : Type 0 where
-  pub does_what : DoesWhatIsMeant (sides_in g w m)
-  pub keeps : KeepsToOutside (sides_in g w m)
-  pub does_all : DoesAllThatIsMeant (sides_in g w m) count
+-- in one world, the machine's runs and what the program means
+abbrev pub program_sides : Whole → World → Machine → Sides End Ending
+program_sides g w m = sides_of g.report w (placed g.program g.setting.map w) m
 
 abbrev pub AskedCodeRuns : Type 0
 AskedCodeRuns =
-    (g : Whole) (first count : ℕ) (m : Machine) → IsAsked g first count m → (w : World) → IsOfBytes w
-    → RunsAsMeantIn g count m w
+    (g : Whole) (first count : ℕ) (m : Machine) → IsAsked g first count m → (w : World) → GivesBytes w
+    → DoesWhatIsMeant (program_sides g w m) count

@@ -1,6 +1,6 @@
 -- The machine that was loaded comes to the first function.
 use Rattle.std.specs.Prelude.{◌≡◌, ℕ, ℤ, None, Some, slice_get}
-use Rattle.ck_base.specs.World.{World, nothing_done}
+use Rattle.ck_base.specs.World.{World, GivesBytes, nothing_done}
 use Rattle.rv_instr.specs.declared.instr.Instr.TheVariants.{Cjal}
 use Rattle.cap_machine.specs.declared.machine.Machine.{Machine}
 use Rattle.cheri_c_sem.specs.Programs.{program_tree}
@@ -9,7 +9,7 @@ use Rattle.place_inject.specs.Fits.{Fits}
 use Rattle.tracked_runs.specs.Tracking.{moment}
 use Rattle.select_runs.specs.Acts.{counter_at, place}
 use Rattle.select_runs.specs.Operands.{ground_of}
-use Rattle.select_whole.specs.Matching.{IsOfBytes, Starts}
+use Rattle.select_whole.specs.Matching.{Starts}
 use Rattle.select_whole.specs.Runs.{AreWords}
 use Rattle.select_whole.specs.Visited.{Whole, locals_of, main_of, ops_of}
 use Rattle.rv_select.specs.Leading.{IsHop}
@@ -21,7 +21,7 @@ pub record IsFirst (g : Whole) (m : Machine) : Type 0 where
   pub fits : (w : World) (turns : ℕ) → Fits g.setting None
       (first_state (ops_of g) w g.setting.code g.program (locals_of g) (program_tree g.program) turns) m
   pub counter : m.pc ≡ counter_at (ground_of g.setting g.code) 0
-  pub addresses : (w : World) → IsOfBytes w → AreWords w (moment m nothing_done)
+  pub addresses : (w : World) → GivesBytes w → AreWords w (moment m nothing_done)
 
 -- The first word calls the first function, and behind it the run ends
 pub record CallsFirst (g : Whole) : Type 0 where
@@ -33,4 +33,4 @@ pub record CallsFirst (g : Whole) : Type 0 where
 -- In no act beside those with which the first function is entered the machine is there, or finds no room for its frame
 abbrev pub FirstStarts : Type 0
 FirstStarts = (g : Whole) → IsSelected g → IsCode g → IsLoaded g → CallsFirst g → (m : Machine) → IsFirst g m
-    → (w : World) → IsOfBytes w → Starts g w 0 m
+    → (w : World) → GivesBytes w → Starts g w 0 m

@@ -22,7 +22,7 @@ use Rattle.obj_mem.specs.Legal.{ObjectNeed, Apart, AreApart, IsApartFrom, AreAli
 use Rattle.obj_mem.specs.Legal.{placed_at, objects_of}
 use Rattle.obj_mem.specs.Needs.{Legal, need_by, nothing_of, global_need, literal_need, is_const, weight_in}
 use Rattle.obj_mem.specs.Objects.{Shape}
-use Rattle.obj_mem.specs.Standing.{AreExact, IsSpread}
+use Rattle.obj_mem.specs.Standing.{HaveBounds, IsSpread}
 use Rattle.obj_mem.specs.Table.{addresses_of, object_base}
 use Rattle.obj_mem.specs.declared.map.Map.{Map}
 use Rattle.obj_mem.proofs.Spread.{objects_are_exact_law}
@@ -143,7 +143,7 @@ module _ (p : Typed) (sound : Sound p) (m : Map) (legal : Legal p m) where
   pub typed : WellTyped p
   typed = well_typed p sound
 
-  pub exact : AreExact (asked_by p).globals m.globals × AreExact (asked_by p).literals m.literals
+  pub exact : HaveBounds (asked_by p).globals m.globals × HaveBounds (asked_by p).literals m.literals
   exact = objects_are_exact_law (weight_in p) p m legal
 
   pub aligned : (k base : ℕ) → slice_get (m.globals ++ m.literals) k ≡ Some base → base % 16 ≡ 0

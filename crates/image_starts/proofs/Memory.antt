@@ -17,7 +17,7 @@ use Rattle.image_load.specs.Judging.{Extent, end_of, text_of, initial_of, overla
 use Rattle.image_load.specs.State.{regions_of, memory_of}
 use Rattle.image_load.proofs.Judged.{IsJudged, judged_is, no_both}
 use Rattle.image_load.proofs.Sorted.{regions_lie}
-use Rattle.image_starts.specs.Images.{IsOfBytes}
+use Rattle.image_starts.specs.Images.{HasBytes}
 use Rattle.image_starts.proofs.Regions.{added_here, added_other, with_here, with_other, fits_among}
 use Rattle.image_starts.proofs.Relocated.{relocated_memory, relocated_inside, relocated_bytes, relocated_tags, all_good}
 
@@ -64,7 +64,7 @@ into a b h x from to = elim (cases_lt x a.0) as (λ _. (x < a.0) ⊎ (end_of a �
   ]
 ]
 
-module _ (i : Image) (fine : judged i ≡ Ok tt) (small : IsOfBytes i) where
+module _ (i : Image) (fine : judged i ≡ Ok tt) (small : HasBytes i) where
   abbrev all : List Region
   all = regions_of (segments_of i)
 

@@ -22,7 +22,7 @@ use Rattle.c_tree.specs.declared.typed.Typed.{Typed}
 use Rattle.rv_instr.specs.declared.instr.Instr.{Instr}
 use Rattle.obj_mem.specs.Legal.{Needs}
 use Rattle.obj_mem.specs.Objects.{Active, Shape}
-use Rattle.obj_mem.specs.Standing.{AreExact}
+use Rattle.obj_mem.specs.Standing.{HaveBounds}
 use Rattle.obj_mem.specs.Table.{Start, Holds, WholeHeap, table_starts, heap_entry, entry_count, function_entry}
 use Rattle.obj_mem.specs.Table.{start_capability, addresses_of, object_base, pointer_to}
 use Rattle.obj_mem.specs.Values.{Fun}
@@ -248,8 +248,8 @@ module _ (p : Typed) (s : Setting) (code : List Instr) (i : Image) (h : IsImageO
       let both = exact p h.sound m h.legal in
       record {
         legal = is_legal p s code i h;
-        exact_globals = subst (λ (x : Needs). AreExact x.globals m.globals) back both.0;
-        exact_literals = subst (λ (x : Needs). AreExact x.literals m.literals) back both.1;
+        exact_globals = subst (λ (x : Needs). HaveBounds x.globals m.globals) back both.0;
+        exact_literals = subst (λ (x : Needs). HaveBounds x.literals m.literals) back both.1;
         globals = same_lengths p h.sound m h.legal ∙ ap (λ (x : Needs). map length_needed x.globals) back;
         literals = literals_lengths p.literals ∙ ap (λ (x : Needs). map length_needed x.literals) back;
         aligned = aligned p h.sound m h.legal;

@@ -1,14 +1,14 @@
 -- The machine of a contained image, and all that it comes to, have addresses of 64 bits.
-use Rattle.std.proofs.Common.{◌≡◌, ℕ, zero, suc, ◌<◌, Bool, true, false, Option, Some, None, refl, subst}
-use Rattle.std.specs.Prelude.{IfSome, slice_get, length, if◌then◌else◌}
+use Rattle.std.proofs.Common.{◌≡◌, ℕ, zero, suc, Bool, true, false, refl, subst}
+use Rattle.std.specs.Prelude.{slice_get, length, if◌then◌else◌}
 use Rattle.ck_base.specs.Runs.{Act, Goes, Puts, Reads, Ends, with_put, with_read}
-use Rattle.ck_base.specs.World.{World, Done, fails_after, nothing_done}
+use Rattle.ck_base.specs.World.{World, Done, GivesBytes, fails_after, nothing_done}
 use Rattle.cap_machine.specs.Containment.{IsContained, Keeps}
 use Rattle.cap_machine.specs.ContainedText.{Text, LiesWell, IsContainedText}
 use Rattle.cap_machine.specs.Step.{act, limits}
 use Rattle.cap_machine.specs.declared.end.End.{End}
 use Rattle.cap_machine.specs.declared.machine.Machine.{Machine}
-use Rattle.cap_machine.proofs.Containment.{act_kept}
+use Rattle.cap_machine.proofs.Containment.{act_kept, byte_read}
 use Rattle.image_load.specs.Contained.{text_in}
 use Rattle.image_load.specs.State.{machine_of}
 use Rattle.image_load.proofs.First.{first_contained}
@@ -16,11 +16,7 @@ use Rattle.tracked_runs.specs.Tracking.{Moment, Next, Ended, Reaches, moment, st
 use Rattle.image_starts.specs.Running.{ImagesHaveWords}
 
 module _ (t : Text) (well : LiesWell t) (text : IsContainedText t) (w : World)
-    (bytes : (k b : ℕ) → slice_get w.bytes k ≡ Some b → b < 256) where
-  byte_read : (o : Option ℕ) (k : ℕ) → slice_get w.bytes k ≡ o → IfSome o (λ b. b < 256)
-  byte_read None k e = tt
-  byte_read (Some b) k e = bytes k b e
-
+    (bytes : GivesBytes w) where
   unless : (f : Bool) (e : End) (m next : Moment Machine) → IsContained t m.state
       → (if f then Ended e else Next m) ≡ Next next → IsContained t next.state
   unless true e m next has is = absurd cc
@@ -36,7 +32,7 @@ module _ (t : Text) (well : LiesWell t) (text : IsContainedText t) (w : World)
   goes_on (Reads to) d next kept e =
       unless (fails_after w.failing_read d.reads) limits.read_fault
       (moment (to (slice_get w.bytes d.reads)) (with_read d)) next
-      (kept (slice_get w.bytes d.reads) (byte_read (slice_get w.bytes d.reads) d.reads refl)) e
+      (kept (slice_get w.bytes d.reads) (byte_read w bytes d.reads _ refl)) e
   goes_on (Ends x) d next kept e = absurd cc
 
   pub reached : (k : ℕ) (s n : Moment Machine) → Reaches limits act w k s n → IsContained t s.state

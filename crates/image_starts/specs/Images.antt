@@ -21,8 +21,8 @@ use Rattle.place_inject.specs.Spills.{StackIsThere}
 use Rattle.place_inject.specs.Tables.{TableIsThere}
 use Rattle.image_starts.specs.Words.{code_bytes}
 
--- The image's bytes, each below 256
-pub record IsOfBytes (i : Image) : Type 0 where
+-- the image's text and initial bytes are bytes
+pub record HasBytes (i : Image) : Type 0 where
   pub text : All (λ b. b < 256) i.text
   pub initial : All (λ b. b < 256) i.initial
 
@@ -33,7 +33,7 @@ pub record IsImageOf (p : Typed) (s : Setting) (code : List Instr) (i : Image) :
   pub needs : s.needs ≡ asked_by p
   pub loaded : s.loaded ≡ machine_of i
   pub fine : judged i ≡ Ok tt
-  pub bytes : IsOfBytes i
+  pub bytes : HasBytes i
   pub text : text_of i ≡ s.map.text
   pub table : i.table ≡ s.map.table
   pub heap : i.heap ≡ s.map.heap

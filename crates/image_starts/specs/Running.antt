@@ -1,6 +1,6 @@
 -- What is known of the runs of the machine to which an image loads.
-use Rattle.std.specs.Prelude.{◌≡◌, ℕ, ◌+◌, ◌*◌, ◌^◌, ◌<◌, List, Ok, Some, slice_get}
-use Rattle.ck_base.specs.World.{World, nothing_done}
+use Rattle.std.specs.Prelude.{◌≡◌, ℕ, ◌+◌, ◌*◌, ◌^◌, ◌<◌, List, Ok}
+use Rattle.ck_base.specs.World.{World, GivesBytes, nothing_done}
 use Rattle.rv_instr.specs.declared.instr.Instr.{Instr}
 use Rattle.cap_machine.specs.State.{register}
 use Rattle.cap_machine.specs.Step.{act, limits}
@@ -15,7 +15,7 @@ use Rattle.place_inject.specs.Frames.{Setting}
 use Rattle.tracked_runs.specs.Tracking.{Moment, Reaches, moment}
 use Rattle.select_runs.specs.Acts.{counter_at}
 use Rattle.select_runs.specs.Operands.{IsText, ground_of}
-use Rattle.image_starts.specs.Images.{IsImageOf, IsOfBytes}
+use Rattle.image_starts.specs.Images.{IsImageOf, HasBytes}
 
 -- The code is the machine's text
 abbrev pub ImagesAreText : Type 0
@@ -24,8 +24,7 @@ ImagesAreText = (p : Typed) (s : Setting) (code : List Instr) (i : Image) → Is
 
 -- Of a contained image: in a world that gives bytes addresses have 64 bits in all that the machine comes to
 abbrev pub ImagesHaveWords : Type 0
-ImagesHaveWords = (i : Image) → judged i ≡ Ok tt → Contained i → IsOfBytes i → (w : World)
-    → ((k b : ℕ) → slice_get w.bytes k ≡ Some b → b < 256)
+ImagesHaveWords = (i : Image) → judged i ≡ Ok tt → Contained i → HasBytes i → (w : World) → GivesBytes w
     → (k : ℕ) (n : Moment Machine) → Reaches limits act w k (moment (machine_of i) nothing_done) n
     → (r : ℕ) → (register n.state r).fields.address < 2 ^ 64
 

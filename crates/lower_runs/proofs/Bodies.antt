@@ -1,7 +1,7 @@
 -- All code that the relation makes of statements does what they mean, by induction on how it is made.
 use Rattle.std.proofs.Common.{◌≡◌, ℕ, ◌+◌, ◌≤◌, Bool, false, List, Option, Some, refl, sym, subst, ◌∙◌, arith}
 use Rattle.std.specs.Prelude.{slice_get}
-use Rattle.ck_base.specs.World.{World}
+use Rattle.ck_base.specs.World.{World, GivesBytes}
 use Rattle.ck_base.specs.declared.positions.Pos.{Pos}
 use Rattle.c_tree.specs.declared.typed.Typed.{Typed}
 use Rattle.obj_mem.specs.Values.{Value}
@@ -13,7 +13,7 @@ use Rattle.cheri_c_sem.specs.Tree.{Ex, Nil, Declared, Label, St, Sts}
 use Rattle.tac_ir.specs.Meaning.{Running, kinds_of}
 use Rattle.tac_ir.specs.declared.code.Tac.{Tac}
 use Rattle.tac_ir.specs.declared.code.TacKind.{TacKind}
-use Rattle.lower_runs.specs.States.{Scene, IsScene, IsPlaced, AreBytes}
+use Rattle.lower_runs.specs.States.{Scene, IsScene, IsPlaced}
 use Rattle.lower_runs.specs.Operating.{Code}
 use Rattle.lower_runs.specs.Expressions.{Mark, Signature, Within, more, labelled, IsOperand, IsEffect, IsCondition}
 use Rattle.lower_runs.specs.Statements as rule
@@ -37,7 +37,7 @@ entered_limit g h ds c (rule.whole {g = i} {h = j} {n = n} {t = t} {ds = es} {c 
 
 module _ (ops : Operations Store) (placed : IsPlaced ops) (world : World) (all : Tac) (p : Typed)
     (objects : ℕ → List ℕ) (running : Running) (call : ℕ → List Value → Then Store Value) (signs : ℕ → Signature)
-    (result : Option TacKind) (bytes : AreBytes world) (limit : ℕ)
+    (result : Option TacKind) (bytes : GivesBytes world) (limit : ℕ)
     (calls : CallsRun ops world all p objects call signs limit) where
   abbrev temps : List TacKind
   temps = kinds_of (slice_get all.funs running.fun)

@@ -3,7 +3,7 @@ use Rattle.std.proofs.Common.{◌≡◌, ℕ, zero, suc, ◌<◌, ◌≤◌, ◌
 use Rattle.std.proofs.Common.{length}
 use Rattle.std.proofs.Common.{map, Option, Some, None, ◌⊎◌, inl, inr, refl, sym, ap, subst, ◌∙◌, arith}
 use Rattle.std.specs.Prelude.{slice_get, slice_index_or}
-use Rattle.std.proofs.lemmas.Bool.{and_parts, and_from, eqb-true}
+use Rattle.std.proofs.lemmas.Bool.{and_parts, and_from, eqb-true, false≢true}
 use Rattle.std.proofs.lemmas.Option.{slice_get_within}
 use Rattle.ck_int.specs.declared.kinds.IntKind.{IntKind}
 use Rattle.ck_int.specs.declared.kinds.IntKind.TheVariants as int
@@ -153,17 +153,17 @@ module _ (p : Typed) (o : IsOrdered p) where
   same_level f g hf hg (Some (ctypes.Incomplete t)) (Some (ctypes.Union u ns)) e = (refl, refl)
   same_level f g hf hg (Some (ctypes.Incomplete t)) (Some (ctypes.Incomplete u)) e = (refl, refl)
   same_level f g hf hg (Some (ctypes.Const t)) (Some (ctypes.Const u)) e = (refl, refl)
-  same_level f g hf hg a b e = absurd cc
+  same_level f g hf hg a b e = absurd (false≢true e)
 
   -- at one level, and behind a `const` of each
   module _ (f g : ℕ → ℕ → Bool) where
     shut_open : (s : ℕ) (c : CType) → is_plain c ≡ true → agree_of f g (Some (ctypes.Const s)) (Some c) ≡ true → ⊥
-    shut_open s (ctypes.Const r) h k = cc
-    shut_open s c h k = cc
+    shut_open s (ctypes.Const r) h k = false≢true h
+    shut_open s c h k = false≢true k
 
     open_shut : (s : ℕ) (c : CType) → is_plain c ≡ true → agree_of f g (Some c) (Some (ctypes.Const s)) ≡ true → ⊥
-    open_shut s (ctypes.Const r) h k = cc
-    open_shut s c h k = cc
+    open_shut s (ctypes.Const r) h k = false≢true h
+    open_shut s c h k = false≢true k
 
     both_same : AreSame f → AreSame g → (t u : ℕ) (a b : CType) → slice_get types t ≡ Some a →
         slice_get types u ≡ Some b →
@@ -184,13 +184,13 @@ module _ (p : Typed) (o : IsOrdered p) where
 
     own_same : AreSame f → AreSame g → (t u : ℕ) (a b : Option CType) → slice_get types t ≡ a →
         slice_get types u ≡ b → agree_of f g a b ≡ true → IsSame (bare types t) (bare types u)
-    own_same hf hg t u None None q r e = absurd cc
-    own_same hf hg t u None (Some b) q r e = absurd cc
+    own_same hf hg t u None None q r e = absurd (false≢true e)
+    own_same hf hg t u None (Some b) q r e = absurd (false≢true e)
     own_same hf hg t u (Some a) None q r e = absurd (none a e)
       where
         none : (a : CType) → agree_of f g (Some a) None ≡ true → ⊥
-        none ctypes.Void k = cc
-        none a k = cc
+        none ctypes.Void k = false≢true k
+        none a k = false≢true k
     own_same hf hg t u (Some a) (Some b) q r e = both_same hf hg t u a b q r e (behind a) (behind b)
 
   same_types : (d : ℕ) (loose : Bool) → AreSame (agree_within d types loose)
@@ -264,7 +264,7 @@ module _ (p : Typed) (o : IsOrdered p) where
     same_numbers int.U32 int.U32 h = refl
     same_numbers int.I64 int.I64 h = refl
     same_numbers int.U64 int.U64 h = refl
-    same_numbers k j h = absurd cc
+    same_numbers k j h = absurd (false≢true h)
 
     same_truths : (a b : Bool) → same_truth a b ≡ true → same_bool a b ≡ true
     same_truths true b h = h
@@ -336,17 +336,17 @@ module _ (p : Typed) (o : IsOrdered p) where
           let lt = slice_get_within types t _ x in let lu = slice_get_within types u _ y in
           let i = o.types t _ x in let j = o.types u _ y in
           hf a b (omega arith) (omega arith) (omega arith) (omega arith) e
-      level_follows t u l m a b x y e = absurd cc
+      level_follows t u l m a b x y e = absurd (false≢true e)
 
       tree_shut : (i : ℕ) (b : CType) → is_plain b ≡ true →
           trees.compatible (Const (T i)) (type_from b T) ≡ true → ⊥
-      tree_shut i (ctypes.Const j) h e = cc
-      tree_shut i b h e = cc
+      tree_shut i (ctypes.Const j) h e = false≢true h
+      tree_shut i b h e = false≢true e
 
       shut_tree : (a : CType) (j : ℕ) → is_plain a ≡ true →
           trees.compatible (type_from a T) (Const (T j)) ≡ true → ⊥
-      shut_tree (ctypes.Const i) j h e = cc
-      shut_tree a j h e = cc
+      shut_tree (ctypes.Const i) j h e = false≢true h
+      shut_tree a j h e = false≢true e
 
       loose_follows : ((i j : ℕ) → i < n → j < n → i < many → j < many → agrees i j ≡ true →
           agree_of f g (bare types i) (bare types j) ≡ true) →

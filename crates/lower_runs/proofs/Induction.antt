@@ -1,7 +1,7 @@
 -- All code that the relation makes of expressions does what they mean, by induction on how it is made.
 use Rattle.std.specs.Prelude.{ℕ, not, Bool, true, false, List, [], Option}
 use Rattle.std.specs.Prelude.{Some, None}
-use Rattle.ck_base.specs.World.{World}
+use Rattle.ck_base.specs.World.{World, GivesBytes}
 use Rattle.ck_base.specs.declared.positions.Pos.{Pos}
 use Rattle.c_tree.specs.declared.typed.Typed.{Typed}
 use Rattle.obj_mem.specs.Values.{Value}
@@ -16,7 +16,7 @@ use Rattle.tac_ir.specs.Meaning.{Running}
 use Rattle.tac_ir.specs.declared.code.Tac.{Tac}
 use Rattle.tac_ir.specs.declared.code.TacKind.{TacKind}
 use Rattle.tac_ir.specs.declared.code.TacKind.TheVariants as kind
-use Rattle.lower_runs.specs.States.{Scene, IsScene, IsPlaced, AreBytes}
+use Rattle.lower_runs.specs.States.{Scene, IsScene, IsPlaced}
 use Rattle.lower_runs.specs.Operating as operating
 use Rattle.lower_runs.specs.Operating.{Code, AreInts, long, give, transfer, moved_temps, address_temps, changed_temps}
 use Rattle.lower_runs.specs.Operating.{signed_temps, stepped_temps, stride}
@@ -129,7 +129,7 @@ module _ (ops : Operations Store) (placed : IsPlaced ops) (world : World) (all :
       Type 0
   Call_runs = CallRuns ops world all p objects call signs running g
 
-  module _ (bytes : AreBytes world) (calls : CallsRun ops world all p objects call signs g.limit) where
+  module _ (bytes : GivesBytes world) (calls : CallsRun ops world all p objects call signs g.limit) where
     signed_ok : (k : TacKind) (e : Ex) (t to : ℕ) (q : Pos) (sign : Sign) (m n : Mark) (c : Code) →
         Operand_in_runs k e to t m n c →
         AreInts (kinds ops world all p objects running call g) (operating.signed sign k to t n.temps [])

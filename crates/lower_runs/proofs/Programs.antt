@@ -5,7 +5,7 @@ use Rattle.std.specs.Prelude.{slice_get}
 use Rattle.std.proofs.lemmas.Bool.Decides.{nat_tests}
 use Rattle.std.proofs.lemmas.List.{length-map}
 use Rattle.std.proofs.lemmas.Option.{slice_get_within}
-use Rattle.ck_base.specs.World.{World}
+use Rattle.ck_base.specs.World.{World, GivesBytes}
 use Rattle.ck_base.specs.declared.positions.Pos.{Pos}
 use Rattle.c_facts.proofs.Sound.{well_typed}
 use Rattle.c_tree.specs.Types.{Ty, Tys, Function, no_types, count}
@@ -39,7 +39,7 @@ use Rattle.lower_runs.specs.Functions as taken
 use Rattle.lower_runs.specs.Operating.{Code}
 use Rattle.lower_runs.specs.Programs.{AreCodeOf, IsProgram, ProgramsRun}
 use Rattle.lower_runs.specs.Shortened.{AreShort}
-use Rattle.lower_runs.specs.States.{Scene, AreBytes}
+use Rattle.lower_runs.specs.States.{Scene}
 use Rattle.lower_runs.proofs.Called.{calls_are_run}
 use Rattle.lower_runs.proofs.Frames.{frames_legal}
 use Rattle.lower_runs.proofs.Needs.{objects_needed}
@@ -97,7 +97,7 @@ gives_int None h = absurd h
 gives_int (Some k) h = ap Some h
 
 module _ (p : Typed) (sound : Sound p) (t : Tac) (is : IsProgram p t) (m : Map) (legal : Legal p m) (w : World)
-    (bytes : AreBytes w) where
+    (bytes : GivesBytes w) where
   abbrev signs : ℕ → Signature
   signs = is.signs
 

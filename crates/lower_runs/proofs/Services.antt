@@ -2,7 +2,7 @@
 use Rattle.std.proofs.Common.{◌≡◌, ℕ, ◌≤◌, ◌<◌, Bool, true, false, List, [], ◌∷◌, length, Option, Some}
 use Rattle.std.proofs.Common.{None, Result, Ok, refl, sym, ap, subst, ◌∙◌, arith}
 use Rattle.std.specs.Prelude.{slice_get, slice_set, slice_index_or, ◌-◌, ◌%◌, ◌^◌}
-use Rattle.ck_base.specs.World.{World, Done as Did, fails_after}
+use Rattle.ck_base.specs.World.{World, Done as Did, GivesBytes, fails_after}
 use Rattle.ck_base.specs.Runs.{with_put, with_read}
 use Rattle.ck_base.specs.declared.positions.Pos.{Pos}
 use Rattle.ck_int.specs.Kinds.{IsKept, wrapped, kept_of, reduced}
@@ -32,7 +32,7 @@ use Rattle.tac_ir.specs.declared.code.TacInstr.{TacInstr}
 use Rattle.tac_ir.specs.declared.code.TacInstr.TheVariants as instr
 use Rattle.tac_ir.specs.declared.code.TacKind.{TacKind}
 use Rattle.tac_ir.specs.declared.code.TacKind.TheVariants as kind
-use Rattle.lower_runs.specs.States.{Scene, IsScene, IsOf, IsOnward, IsPlaced, IsWorkedOn, AreBytes, kind_given}
+use Rattle.lower_runs.specs.States.{Scene, IsScene, IsOf, IsOnward, IsPlaced, IsWorkedOn, kind_given}
 use Rattle.lower_runs.specs.Operating.{Code, word}
 use Rattle.lower_runs.specs.Expressions.{Mark, Signature, spares, int_kind, pointer_kind, cap_of, intrinsic}
 use Rattle.lower_runs.specs.Expressions.{serves}
@@ -259,7 +259,7 @@ module _ (ops : Operations Store) (placed : IsPlaced ops) (w : World) (t : Tac) 
             (Rattle.lower_runs.proofs.Agreement.onward_same ops u.mem)
             ∙ optional_runs (value.Int b) u.mem (with_put u.done b)
 
-    get_runs : AreBytes w → (q : Pos) (ts : List ℕ) (vs : List Value) → AreIn ts vs us → (k ≡ Some int_kind) →
+    get_runs : GivesBytes w → (q : Pos) (ts : List ℕ) (vs : List Value) → AreIn ts vs us → (k ≡ Some int_kind) →
         serve ops w q Get_char vs u l ≡ run (instr.Lib lib.GetChar to ts ∷ rest) u us
     get_runs bytes q ts vs values is =
         by (fails_after w.failing_read u.done.reads)
@@ -380,7 +380,7 @@ module _ (ops : Operations Store) (placed : IsPlaced ops) (w : World) (t : Tac) 
         by None = ap (λ z. run z u us) (sym none)
         by (Some at) = ap (λ z. run z u us) (sym (some at))
 
-    serve_runs : AreBytes w → (service : Service) (ks : List TacKind) (ts : List ℕ) (vs : List Value) (q : Pos) →
+    serve_runs : GivesBytes w → (service : Service) (ks : List TacKind) (ts : List ℕ) (vs : List Value) (q : Pos) →
         Takes service ks → AreOf ks vs → AreIn ts vs us → k ≡ served service (first_kind ks)
         → serve ops w q service vs u l ≡ run (serves service to (first_kind ks) ts rest) u us
     serve_runs bytes Put_char ks ts vs q takes typed values is = put_runs q ts vs values is
@@ -432,7 +432,7 @@ module _ (ops : Operations Store) (placed : IsPlaced ops) (w : World) (t : Tac) 
     serve_runs bytes (Works o) (j ∷ ks) ts [] q takes typed values is = absurd typed
     serve_runs bytes (Works o) (j ∷ ks) [] (v ∷ vs) q takes typed values is = absurd values
 
-  pub library_call : AreBytes w →
+  pub library_call : GivesBytes w →
       (k : Option TacKind) (to : Option ℕ) (service : Service) (es : Exs) (ks : List TacKind)
       (ts : List ℕ) (q : Pos) (m n : Mark) (c : Code) → IsAsked to k → served service (first_kind ks) ≡ k →
       Takes service ks → ArgumentsRun ops w t p objects call signs r g es ks ts m n c

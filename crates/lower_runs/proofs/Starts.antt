@@ -17,7 +17,7 @@ use Rattle.obj_mem.specs.Access.{stored_piece}
 use Rattle.obj_mem.specs.Legal.{ObjectNeed, Needs}
 use Rattle.obj_mem.specs.Needs.{Legal, is_const, global_need, literal_need, needs_of, weight_in}
 use Rattle.obj_mem.specs.Objects.{Active, Placed, blank}
-use Rattle.obj_mem.specs.Standing.{IsExact, AreExact}
+use Rattle.obj_mem.specs.Standing.{HasBounds, HaveBounds}
 use Rattle.obj_mem.specs.Values.{Value, Int}
 use Rattle.obj_mem.specs.declared.ending.Fault.{Fault}
 use Rattle.obj_mem.specs.declared.map.Map.{Map}
@@ -38,7 +38,7 @@ use Rattle.lower_runs.proofs.Needs.{need_length}
 use Rattle.lower_runs.proofs.Placed.{at_map, same_some, exact_at, IsPiece, bytes_all, stored_is, blank_filled}
 use Rattle.lower_runs.proofs.Placed.{onward_added, onward_store}
 
-literal_small : (ls : List Literal) (bs : List ℕ) → AreExact (map literal_need ls) bs → (k : ℕ) (l : Literal) →
+literal_small : (ls : List Literal) (bs : List ℕ) → HaveBounds (map literal_need ls) bs → (k : ℕ) (l : Literal) →
     slice_get ls k ≡ Some l → owned (length l.bytes) ≤ 2 ^ 40
 literal_small [] bs x k l e = absurd cc
 literal_small (y ∷ ls) [] x k l e = absurd x
@@ -53,12 +53,12 @@ module _ (p : Typed) (w : WellTyped p) (m : Map) (legal : Legal p m) where
   abbrev ops : Operations Store
   ops = operations (placed_plan m)
 
-  exact : AreExact needs.globals m.globals × AreExact needs.literals m.literals
+  exact : HaveBounds needs.globals m.globals × HaveBounds needs.literals m.literals
   exact = objects_are_exact_law (weight_in p) p m legal
 
   -- ---- the objects
 
-  added : (n : ObjectNeed) (base long : ℕ) → IsExact n base → n.length ≡ long → (s : Store) →
+  added : (n : ObjectNeed) (base long : ℕ) → HasBounds n base → n.length ≡ long → (s : Store) →
       IsOnward ops s (with_object (placed_plan m) s long base)
   added n base long x is s =
       let low : base + owned long ≤ 2 ^ 40 = subst (λ z. base + owned z ≤ 2 ^ 40) is x.based.to in
@@ -70,7 +70,7 @@ module _ (p : Typed) (w : WellTyped p) (m : Map) (legal : Legal p m) where
         exact = exact_at base long low (rw is at aligned);
       }) (blank_filled (at_map needs m legal) (owned long))
 
-  globals_added : (gs : List GlobalDef) (bs : List ℕ) → AreExact (map (global_need p.types) gs) bs →
+  globals_added : (gs : List GlobalDef) (bs : List ℕ) → HaveBounds (map (global_need p.types) gs) bs →
       ((i : ℕ) (g : GlobalDef) → slice_get gs i ≡ Some g → (k : ℕ) × (slice_get p.globals k ≡ Some g)) →
       (k : ℕ) → ((i : ℕ) → slice_index_or m.globals (k + i) 0 ≡ slice_index_or bs i 0) → (s : Store) →
       IsOnward ops s (add_globals ops s k (map (global_tree p) gs))
@@ -95,7 +95,7 @@ module _ (p : Typed) (w : WellTyped p) (m : Map) (legal : Legal p m) where
       next : (k i : ℕ) → suc k + i ≡ k + suc i
       next k i = omega arith
 
-  literals_added : (ls : List Literal) (bs : List ℕ) → AreExact (map literal_need ls) bs → (k : ℕ) →
+  literals_added : (ls : List Literal) (bs : List ℕ) → HaveBounds (map literal_need ls) bs → (k : ℕ) →
       ((i : ℕ) → slice_index_or m.literals (k + i) 0 ≡ slice_index_or bs i 0) → (s : Store) →
       IsOnward ops s (add_literals ops s k (map (λ (l : Literal). l.bytes) ls))
   unfolding operations

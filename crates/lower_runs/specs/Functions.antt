@@ -1,7 +1,7 @@
 -- The entry and the end of a function: their code, and what it does.
 use Rattle.std.specs.Prelude.{◌≡◌, ℕ, ◌+◌, ◌≤◌, ◌<◌, ◌==◌, List, [], ◌∷◌, length, Option, Some, None, slice_get}
 use Rattle.std.specs.Prelude.{if◌then◌else◌}
-use Rattle.ck_base.specs.World.{World}
+use Rattle.ck_base.specs.World.{World, GivesBytes}
 use Rattle.ck_base.specs.declared.positions.Pos.{Pos}
 use Rattle.c_tree.specs.declared.typed.Typed.{Typed}
 use Rattle.obj_mem.specs.Values.{Value}
@@ -19,7 +19,7 @@ use Rattle.tac_ir.specs.declared.code.TacFun.{TacFun}
 use Rattle.tac_ir.specs.declared.code.TacInstr.{TacInstr}
 use Rattle.tac_ir.specs.declared.code.TacInstr.TheVariants as instr
 use Rattle.tac_ir.specs.declared.code.TacKind.{TacKind}
-use Rattle.lower_runs.specs.States.{Home, Scene, IsScene, IsOnward, IsPlaced, Agrees, AreBytes}
+use Rattle.lower_runs.specs.States.{Home, Scene, IsScene, IsOnward, IsPlaced, Agrees}
 use Rattle.lower_runs.specs.Sound.{IsSound}
 use Rattle.lower_runs.specs.Frames.{HasFrames}
 use Rattle.lower_runs.specs.Operating.{Code}
@@ -148,7 +148,7 @@ pub record IsFunction (p : Typed) (signs : ℕ → Signature) (it : Option TacFu
 -- A function runs as its call means, given calls with fewer turns
 abbrev pub FunctionsRun : Type 0
 FunctionsRun =
-    (ops : Operations Store) → IsPlaced ops → (w : World) → AreBytes w →
+    (ops : Operations Store) → IsPlaced ops → (w : World) → GivesBytes w →
     (t : Tac) (p : Typed) (objects : ℕ → List ℕ) → HasFrames ops objects →
     (call : ℕ → List Value → Then Store Value) (signs : ℕ → Signature) (funs : List Fun) (n : ℕ) (f : Fun)
     (limit : ℕ) → f.objects ≡ objects n → IsFunction p signs (slice_get t.funs n) n f limit →
@@ -165,7 +165,7 @@ FunctionsRun =
 -- Where each function of a program has code that stands for it, calls as deep as the turns allow run
 abbrev pub CallsAreRun : Type 0
 CallsAreRun =
-    (ops : Operations Store) → IsPlaced ops → (w : World) → AreBytes w →
+    (ops : Operations Store) → IsPlaced ops → (w : World) → GivesBytes w →
     (t : Tac) (p : Typed) (objects : ℕ → List ℕ) → HasFrames ops objects → (signs : ℕ → Signature) (funs : List Fun)
     → ((limit n : ℕ) → n < length p.funs → (f : Fun) × (slice_get funs n ≡ Some f) × (f.objects ≡ objects n) ×
     IsFunction p signs (slice_get t.funs n) n f limit)

@@ -1,6 +1,6 @@
 -- The code of a program stands for it, function by function; its run is then the program's.
 use Rattle.std.specs.Prelude.{◌≡◌, ℕ, suc, List, [], ◌∷◌, Some}
-use Rattle.ck_base.specs.World.{World}
+use Rattle.ck_base.specs.World.{World, GivesBytes}
 use Rattle.c_tree.specs.Typing.{Sound}
 use Rattle.c_tree.specs.declared.typed.FunDef.{FunDef}
 use Rattle.c_tree.specs.declared.typed.Typed.{Typed}
@@ -14,7 +14,6 @@ use Rattle.tac_ir.specs.declared.code.TacFun.{TacFun}
 use Rattle.lower_runs.specs.Expressions.{Signature}
 use Rattle.lower_runs.specs.Functions.{IsFunction}
 use Rattle.lower_runs.specs.Shortened.{IsShortFun}
-use Rattle.lower_runs.specs.States.{AreBytes}
 
 -- The code of a function stands for it, but that it may lack its end behind a return
 pub record IsCodeOf (p : Typed) (signs : ℕ → Signature) (n : ℕ) (d : FunDef) (it : TacFun) : Type 0 where
@@ -37,5 +36,5 @@ pub record IsProgram (p : Typed) (t : Tac) : Type 0 where
 -- of turns
 abbrev pub ProgramsRun : Type 0
 ProgramsRun =
-    (p : Typed) → Sound p → (t : Tac) → IsProgram p t → (m : Map) → Legal p m → (w : World) → AreBytes w →
+    (p : Typed) → Sound p → (t : Tac) → IsProgram p t → (m : Map) → Legal p m → (w : World) → GivesBytes w →
     (turns : ℕ) → tac t p m w turns ≡ placed p m w turns

@@ -1,6 +1,6 @@
 -- The results: code that the relation makes of an expression, or of a statement, does what that means.
 use Rattle.std.specs.Prelude.{ℕ, Bool, List, Option, slice_get}
-use Rattle.ck_base.specs.World.{World}
+use Rattle.ck_base.specs.World.{World, GivesBytes}
 use Rattle.c_tree.specs.declared.typed.Typed.{Typed}
 use Rattle.obj_mem.specs.Values.{Value}
 use Rattle.cheri_c_sem.specs.Modes.{Store}
@@ -10,7 +10,7 @@ use Rattle.cheri_c_sem.specs.Tree.{Ex, Exs, St}
 use Rattle.tac_ir.specs.Meaning.{Running, kinds_of}
 use Rattle.tac_ir.specs.declared.code.Tac.{Tac}
 use Rattle.tac_ir.specs.declared.code.TacKind.{TacKind}
-use Rattle.lower_runs.specs.States.{Scene, IsScene, IsPlaced, AreBytes}
+use Rattle.lower_runs.specs.States.{Scene, IsScene, IsPlaced}
 use Rattle.lower_runs.specs.Operating.{Code}
 use Rattle.lower_runs.specs.Expressions.{Mark, Signature, IsValue, IsOperand, IsEffect, IsCondition, IsPlace}
 use Rattle.lower_runs.specs.Statements.{Exits, IsStatement}
@@ -42,7 +42,7 @@ ExpressionsRun =
     (ops : Operations Store) → IsPlaced ops →
     (w : World) (t : Tac) (p : Typed) (objects : ℕ → List ℕ) (r : Running)
     (call : ℕ → List Value → Then Store Value) (signs : ℕ → Signature) (g : Scene) → IsScene g
-    → AreBytes w → CallsRun ops w t p objects call signs g.limit → Runs ops w t p objects r call signs g
+    → GivesBytes w → CallsRun ops w t p objects call signs g.limit → Runs ops w t p objects r call signs g
 
 -- ---- statements
 
@@ -52,6 +52,6 @@ StatementsAreRun =
     (ops : Operations Store) → IsPlaced ops →
     (w : World) (t : Tac) (p : Typed) (objects : ℕ → List ℕ) (r : Running)
     (call : ℕ → List Value → Then Store Value) (signs : ℕ → Signature) (result : Option TacKind) (g : Scene) → IsScene g
-    → AreBytes w → CallsRun ops w t p objects call signs g.limit → (x : Exits) (a : St) (m n : Mark) (c : Code) →
+    → GivesBytes w → CallsRun ops w t p objects call signs g.limit → (x : Exits) (a : St) (m n : Mark) (c : Code) →
     IsStatement p signs (kinds_of (slice_get t.funs r.fun)) result g x a m n c →
     StatementRuns ops w t p objects r call result g x a m n c

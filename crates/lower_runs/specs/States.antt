@@ -4,7 +4,6 @@
 use Rattle.std.specs.Prelude.{◌≡◌, ◌≢◌, ℕ, ◌+◌, ◌%◌, ◌^◌, ◌≤◌, ◌<◌, not, Bool, true, false, List, length, Option, Some}
 use Rattle.std.specs.Prelude.{None}
 use Rattle.std.specs.Prelude.{Result, Ok, slice_get, ◌==◌}
-use Rattle.ck_base.specs.World.{World}
 use Rattle.ck_int.specs.Arithmetic.{binary_of}
 use Rattle.ck_int.specs.Kinds.{IsKept}
 use Rattle.ck_int.specs.declared.kinds.CmpOp.{CmpOp}
@@ -133,10 +132,6 @@ abbrev pub IsWorkedOn : Work → Value → Type 0
 IsWorkedOn asked.Rounded v = Unit {0}
 IsWorkedOn asked.Mask v = Unit {0}
 IsWorkedOn o v = IsPointer v
-
--- what a world gives to read are bytes
-abbrev pub AreBytes : World → Type 0
-AreBytes w = (i b : ℕ) → slice_get w.bytes i ≡ Some b → b < 256
 
 -- What the code asks of operations, as it has no positions for most of them: under a map they answer
 pub record IsPlaced (ops : Operations Store) : Type 0 where

@@ -6,7 +6,7 @@ use Rattle.c_tree.specs.declared.typed.GlobalDef.{GlobalDef}
 use Rattle.c_tree.specs.declared.typed.Literal.{Literal}
 use Rattle.obj_mem.specs.Legal.{ObjectNeed, AllInRange, placed_at, AreAligned}
 use Rattle.obj_mem.specs.Needs.{global_need, literal_need, needs_of}
-use Rattle.obj_mem.specs.Standing.{AreExact, ObjectsAreExact}
+use Rattle.obj_mem.specs.Standing.{HaveBounds, ObjectsAreExact}
 use Rattle.obj_mem.proofs.Powers.{IsPower, power_one, need_power, length_aligned}
 
 abbrev AllPower : List ObjectNeed → Type 0
@@ -30,7 +30,7 @@ range_last [] ys h = h
 range_last (x ∷ xs) ys h = range_last xs ys h.2
 
 all_exact : (ns : List ObjectNeed) (bs : List ℕ) → AllPower ns → AreAligned ns bs → AllInRange (placed_at ns bs) →
-    AreExact ns bs
+    HaveBounds ns bs
 all_exact [] [] p a r = tt
 all_exact [] (b ∷ bs) p a r = absurd a
 all_exact (n ∷ ns) [] p a r = absurd a

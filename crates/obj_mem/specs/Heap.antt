@@ -2,10 +2,11 @@
 use Rattle.std.specs.Prelude.{ℕ, ◌+◌, ◌-◌, nat_lt, length, Result, Ok, if◌then◌else◌}
 use Rattle.cap_concentrate.specs.Rounding.{owned, rounded_up}
 use Rattle.cap_ops.specs.Permissions.{data_permissions}
+use Rattle.c_tree.specs.Layout.{object_alignment}
 use Rattle.obj_mem.specs.declared.ending.Fault.{Fault}
 use Rattle.obj_mem.specs.declared.ending.Reason.TheVariants as R
 use Rattle.obj_mem.specs.Values.{Value, Live, Addresses, null_with}
-use Rattle.obj_mem.specs.Objects.{Memory, Mode, Placed, Strict, object_alignment, add}
+use Rattle.obj_mem.specs.Objects.{Memory, Mode, Placed, Strict, add}
 use Rattle.obj_mem.specs.Access.{unspecified}
 
 -- What a run knows of its heap is one number: in the placed mode the next free address; in the strict one the sum over

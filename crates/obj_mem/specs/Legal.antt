@@ -3,10 +3,10 @@
 use Rattle.std.specs.Prelude.{ℕ, ◌≡◌, ◌+◌, ◌*◌, ◌%◌, ◌^◌, ◌<◌, ◌≤◌, ◌⊎◌, ◌==◌, List, [], ◌∷◌, ◌++◌, length, find}
 use Rattle.std.specs.Prelude.{Option, Some, slice_get}
 use Rattle.cap_concentrate.specs.Rounding.{Encodable, owned}
+use Rattle.c_tree.specs.Layout.{object_alignment}
 use Rattle.obj_mem.specs.declared.map.Map.{Map}
 use Rattle.obj_mem.specs.declared.map.Frame.{Frame}
 use Rattle.obj_mem.specs.declared.map.Slot.{Slot}
-use Rattle.obj_mem.specs.Objects.{object_alignment}
 
 -- ---- what a program asks of its map
 

@@ -1,7 +1,7 @@
 -- Memory as separate objects, in the placed mode and in the strict one (CHERI C: objects; C11 6.2.4, 6.2.6).
 use Rattle.std.specs.Prelude.{ℕ, zero, suc, ◌+◌, ◌*◌, ◌/◌, ◌%◌, ◌==◌, ◌&&◌, max, Bool, true, false, List, [], ◌∷◌, ◌++◌}
 use Rattle.std.specs.Prelude.{replicate, Option, Some, None, slice_get, slice_set, if◌then◌else◌}
-use Rattle.cap_concentrate.specs.Rounding.{alignment, owned}
+use Rattle.cap_concentrate.specs.Rounding.{owned}
 use Rattle.obj_mem.specs.Values.{Value, Live, Addresses, memory_bits}
 
 -- A byte. In the strict mode it may also be one that was not written, or byte k of a stored pointer, whose number is
@@ -134,10 +134,6 @@ abbrev pub with_value : Content → ℕ → Value → Content
 with_value c i v = record { cells = c.cells; values = slice_set c.values (i / 16) (Some v) }
 
 -- ---- objects that come and go
-
--- The object's alignment: the greatest of 16, its type's and that of its length
-abbrev pub object_alignment : ℕ → ℕ → ℕ
-object_alignment type_alignment n = max 16 (max type_alignment (alignment n))
 
 -- what a fresh byte is
 abbrev pub fresh : Mode → Cell

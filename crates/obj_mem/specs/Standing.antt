@@ -96,18 +96,18 @@ PointersAgreeEverywhere =
 -- ---- under a legal map
 
 -- An object at a base has bounds of its own there: the least bounds of its owned length are these
-pub record IsExact (n : ObjectNeed) (base : ℕ) : Type 0 where
+pub record HasBounds (n : ObjectNeed) (base : ℕ) : Type 0 where
   pub based : IsBased base (owned_of n) n.length
   pub base_exact : least_base base (base + owned_of n) ≡ base
   pub top_exact : least_top base (base + owned_of n) ≡ base + owned_of n
 
-abbrev pub AreExact : List ObjectNeed → List ℕ → Type 0
-AreExact [] [] = Unit {0}
-AreExact [] (b ∷ bs) = ⊥
-AreExact (n ∷ ns) [] = ⊥
-AreExact (n ∷ ns) (b ∷ bs) = IsExact n b × AreExact ns bs
+abbrev pub HaveBounds : List ObjectNeed → List ℕ → Type 0
+HaveBounds [] [] = Unit {0}
+HaveBounds [] (b ∷ bs) = ⊥
+HaveBounds (n ∷ ns) [] = ⊥
+HaveBounds (n ∷ ns) (b ∷ bs) = HasBounds n b × HaveBounds ns bs
 
 -- each global and each literal of a program
 abbrev pub ObjectsAreExact : Type 0
 ObjectsAreExact = (weight : ℕ → ℕ) (p : Typed) (m : Map) → IsLegal (needs_of weight p) m
-    → AreExact (needs_of weight p).globals m.globals × AreExact (needs_of weight p).literals m.literals
+    → HaveBounds (needs_of weight p).globals m.globals × HaveBounds (needs_of weight p).literals m.literals

@@ -4,7 +4,7 @@ use Rattle.tag_mem.specs.Areas.{IsMemory, byte_at, tag_at}
 use Rattle.cap_machine.specs.State.{register}
 use Rattle.obj_mem.specs.Objects.{Shape, Content, Memory}
 use Rattle.obj_mem.specs.Legal.{ObjectNeed, IsLegal}
-use Rattle.obj_mem.specs.Standing.{AreExact}
+use Rattle.obj_mem.specs.Standing.{HaveBounds}
 use Rattle.obj_mem.specs.Table.{addresses_of, entry_count, heap_entry}
 use Rattle.cheri_c_sem.specs.Calls.{start, first_state}
 use Rattle.cheri_c_sem.specs.Modes.{operations, placed_plan}
@@ -20,8 +20,8 @@ use Rattle.place_inject.specs.Fits.{Fits}
 -- stand at multiples of 16; and the table has room for its entries
 pub record IsMapOf (s : Setting) (p : Program) : Type 0 where
   pub legal : IsLegal s.needs s.map
-  pub exact_globals : AreExact s.needs.globals s.map.globals
-  pub exact_literals : AreExact s.needs.literals s.map.literals
+  pub exact_globals : HaveBounds s.needs.globals s.map.globals
+  pub exact_literals : HaveBounds s.needs.literals s.map.literals
   pub globals : map (λ (g : Global). g.length) p.globals ≡ map (λ (n : ObjectNeed). n.length) s.needs.globals
   pub literals : map length p.literals ≡ map (λ (n : ObjectNeed). n.length) s.needs.literals
   pub aligned : (k base : ℕ) → slice_get (s.map.globals ++ s.map.literals) k ≡ Some base → base % 16 ≡ 0

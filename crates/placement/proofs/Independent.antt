@@ -25,7 +25,7 @@ use Rattle.obj_mem.specs.declared.ending.Ending.{Ending}
 use Rattle.obj_mem.specs.declared.ending.Ending.TheVariants as ending
 use Rattle.obj_mem.specs.Legal.{IsLegal}
 use Rattle.obj_mem.specs.Needs.{literal_need, needs_of, weight_in}
-use Rattle.obj_mem.specs.Standing.{IsFitted, AreExact}
+use Rattle.obj_mem.specs.Standing.{IsFitted, HaveBounds}
 use Rattle.obj_mem.proofs.Spread.{objects_are_exact_law}
 use Rattle.cheri_c_sem.specs.Types.{size_of_extent, size_in}
 use Rattle.cheri_c_sem.specs.Programs.{function_tree, function_trees, value_at, global_tree, program_tree}
@@ -65,7 +65,7 @@ behind p (d ∷ fs) j (suc i) f e = let b = behind p fs (suc j) i f e in
     record { number = b.number; def = b.def; there = b.there; is = b.is }
 
 -- a literal is no longer than the map has room for it
-literal_small : (ls : List Literal) (bs : List ℕ) → AreExact (map literal_need ls) bs → (k : ℕ) (l : Literal)
+literal_small : (ls : List Literal) (bs : List ℕ) → HaveBounds (map literal_need ls) bs → (k : ℕ) (l : Literal)
     → slice_get ls k ≡ Some l → owned (length l.bytes) ≤ 2 ^ 40
 literal_small [] bs x k l e = absurd cc
 literal_small (y ∷ ls) [] x k l e = absurd x
@@ -75,7 +75,7 @@ literal_small (y ∷ ls) (b ∷ bs) x (suc k) l e = literal_small ls bs x.1 k l 
 
 module _ (p : Typed) (q : terms.Program) (o : IsOrdered p) (s : Shows p q) (w : WellTyped p) (m : Map)
     (legal : IsLegal (needs_of (weight_in p) p) m) where
-  exact : AreExact (needs_of (weight_in p) p).globals m.globals × AreExact (needs_of (weight_in p) p).literals
+  exact : HaveBounds (needs_of (weight_in p) p).globals m.globals × HaveBounds (needs_of (weight_in p) p).literals
       m.literals
   exact = objects_are_exact_law (weight_in p) p m legal
 
@@ -196,9 +196,9 @@ module _ (p : Typed) (q : terms.Program) (o : IsOrdered p) (s : Shows p q) (w : 
 
 -- ---- the law
 
-all_words : (bs : List ℕ) → AllByRecursion (λ b. b < 256) bs → AllByRecursion IsWord bs
+all_words : (bs : List ℕ) → ((k b : ℕ) → slice_get bs k ≡ Some b → b < 256) → AllByRecursion IsWord bs
 all_words [] h = tt
-all_words (b ∷ bs) h = let x = h.0 in (omega (arith, x), all_words bs h.1)
+all_words (b ∷ bs) h = let x = h 0 b refl in (omega (arith, x), all_words bs (λ k. h (suc k)))
 
 not_open : (e : Ending) → IsOpen e → IsDefined e → ⊥
 not_open (ending.Unspecified r pos) h d = d

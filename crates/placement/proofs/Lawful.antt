@@ -9,7 +9,7 @@ use Rattle.obj_mem.specs.Objects.{Shape}
 use Rattle.obj_mem.specs.Legal.{ObjectNeed, Needs, owned_of, Apart, AreApart, IsApartFrom, AllApart, placed_at}
 use Rattle.obj_mem.specs.Legal.{AreAligned, objects_of, parts_of, IsLegal}
 use Rattle.obj_mem.specs.Table.{addresses_of}
-use Rattle.obj_mem.specs.Standing.{IsBased, IsSpread, AreExact}
+use Rattle.obj_mem.specs.Standing.{IsBased, IsSpread, HaveBounds}
 use Rattle.placement.specs.Memories.{IsClear, IsLaid}
 use Rattle.placement.proofs.Lists.{map_get, map_join}
 use Rattle.placement.proofs.Shapes.{swap}
@@ -64,7 +64,7 @@ AllBased [] = Unit {0}
 AllBased (s ∷ t) = IsBased s.base s.owned s.length × AllBased t
 
 based_from : (ns : List ObjectNeed) (bs : List ℕ) (base : ℕ → ℕ) (k : ℕ) → ((j : ℕ) → base (k + j) ≡ base_at bs j)
-    → AreExact ns bs → AllBased (shapes_from base k (map length_needed ns))
+    → HaveBounds ns bs → AllBased (shapes_from base k (map length_needed ns))
 based_from [] bs base k h e = tt
 based_from (n ∷ ns) [] base k h e = absurd e
 based_from (n ∷ ns) (b ∷ bs) base k h e =
@@ -97,8 +97,8 @@ entry_is [] f l = absurd (omega arith)
 entry_is (e ∷ es) zero l = (e, refl, refl)
 entry_is (e ∷ es) (suc f) l = entry_is es f (omega arith)
 
-module _ (n : Needs) (m : Map) (legal : IsLegal n m) (exact_globals : AreExact n.globals m.globals)
-    (exact_literals : AreExact n.literals m.literals) where
+module _ (n : Needs) (m : Map) (legal : IsLegal n m) (exact_globals : HaveBounds n.globals m.globals)
+    (exact_literals : HaveBounds n.literals m.literals) where
   abbrev a : Addresses
   a = addresses_of m
 

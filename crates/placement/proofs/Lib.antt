@@ -1,4 +1,3 @@
-pub mod Growing
 pub mod Lists
 pub mod Sim
 pub mod Operated

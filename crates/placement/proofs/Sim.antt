@@ -4,6 +4,8 @@ use Rattle.std.proofs.Common.{Result, Ok, Err, refl, sym, ◌∙◌, subst, inl,
 use Rattle.std.specs.Prelude.{slice_get, slice_set}
 use Rattle.ck_base.specs.World.{World, fails_after}
 use Rattle.ck_base.specs.Runs.{with_put, with_read}
+use Rattle.ck_base.specs.Calls.{BeginsWith}
+use Rattle.ck_base.proofs.Fronts.{begins_refl, begins_more, begins_trans}
 use Rattle.ck_base.specs.declared.positions.Pos.{Pos}
 use Rattle.obj_mem.specs.declared.ending.Fault.{Fault}
 use Rattle.obj_mem.specs.declared.ending.Fault.TheVariants as F
@@ -15,20 +17,19 @@ use Rattle.obj_mem.specs.Values.{Value}
 use Rattle.obj_mem.specs.Agreement.{Answers, CopyAnswers}
 use Rattle.cheri_c_sem.specs.Steps.{State, Fate, Then, ◌>>=◌, ◌>>◌, give, over, ends, fault_end, unit_end, answer}
 use Rattle.cheri_c_sem.specs.Steps.{unit_answer, ask, choose, turn_from, turn, set_memory, set_variable, put, get}
-use Rattle.placement.specs.Endings.{Begins, Agrees}
+use Rattle.placement.specs.Endings.{Agrees}
 use Rattle.placement.specs.Runs.{twin}
 use Rattle.placement.specs.Relations.{Both, Relation, Order, AllGood, VarsGood, Moved}
-use Rattle.placement.proofs.Growing.{begins_same, begins_twice, begins_more}
 
 abbrev pub agrees_same : (o : Fate) → Agrees o o
 agrees_same o = inr (inl refl)
 
 -- what follows keeps what was put
 abbrev pub Grows : {M A : Type 0} → (A → State M → Fate) → Type 0
-Grows {M} {A} k = (x : A) (t : State M) → Begins t.done.output (k x t).done.output
+Grows {M} {A} k = (x : A) (t : State M) → BeginsWith (k x t).done.output t.done.output
 
 abbrev pub KeepsOutput : {M A : Type 0} → Then M A → Type 0
-KeepsOutput {M} {A} c = (s : State M) (k : A → State M → Fate) → Grows k → Begins s.done.output (c s k).done.output
+KeepsOutput {M} {A} c = (s : State M) (k : A → State M → Fate) → Grows k → BeginsWith (c s k).done.output s.done.output
 
 -- ---- the values in what a part of a run gives
 
@@ -97,7 +98,7 @@ module _ {M N : Type 0} {r : Relation M N} (order : Order r) (objects : ℕ) whe
   pub sim_ends : {A : Type 0} {known : List Value} (given : A → List Value) (e : Ending)
       → Sim {A = A} known given (ends e) (ends e)
   sim_ends given e = record {
-    grows = λ s k g. begins_same s.done.output;
+    grows = λ s k g. begins_refl s.done.output;
     agrees = λ s n frame h a k l g f. inr
         (inl refl);
   }
@@ -138,11 +139,11 @@ module _ {M N : Type 0} {r : Relation M N} (order : Order r) (objects : ℕ) whe
 
   pub grows_answer : {A : Type 0} (pos : Pos) (x : Result A Fault) → KeepsOutput {M = M} (answer pos x)
   grows_answer pos (Ok x) s k g = g x s
-  grows_answer pos (Err f) s k g = begins_same s.done.output
+  grows_answer pos (Err f) s k g = begins_refl s.done.output
 
   pub grows_unit : {A : Type 0} (from to : Pos) (x : Result A UnitFault) → KeepsOutput {M = M} (unit_answer from to x)
   grows_unit from to (Ok x) s k g = g x s
-  grows_unit from to (Err f) s k g = begins_same s.done.output
+  grows_unit from to (Err f) s k g = begins_refl s.done.output
 
   -- answers that agree, and then what follows
   pub answered : {A B : Type 0} (P : A → B → Type 0) (pos : Pos) (x : Result A Fault) (y : Result B Fault)
@@ -215,7 +216,7 @@ module _ {M N : Type 0} {r : Relation M N} (order : Order r) (objects : ℕ) whe
   -- ---- turns
 
   grows_turn : (j : ℕ) → KeepsOutput {M = M} (turn_from j)
-  grows_turn zero s k g = begins_same s.done.output
+  grows_turn zero s k g = begins_refl s.done.output
   grows_turn (suc j) s k g = g tt (record s { left = j })
 
   pub sim_turn : {known : List Value} → Sim known no_values turn turn
@@ -322,11 +323,11 @@ module _ {M N : Type 0} {r : Relation M N} (order : Order r) (objects : ℕ) whe
     grows_put : (b : ℕ) (f : Bool)
         → KeepsOutput {M = M} {A = Unit {0}}
         (choose f (ends ending.WriteFault) (λ t k. k tt (record t { done = with_put t.done b })))
-    grows_put b true s k g = begins_same s.done.output
+    grows_put b true s k g = begins_refl s.done.output
     grows_put b false s k g =
         let t : State M = record s { done = with_put s.done b } in
-        let e : Begins t.done.output (k tt t).done.output = g tt t in
-        begins_twice s.done.output t.done.output (k tt t).done.output (begins_more s.done.output (b ∷ [])) e
+        let e : BeginsWith (k tt t).done.output t.done.output = g tt t in
+        begins_trans s.done.output t.done.output (k tt t).done.output (begins_more s.done.output (b ∷ [])) e
 
     pub sim_put : {known : List Value} (b : ℕ) → Sim known no_values (put w b) (put w b)
     sim_put b = record {
@@ -353,7 +354,7 @@ module _ {M N : Type 0} {r : Relation M N} (order : Order r) (objects : ℕ) whe
     grows_get : (f : Bool) → KeepsOutput {M = M}
         (choose f (ends ending.ReadFault)
         (λ t k. k (slice_get w.bytes t.done.reads) (record t { done = with_read t.done })))
-    grows_get true s k g = begins_same s.done.output
+    grows_get true s k g = begins_refl s.done.output
     grows_get false s k g = g (slice_get w.bytes s.done.reads) (record s { done = with_read s.done })
 
     pub sim_get : {known : List Value} (given : Option ℕ → List Value)

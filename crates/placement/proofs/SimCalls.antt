@@ -4,6 +4,8 @@ use Rattle.std.proofs.Common.{refl, sym, subst, inl, inr}
 use Rattle.std.specs.Prelude.{slice_get}
 use Rattle.std.specs.List.{AllByRecursion}
 use Rattle.ck_base.specs.World.{World}
+use Rattle.ck_base.specs.Calls.{BeginsWith}
+use Rattle.ck_base.proofs.Fronts.{begins_refl}
 use Rattle.ck_base.specs.declared.positions.Pos.{Pos}
 use Rattle.obj_mem.specs.declared.ending.Ending.TheVariants as ending
 use Rattle.obj_mem.specs.Values.{Value, Int}
@@ -16,11 +18,10 @@ use Rattle.cheri_c_sem.specs.Statements.{Flow, Goes, Breaks, Continues, Returns,
 use Rattle.cheri_c_sem.specs.Calls as parts
 use Rattle.cheri_c_sem.specs.Calls.{add_locals, end_locals, pass_one, pass, at_end, result_of, close, back, in_frame}
 use Rattle.cheri_c_sem.specs.Calls.{calls}
-use Rattle.placement.specs.Endings.{Begins, Agrees}
+use Rattle.placement.specs.Endings.{Agrees}
 use Rattle.placement.specs.Runs.{twin, exits}
 use Rattle.placement.specs.Relations.{IsWord, Relation, AllGood, VarsGood, Keeps, Entry}
 use Rattle.placement.specs.Trees.{ParameterFit, ParametersFit, FunctionFit, FunctionsFit}
-use Rattle.placement.proofs.Growing.{begins_same}
 use Rattle.placement.proofs.Sim.{Grows, no_values, itself, Stands, Onward, Sim, vars_climb, sim_give, sim_ends}
 use Rattle.placement.proofs.Sim.{sim_bind, sim_then, sim_answer, sim_set_variable, sim_change}
 use Rattle.placement.proofs.Operated.{nothing_good}
@@ -116,9 +117,9 @@ module _ {M N : Type 0} {r : Relation M N} {ops : Operations M} {pops : Operatio
       (i : ℕ) (f : Fun) (is : slice_get funs i ≡ Some f) (fit : FunctionFit globals (length funs) f)
       (vs : List Value) where
     grows_frame : (o : Option ℕ) (s : State M) (g : Value → State M → Fate) → Grows g
-        → Begins s.done.output ((parts.frame ops w o i f >> (work ops call f vs >>= λ v. return ops f s v)) s
-        g).done.output
-    grows_frame None s g gr = begins_same s.done.output
+        → BeginsWith ((parts.frame ops w o i f >> (work ops call f vs >>= λ v. return ops f s v)) s g).done.output
+        s.done.output
+    grows_frame None s g gr = begins_refl s.done.output
     grows_frame (Some at) s g gr =
         (sim_work call call' h f fit vs).grows
         (record s {
@@ -242,4 +243,4 @@ pub runs_agree : {M N : Type 0} (r : Relation M N) (ops : Operations M) (pops : 
     → Agrees (calls ops w funs depth i vs s exits) (calls pops w funs depth i vs (twin s n frame) exits)
 runs_agree r ops pops globals funs k fits w bytes_good objects frame depth i vs s n e g a =
     (sim_calls k w bytes_good fits depth objects i vs).agrees s n frame (record { memory = e; vars = g }) a exits
-    exits (λ v t. begins_same t.done.output) (λ v t u o b. inr (inl refl))
+    exits (λ v t. begins_refl t.done.output) (λ v t u o b. inr (inl refl))

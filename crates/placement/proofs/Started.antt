@@ -13,7 +13,7 @@ use Rattle.obj_mem.specs.Pointers.{is_near}
 use Rattle.obj_mem.specs.Legal.{Needs, IsLegal}
 use Rattle.obj_mem.specs.Table.{addresses_of}
 use Rattle.obj_mem.specs.Agreement.{SameMemory}
-use Rattle.obj_mem.specs.Standing.{IsFitted, IsGood, IsSpread, AreExact}
+use Rattle.obj_mem.specs.Standing.{IsFitted, IsGood, IsSpread, HaveBounds}
 use Rattle.cheri_c_sem.specs.Modes.{Store, operations, placed_plan, strict_plan}
 use Rattle.cheri_c_sem.specs.Steps.{Fate, outcome_of}
 use Rattle.cheri_c_sem.specs.Tree.{Global, Starting, Program}
@@ -67,8 +67,8 @@ lengths_from : (base : ℕ → ℕ) (k : ℕ) (ns : List ℕ) → map (λ (s : S
 lengths_from base k [] = refl
 lengths_from base k (n ∷ ns) = ap (λ v. n ∷ v) (lengths_from base (suc k) ns)
 
-module _ (pr : Program) (n : Needs) (m : Map) (legal : IsLegal n m) (exact_globals : AreExact n.globals m.globals)
-    (exact_literals : AreExact n.literals m.literals)
+module _ (pr : Program) (n : Needs) (m : Map) (legal : IsLegal n m) (exact_globals : HaveBounds n.globals m.globals)
+    (exact_literals : HaveBounds n.literals m.literals)
     (globals_are : map length_of pr.globals ≡ map length_needed n.globals)
     (literals_are : map length pr.literals ≡ map length_needed n.literals)
     (functions_are : length pr.funs ≡ length n.functions)

@@ -1,5 +1,6 @@
 -- How a run at the addresses of a map may end where a run without addresses ends.
-use Rattle.std.specs.Prelude.{◌≡◌, ◌⊎◌, ℕ, List, ◌++◌}
+use Rattle.std.specs.Prelude.{◌≡◌, ◌⊎◌}
+use Rattle.ck_base.specs.Calls.{BeginsWith}
 use Rattle.ck_base.specs.World.{Outcome}
 use Rattle.obj_mem.specs.declared.ending.Ending.{Ending}
 use Rattle.obj_mem.specs.declared.ending.Ending.TheVariants as ending
@@ -16,18 +17,14 @@ abbrev pub IsStack : Ending → Type 0
 IsStack (ending.Stack pos) = Unit {0}
 IsStack e = ⊥
 
--- ys begins with xs
-abbrev pub Begins : List ℕ → List ℕ → Type 0
-Begins xs ys = (rest : List ℕ) × (xs ++ rest ≡ ys)
-
 -- of a strict run and a placed one: the strict one leaves open what follows; they come to the same; or the placed one
 -- ends for want of stack, and has put the beginning of what the strict one puts
 abbrev pub Agrees : Fate → Fate → Type 0
-Agrees o p = IsOpen o.ending ⊎ ((p ≡ o) ⊎ (IsStack p.ending × Begins p.done.output o.done.output))
+Agrees o p = IsOpen o.ending ⊎ ((p ≡ o) ⊎ (IsStack p.ending × BeginsWith o.done.output p.done.output))
 
 -- the same of what runs come to
 abbrev pub Follows : Outcome Ending → Outcome Ending → Type 0
-Follows o p = IsOpen o.ending ⊎ ((p ≡ o) ⊎ (IsStack p.ending × Begins p.output o.output))
+Follows o p = IsOpen o.ending ⊎ ((p ≡ o) ⊎ (IsStack p.ending × BeginsWith o.output p.output))
 
 -- the strict meaning says how the run ends
 abbrev pub IsDefined : Ending → Type 0
@@ -38,4 +35,4 @@ IsDefined e = Unit {0}
 -- A placed run has the output of the strict one, takes as many bytes and ends as it does; or it ends for want of
 -- stack, and its output is the beginning of the strict run's
 abbrev pub IsAsMeant : Outcome Ending → Outcome Ending → Type 0
-IsAsMeant o p = (p ≡ o) ⊎ (IsStack p.ending × Begins p.output o.output)
+IsAsMeant o p = (p ≡ o) ⊎ (IsStack p.ending × BeginsWith o.output p.output)

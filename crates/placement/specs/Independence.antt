@@ -1,8 +1,7 @@
 -- Placement independence: where the meaning without addresses is defined, it is the meaning at the addresses of each
 -- legal map.
-use Rattle.std.specs.Prelude.{ℕ, ◌<◌}
-use Rattle.std.specs.List.{AllByRecursion}
-use Rattle.ck_base.specs.World.{World}
+use Rattle.std.specs.Prelude.{ℕ}
+use Rattle.ck_base.specs.World.{World, GivesBytes}
 use Rattle.c_tree.specs.declared.typed.Typed.{Typed}
 use Rattle.c_tree.specs.Typing.{Sound}
 use Rattle.obj_mem.specs.declared.map.Map.{Map}
@@ -10,11 +9,7 @@ use Rattle.obj_mem.specs.Needs.{Legal}
 use Rattle.cheri_c_sem.specs.Runs.{placed, strict}
 use Rattle.placement.specs.Endings.{IsDefined, IsAsMeant}
 
--- the input is of bytes
-abbrev pub HasBytes : World → Type 0
-HasBytes w = AllByRecursion (λ b. b < 256) w.bytes
-
 -- Of every sound program, legal map, input and number of turns
 abbrev pub PlacementIndependence : Type 0
-PlacementIndependence = (p : Typed) → Sound p → (m : Map) → Legal p m → (w : World) → HasBytes w → (turns : ℕ)
+PlacementIndependence = (p : Typed) → Sound p → (m : Map) → Legal p m → (w : World) → GivesBytes w → (turns : ℕ)
     → IsDefined (strict p w turns).ending → IsAsMeant (strict p w turns) (placed p m w turns)

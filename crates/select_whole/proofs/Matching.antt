@@ -1,7 +1,8 @@
 -- From the start the machine tracks what is meant, so whole runs match.
 use Rattle.std.proofs.Common.{◌≡◌, ℕ, ◌+◌, ◌*◌, ◌≤◌, Option, Some, None, refl, arith, mul-le-mul_left}
 use Rattle.std.specs.Prelude.{slice_get}
-use Rattle.ck_base.specs.World.{World, nothing_done}
+use Rattle.ck_base.specs.Agreement.{DoesWhatIsMeant}
+use Rattle.ck_base.specs.World.{World, GivesBytes, nothing_done}
 use Rattle.cap_machine.specs.declared.machine.Machine.{Machine}
 use Rattle.cap_machine.specs.Step.{act, limits}
 use Rattle.obj_mem.specs.declared.ending.Ending.TheVariants as meant
@@ -16,12 +17,12 @@ use Rattle.tracked_runs.proofs.Matching.{tracked_runs_match_law}
 use Rattle.select_whole.specs.Visited as visit
 use Rattle.select_whole.specs.Visited.{Whole, ops_of, tac_at, locals_of, main_of, entry_of, first_running}
 use Rattle.select_whole.specs.Runs.{InstructionsRun, last_acts}
-use Rattle.select_whole.specs.Matching.{AreFine, IsOfBytes, Starts, Started, MatchesIn, WholeRunsMatch, dear_of}
+use Rattle.select_whole.specs.Matching.{AreFine, Starts, Started, WholeRunsMatch, code_sides, dear_of}
 use Rattle.select_whole.proofs.Kinded.{zeros_kinded}
 use Rattle.select_whole.proofs.Moves.{leads_reach, stops_by, words_on}
 use Rattle.select_whole.proofs.Passes.{turns_ok}
 
-module _ (g : Whole) (reports : IsReport g.report) (fine : AreFine g) (w : World) (bytes : IsOfBytes w)
+module _ (g : Whole) (reports : IsReport g.report) (fine : AreFine g) (w : World) (bytes : GivesBytes w)
     (run : InstructionsRun g w) (first count : ℕ) (enough : first + last_acts + g.most ≤ count) (m : Machine)
     (starts : Starts g w first m) where
   abbrev start : Moment Machine
@@ -84,7 +85,7 @@ module _ (g : Whole) (reports : IsReport g.report) (fine : AreFine g) (w : World
   unfolding fate
   tracks n = entered n ((ops_of g).enter (main_of g) (ops_of g).stack_top) refl (starts.each n)
 
-  matches : MatchesIn g w count m
+  matches : DoesWhatIsMeant (code_sides g w m) count
   matches = tracked_runs_match_law g.report reports w fate_of count m tracks
 
 pub whole_runs_match_law : WholeRunsMatch

@@ -3,7 +3,7 @@ use Rattle.std.proofs.Common.{◌≡◌, ℕ, zero, suc, ◌+◌, ◌*◌, ◌%�
 use Rattle.std.proofs.Common.{Option, Some, None, refl, sym, ap, ◌∙◌, subst, arith, if◌then◌else◌}
 use Rattle.std.specs.Prelude.{slice_get}
 use Rattle.ck_base.specs.Runs.{with_put, with_read}
-use Rattle.ck_base.specs.World.{World, Done, fails_after}
+use Rattle.ck_base.specs.World.{World, Done, GivesBytes, fails_after}
 use Rattle.ck_base.specs.declared.positions.Pos.{Pos}
 use Rattle.cap_machine.specs.declared.end.End.{End}
 use Rattle.cap_machine.specs.declared.end.End.TheVariants as end
@@ -51,7 +51,6 @@ use Rattle.select_whole.specs.Visited.{Whole, Means, ops_of, kinds_at, back_in}
 use Rattle.select_whole.specs.Runs.{here, Here, Accessed, Copied, Called, Calls, ValueCalled, StopsBy, InstructionsRun}
 use Rattle.select_whole.specs.Runs.{AreWords, Put, Exited, searched, Reports_at, last_acts}
 use Rattle.select_whole.specs.Runs as runs
-use Rattle.select_whole.specs.Matching.{IsOfBytes}
 
 -- a word in its text
 place_apart : (start a b : ℕ) → start + 4 * a ≡ start + 4 * b → a ≡ b
@@ -76,7 +75,7 @@ module _ (w : World) where
   pub has_words : (m : Machine) (d : Done) → AreWords w (moment m d) → HasWords m
   has_words m d words k n leads = words k (moment n d) (leads_reach k m n d leads)
 
-module _ (g : Whole) (reports : IsReport g.report) (w : World) (bytes : IsOfBytes w) (run : InstructionsRun g w) where
+module _ (g : Whole) (reports : IsReport g.report) (w : World) (bytes : GivesBytes w) (run : InstructionsRun g w) where
   -- so many acts lead to a machine that stands for a state at a place
   pub record Comes (lo hi : ℕ) (m : Machine) (d : Done) (r : Running) (is : List TacInstr) (u : State Store) :
       Type 0 where

@@ -3,7 +3,7 @@ use Rattle.std.proofs.Common.{◌≡◌, ℕ, zero, suc, ◌+◌, ◌*◌, ◌%�
 use Rattle.std.proofs.Common.{Option, Some, None, refl, sym, ap, ◌∙◌, subst, arith, if◌then◌else◌}
 use Rattle.std.specs.Prelude.{◌||◌, slice_get}
 use Rattle.std.proofs.lemmas.Bool.{and_parts}
-use Rattle.ck_base.specs.World.{World, Done}
+use Rattle.ck_base.specs.World.{World, Done, GivesBytes}
 use Rattle.cap_machine.specs.declared.machine.Machine.{Machine}
 use Rattle.cap_machine.specs.Step.{act, limits}
 use Rattle.obj_mem.specs.Values.{Value}
@@ -30,7 +30,7 @@ use Rattle.select_whole.specs.Visited as visit
 use Rattle.select_whole.specs.Visited.{Whole, Means, Visited, ops_of, kinds_at, tac_at, locals_of, called_by}
 use Rattle.select_whole.specs.Visited.{in_frame_of, back_in, looked_at}
 use Rattle.select_whole.specs.Runs.{AreWords, CallersKept, here, Here, Called, Entered, InstructionsRun, last_acts}
-use Rattle.select_whole.specs.Matching.{dear_of, IsFine, AreFine, IsOfBytes}
+use Rattle.select_whole.specs.Matching.{dear_of, IsFine, AreFine}
 use Rattle.select_whole.proofs.Moves.{Comes, Stops, Did, Onward, Jumps, Pauses, Enters, Returns, Leaves, Over, Outside}
 use Rattle.select_whole.proofs.Moves.{does, leads_reach, stops_by, words_on}
 use Rattle.select_whole.proofs.Steady.{first_stays}
@@ -87,7 +87,7 @@ module _ (g : Whole) where
 
 -- ---- passes
 
-module _ (g : Whole) (reports : IsReport g.report) (fine : AreFine g) (w : World) (bytes : IsOfBytes w)
+module _ (g : Whole) (reports : IsReport g.report) (fine : AreFine g) (w : World) (bytes : GivesBytes w)
     (run : InstructionsRun g w) where
   abbrev Again : Type 0
   Again = List TacInstr → Going → Running → State Store → Fate

@@ -2,7 +2,8 @@
 -- laws of selected code ask for.
 use Rattle.std.specs.Prelude.{◌≡◌, ℕ, ◌+◌, ◌*◌, ◌/◌, ◌<◌, ◌≤◌, ℤ, Bool, true, false, List, [], ◌∷◌, length, Option}
 use Rattle.std.specs.Prelude.{Some, None, slice_get, slice_index_or}
-use Rattle.ck_base.specs.World.{World}
+use Rattle.ck_base.specs.Agreement.{DoesWhatIsMeant}
+use Rattle.ck_base.specs.World.{World, GivesBytes}
 use Rattle.ck_base.specs.declared.positions.Pos.{Pos}
 use Rattle.rv_instr.specs.declared.instr.Instr.{Instr}
 use Rattle.rv_instr.specs.declared.instr.Instr.TheVariants.{Cjal}
@@ -53,7 +54,7 @@ use Rattle.select_runs.specs.Results.{IsSelectable}
 use Rattle.select_runs.specs.Services.{StandsAside}
 use Rattle.select_runs.specs.Through.{IsCalled}
 use Rattle.select_heap.specs.Heap.{StandsBeside}
-use Rattle.select_whole.specs.Matching.{AreFine, IsOfBytes, Starts, MatchesIn}
+use Rattle.select_whole.specs.Matching.{AreFine, Starts, code_sides}
 use Rattle.select_whole.specs.Visited.{Whole, ops_of, kinds_at, tac_at, locals_of, gives_at, main_of}
 use Rattle.select_whole.specs.Runs.{Here, here, Leads_on, Each, Reports_at, searched, IsInteger, IsStrange}
 use Rattle.select_whole.specs.Runs.{InstructionsRun, last_acts}
@@ -272,6 +273,6 @@ ChosenCodeRuns = (g : Whole) (w : World) → Chosen g w → InstructionsRun g w
 
 -- Whole runs match there
 abbrev pub ChosenCodeMatches : Type 0
-ChosenCodeMatches = (g : Whole) → IsReport g.report → AreFine g → (w : World) → IsOfBytes w → Chosen g w
+ChosenCodeMatches = (g : Whole) → IsReport g.report → AreFine g → (w : World) → GivesBytes w → Chosen g w
     → (first count : ℕ) → first + last_acts + g.most ≤ count → (m : Machine) → Starts g w first m
-    → MatchesIn g w count m
+    → DoesWhatIsMeant (code_sides g w m) count

@@ -1,7 +1,8 @@
 -- Whole runs: the machine's run of selected code and the run of three-address code match, in both directions.
 use Rattle.std.specs.Prelude.{◌≡◌, ℕ, ◌+◌, ◌<◌, ◌≤◌, Bool, true, false, List, [], ◌∷◌, length, Option}
 use Rattle.std.specs.Prelude.{Some, None, slice_get}
-use Rattle.ck_base.specs.World.{World, Outcome, nothing_done}
+use Rattle.ck_base.specs.Agreement.{Sides, DoesWhatIsMeant}
+use Rattle.ck_base.specs.World.{World, GivesBytes, nothing_done}
 use Rattle.cap_machine.specs.declared.end.End.{End}
 use Rattle.cap_machine.specs.declared.end.End.TheVariants as end
 use Rattle.cap_machine.specs.declared.machine.Machine.{Machine}
@@ -12,7 +13,7 @@ use Rattle.tac_ir.specs.WellFormed.{ends_well, turns_fit}
 use Rattle.tac_ir.specs.declared.code.TacInstr.{TacInstr}
 use Rattle.select_runs.specs.Results.{Arrives}
 use Rattle.select_runs.specs.Results as at_place
-use Rattle.tracked_runs.specs.Matching.{IsReport, RunsMatch}
+use Rattle.tracked_runs.specs.Matching.{IsReport, sides_of}
 use Rattle.tracked_runs.specs.Tracking.{moment}
 use Rattle.select_whole.specs.Visited.{Whole, ops_of, tac_at, main_of, entry_of, first_running}
 use Rattle.select_whole.specs.Runs.{AreWords, InstructionsRun, StopsBy, last_acts}
@@ -53,18 +54,12 @@ pub record Starts (g : Whole) (w : World) (most : ℕ) (m : Machine) : Type 0 wh
 
 -- ---- what is then known
 
-abbrev pub meant_in : Whole → World → (turns : ℕ) → Outcome Ending
-meant_in g w n = tac g.setting.code g.program g.setting.map w n
-
-abbrev pub MatchesIn : Whole → World → (count : ℕ) → Machine → Type 0
-MatchesIn g w count m = RunsMatch g.report w (meant_in g w) count m
-
--- the input is bytes
-abbrev pub IsOfBytes : World → Type 0
-IsOfBytes w = (k b : ℕ) → slice_get w.bytes k ≡ Some b → b < 256
+-- in one world, the machine's runs and those of the code
+abbrev pub code_sides : Whole → World → Machine → Sides End Ending
+code_sides g w m = sides_of g.report w (tac g.setting.code g.program g.setting.map w) m
 
 -- Where each instruction runs, whole runs match
 abbrev pub WholeRunsMatch : Type 0
-WholeRunsMatch = (g : Whole) → IsReport g.report → AreFine g → (w : World) → IsOfBytes w → InstructionsRun g w
+WholeRunsMatch = (g : Whole) → IsReport g.report → AreFine g → (w : World) → GivesBytes w → InstructionsRun g w
     → (first count : ℕ) → first + last_acts + g.most ≤ count → (m : Machine) → Starts g w first m
-    → MatchesIn g w count m
+    → DoesWhatIsMeant (code_sides g w m) count

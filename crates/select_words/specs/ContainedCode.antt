@@ -1,7 +1,6 @@
--- Contained code: rules on a list of instructions by which no run of its text leaves it, wherever the text stands.
--- The rules on the words
--- of a placed text are those of `cap_machine`'s `ContainedText`; here places are numbers of words, and entries are in
--- bytes.
+-- Contained code: rules on a list of instructions by which no run of its text leaves it, wherever the text stands. The
+-- rules on the words of a placed text are those of `cap_machine`'s `ContainedText`; here places are numbers of words,
+-- and entries are in bytes.
 use Rattle.std.specs.Prelude.{◌≡◌, ℕ, ◌+◌, ◌*◌, ◌<◌, ℤ, pos, ◌+ℤ◌, true, List, length, slice_get, Option, Some, None}
 use Rattle.std.specs.List.{All}
 use Rattle.rv_instr.specs.declared.instr.Instr.{Instr}

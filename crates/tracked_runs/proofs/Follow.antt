@@ -1,21 +1,15 @@
 -- A tracked run is followed in both directions.
-use Rattle.std.proofs.Common.{◌≡◌, ℕ, zero, suc, ◌+◌, ◌-◌, ◌<◌, ◌≤◌, Bool, true, false, List, [], ◌∷◌, ◌++◌, length}
-use Rattle.std.proofs.Common.{Option, Some, None, ◌⊎◌, inl, inr, refl, sym, ap, ◌∙◌, subst, ⊎_elim, arith, append_assoc}
+use Rattle.std.proofs.Common.{◌≡◌, ℕ, zero, suc, ◌+◌, ◌-◌, ◌<◌, ◌≤◌, Bool, true, false, List, [], ◌∷◌, length}
+use Rattle.std.proofs.Common.{Option, Some, None, ◌⊎◌, inl, inr, refl, sym, ap, ◌∙◌, subst, ⊎_elim, arith}
 use Rattle.std.proofs.Common.{if◌then◌else◌}
 use Rattle.std.specs.Prelude.{slice_get}
 use Rattle.std.proofs.lemmas.Bool.{cases_lt}
-use Rattle.std.proofs.lemmas.List.{append-nil}
 use Rattle.ck_base.specs.World.{World, Done, fails_after}
 use Rattle.ck_base.specs.Runs.{Act, Goes, Puts, Reads, Ends, Limits, Stopped, stopped, with_put, with_read, act_in, run}
 use Rattle.ck_base.specs.Calls.{BeginsWith}
+use Rattle.ck_base.proofs.Fronts.{begins_refl, begins_trans}
 use Rattle.tracked_runs.specs.Tracking.{Moment, Stepped, Next, Ended, moment, stepped, step, Reaches, Course, Finished}
 use Rattle.tracked_runs.specs.Tracking.{Waiting, Outside, Tracks}
-
-pub begins_refl : (a : List ℕ) → BeginsWith a a
-begins_refl a = ([], sym (append-nil a))
-
-pub begins_trans : (a b c : List ℕ) → BeginsWith b a → BeginsWith c b → BeginsWith c a
-begins_trans a b c h k = (h.0 ++ k.0, k.1 ∙ ap (λ l. l ++ k.0) h.1 ∙ append_assoc a h.0 k.0)
 
 -- what is left of a run: the last moment, and its ending where it has one
 pub record Final (S E : Type 0) : Type 0 where

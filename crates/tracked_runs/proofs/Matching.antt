@@ -1,9 +1,9 @@
 -- What tracks a run that is meant matches it, in the words of the base crate.
 use Rattle.std.proofs.Common.{◌≡◌, ◌≢◌, ◌⊎◌, ℕ, ◌+◌, ◌*◌, true, false, length, Option, Some, None, inl, inr, sym, ap}
 use Rattle.std.proofs.Common.{◌∙◌, subst, arith, min}
-use Rattle.ck_base.specs.Agreement.{SameEnd, GoesOn}
+use Rattle.ck_base.specs.Agreement.{SameEnd, GoesOn, DoesWhatIsMeant}
 use Rattle.ck_base.specs.Calls.{BeginsWith}
-use Rattle.ck_base.specs.Runs.{outcome_by, ending_alone}
+use Rattle.ck_base.specs.Runs.{outcome, outcome_by, ending_alone}
 use Rattle.ck_base.specs.World.{World, Done, Outcome, nothing_done}
 use Rattle.cap_machine.specs.declared.end.End.{End}
 use Rattle.cap_machine.specs.declared.end.End.TheVariants as ends
@@ -13,7 +13,7 @@ use Rattle.obj_mem.specs.declared.ending.Ending.{Ending}
 use Rattle.obj_mem.specs.declared.ending.Ending.TheVariants as meant
 use Rattle.obj_mem.specs.Endings.{is_turns, is_outside}
 use Rattle.cheri_c_sem.specs.Steps.{Fate, outcome_of}
-use Rattle.tracked_runs.specs.Matching.{IsReport, Reports, RunsMatch, TrackedRunsMatch, course_by, course_of, done_in}
+use Rattle.tracked_runs.specs.Matching.{IsReport, Reports, TrackedRunsMatch, course_by, course_of, sides_of}
 use Rattle.tracked_runs.specs.Tracking.{Moment, moment, Finished, Tracks}
 use Rattle.tracked_runs.proofs.Follow.{Final, end_or, final, run_is, Agrees, KeepsUp, agrees, keeps_up}
 
@@ -98,7 +98,7 @@ module _ (report : End → Option Ending) (reports : IsReport report) (w : World
   abbrev meant_in : ℕ → Outcome Ending
   meant_in n = outcome_of w (fate n)
 
-  done_is : (n : ℕ) → done_by report reports w (at_end n) ≡ done_in w m n
+  done_is : (n : ℕ) → done_by report reports w (at_end n) ≡ outcome limits act ending_alone m n w
   done_is n = ap (λ r. outcome_by ending_alone w r) (sym (run_is limits act w n start))
 
   agreed : (n : ℕ) → Agrees limits act w (Reports report) (course_of (fate n)) (at_end n)
@@ -109,12 +109,12 @@ module _ (report : End → Option Ending) (reports : IsReport report) (w : World
       keeps_up limits act w (Reports report) n ((n + 1) * count) ((n + 1) * count) (course_of (fate n)) start
       (omega arith) (tracks n)
 
-  matches : RunsMatch report w meant_in count m
+  matches : DoesWhatIsMeant (sides_of report w meant_in m) count
   matches = record {
     same_run = λ n inside.
         subst (λ x. GoesOn ends.Steps x (meant_in n) ⊎ SameEnd report x (meant_in n)) (done_is n)
         (same_run report reports w (at_end n) (fate n).done (fate n).ending (agreed n) inside);
-    going = λ n out.
+    going = λ n out goes.
         subst (λ (x : Outcome End). BeginsWith (meant_in n).output x.output ⊎ BeginsWith x.output (meant_in n).output)
         (done_is n) (going report reports w (at_end n) (fate n).done (fate n).ending (agreed n) out);
     ended = λ n out no.

@@ -17,7 +17,7 @@ use Rattle.cap_reloc.specs.Stored.{IsStorable, IsSentry, IsDataWord, IsData, IsP
 use Rattle.elf_file.specs.declared.image.Image.{Image}
 use Rattle.elf_file.specs.declared.image.Reloc.{Reloc}
 use Rattle.image_load.specs.Judging.{Extent, end_of, text_of, initial_of, lies_well, segments_fit, overlap}
-use Rattle.image_load.specs.Judging.{some_overlap, lies_inside, is_entry, is_exact, is_sentry, is_permission_word}
+use Rattle.image_load.specs.Judging.{some_overlap, lies_inside, is_entry, is_encodable, is_sentry, is_permission_word}
 use Rattle.image_load.specs.Judging.{address_of, capability_of, keeps_extent, is_place, is_capability, judged_relocs}
 use Rattle.image_load.specs.Judging.{judged}
 
@@ -36,8 +36,8 @@ exact_by : (e : Extent) (low high : ℕ) → nat_le (end_of e) (2 ^ 64) ≡ true
     → (nat_le (end_of e) (2 ^ 64) && nat_eq low e.0 && nat_eq high (end_of e)) ≡ true
 exact_by e low high a b c = rw (a, eq-eqb low e.0 b, eq-eqb high (end_of e) c) refl
 
-pub exact : (e : Extent) → Encodable e.0 (end_of e) → is_exact e ≡ true
-unfolding is_exact
+pub exact : (e : Extent) → Encodable e.0 (end_of e) → is_encodable e ≡ true
+unfolding is_encodable
 exact e h = let least = least_of_encodable e.0 (end_of e) h in
     exact_by e _ _ (le-leb (end_of e) (2 ^ 64) h.within) least.0 least.1
 
@@ -127,6 +127,6 @@ all_judged i (r ∷ rs) there fine =
 pub judged_by : (i : Image) → segments_fit (text_of i) (initial_of i) i.heap i.stack ≡ true
     → some_overlap (text_of i) (initial_of i) i.heap i.stack ≡ false → lies_inside i.table (initial_of i) ≡ true
     → is_entry i.entry (text_of i) ≡ true → judged_relocs (initial_of i) i.relocs (Ok tt) ≡ Ok tt
-    → is_exact (text_of i) ≡ true → is_exact i.table ≡ true → is_exact i.stack ≡ true → judged i ≡ Ok tt
+    → is_encodable (text_of i) ≡ true → is_encodable i.table ≡ true → is_encodable i.stack ≡ true → judged i ≡ Ok tt
 unfolding judged
 judged_by i a b c d e f g h = rw (a, b, c, d, e, f, g, h) refl

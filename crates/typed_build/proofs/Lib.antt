@@ -6,6 +6,7 @@ pub mod Writes
 pub mod Builds
 pub mod Weighing
 pub mod Locals
+pub mod Rooms
 pub mod Initial
 pub mod Framing
 pub mod Coding

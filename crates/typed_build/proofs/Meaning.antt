@@ -261,9 +261,7 @@ module _ (images_fit : ImagesFit) (p : Typed) (sound : Sound p) (t : Tac) (homes
       }
 
   runs : RunsAsMeant p m (loaded_of image) (count_of p)
-  runs = λ world bytes.
-      let r = made_code_runs_law made selected runnable world bytes in
-      record { does_what = r.does_what; keeps = r.keeps; does_all = r.does_all }
+  runs = made_code_runs_law made selected runnable
 
   pub is_built : (number : ℕ) → number ≡ count_of p → IsBuilt p file m number
   is_built number counted =

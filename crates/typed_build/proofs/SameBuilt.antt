@@ -1,37 +1,18 @@
 -- What is built of a program is built of every program that stands for the same.
 use Rattle.std.proofs.Common.{ℕ, List, ap, subst, ◌∙◌, arith}
-use Rattle.ck_base.specs.Agreement.{Sides, DoesWhatIsMeant, KeepsToOutside, DoesAllThatIsMeant}
-use Rattle.ck_base.specs.Runs.{outcome, ending_alone}
-use Rattle.ck_base.specs.World.{World}
+use Rattle.ck_base.specs.Agreement.{DoesWhatIsMeant}
 use Rattle.c_tree.specs.declared.typed.Typed.{Typed}
 use Rattle.c_tree.specs.Terms.{Program}
 use Rattle.c_tree.specs.Views.{Shows, IsOrdered}
 use Rattle.c_tree.specs.WellTyped.{WellTyped}
-use Rattle.cap_machine.specs.declared.end.End.{End}
-use Rattle.cap_machine.specs.declared.end.End.TheVariants.{Steps}
-use Rattle.cap_machine.specs.Step.{act, limits}
-use Rattle.image_load.specs.Loading.{Loaded}
 use Rattle.obj_mem.specs.Agreement.{Paired}
 use Rattle.obj_mem.specs.Legal.{Needs, IsLegal}
 use Rattle.obj_mem.specs.Table.{table_length}
-use Rattle.obj_mem.specs.declared.ending.Ending.{Ending}
 use Rattle.obj_mem.specs.declared.map.Map.{Map}
-use Rattle.obj_mem.specs.Endings.{is_turns, is_outside}
 use Rattle.cheri_c_sem.specs.Runs.{placed_run}
-use Rattle.cheri_c_sem.specs.Tree as meant
 use Rattle.cap_reloc.specs.Begins.{IsRelocation}
 use Rattle.same_programs.proofs.Gathered.{alike_law}
-use Rattle.typed_build.specs.Built.{report, IsBuilt}
-
-abbrev sides : meant.Program → Map → Loaded → World → Sides End Ending
-sides t map loaded w = record {
-  machine = λ same n. outcome limits act ending_alone loaded.machine n w;
-  meaning = λ same n. placed_run t map w n;
-  steps = Steps;
-  is_turns = is_turns;
-  is_outside = is_outside;
-  report = report loaded.image;
-}
+use Rattle.typed_build.specs.Built.{sides_in, IsBuilt}
 
 pub built_same : (p r : Typed) (q : Program) → WellTyped p → IsOrdered r → Shows p q → Shows r q → (file : List ℕ)
     (m : Map) (count : ℕ) → IsBuilt p file m count → IsBuilt r file m count
@@ -61,10 +42,6 @@ built_same p r q o u s t file m count h =
       contained = h.contained;
       entered = h.entered;
       runs = λ w bytes.
-          let runs = h.runs w bytes in
-          record {
-            does_what = subst (λ x. DoesWhatIsMeant (sides x m i.loaded w)) same.tree runs.does_what;
-            keeps = subst (λ x. KeepsToOutside (sides x m i.loaded w)) same.tree runs.keeps;
-            does_all = subst (λ x. DoesAllThatIsMeant (sides x m i.loaded w) count) same.tree runs.does_all;
-          };
+          subst (λ t. DoesWhatIsMeant (record (sides_in r m i.loaded w) { meaning = placed_run t m w }) count) same.tree
+          (h.runs w bytes);
     }

@@ -23,9 +23,8 @@ use Rattle.rv_code.specs.Formats.{word_of}
 use Rattle.rv_code.specs.Encoding.{fields_of, Encodes}
 use Rattle.rv_code.specs.Decoding.{decode_of}
 use Rattle.rv_code.proofs.Laws.{Encodes-below, decode_of-encoded}
-use Rattle.tag_mem.specs.Numbers.{little_number, little_bytes}
+use Rattle.tag_mem.specs.Numbers.{little_number, little_bytes, word_in}
 use Rattle.tag_mem.proofs.LittleEndian.{length-little_bytes, get_or-little_bytes, small-little_bytes, number-spelled}
-use Rattle.typed_build.specs.Built.{word_in}
 use Rattle.typed_build.specs.Text.{instr_bytes, code_bytes, filler, missing, text_length, text_of}
 
 -- ---- lengths

@@ -1,10 +1,10 @@
 -- What it means that an image was built from a typed program.
-use Rattle.std.specs.Prelude.{◌≡◌, ℕ, zero, suc, ◌+◌, ◌*◌, ◌<◌, ◌≤◌, ◌⊎◌, true, false, List, length, take, drop}
+use Rattle.std.specs.Prelude.{◌≡◌, ℕ, zero, suc, ◌+◌, ◌*◌, ◌<◌, ◌⊎◌, true, List, length}
 use Rattle.std.specs.Prelude.{slice_get, Option, Some, None, Ok, ⊤}
 use Rattle.std.specs.List.{All}
 use Rattle.ck_base.specs.Runs.{outcome, ending_alone}
-use Rattle.ck_base.specs.World.{World}
-use Rattle.ck_base.specs.Agreement.{Sides, DoesWhatIsMeant, KeepsToOutside, DoesAllThatIsMeant}
+use Rattle.ck_base.specs.World.{World, GivesBytes}
+use Rattle.ck_base.specs.Agreement.{Sides, DoesWhatIsMeant}
 use Rattle.ck_base.specs.declared.positions.Pos.{Pos}
 use Rattle.ck_base.specs.declared.refusal.Refusal.{Refusal}
 use Rattle.ck_base.specs.declared.refusal.Refusal.TheVariants.{Code, NoMemory}
@@ -18,7 +18,7 @@ use Rattle.obj_mem.specs.Table.{table_length}
 use Rattle.cheri_c_sem.specs.Runs.{placed}
 use Rattle.rv_instr.specs.declared.instr.Instr.{Instr}
 use Rattle.rv_code.specs.Decoding.{decode_of}
-use Rattle.tag_mem.specs.Numbers.{little_number}
+use Rattle.tag_mem.specs.Numbers.{word_in}
 use Rattle.cap_ops.specs.declared.access.Cause.{Cause}
 use Rattle.cap_machine.specs.declared.end.End.{End}
 use Rattle.cap_machine.specs.declared.end.End.TheVariants.{Exit, Trap, Break, Illegal, Steps, ReadFault, WriteFault}
@@ -31,12 +31,11 @@ use Rattle.elf_file.specs.File.{file_of}
 use Rattle.image_load.specs.Contained.{Contained, executes}
 use Rattle.image_load.specs.Judging.{address_of, text_of}
 use Rattle.image_load.specs.Loading.{Loaded, loading}
-use Rattle.bounds_place.specs.Placing.{exceeds}
 use Rattle.cap_reloc.specs.Begins.{asked_by, beginning, IsRelocation}
 use Rattle.cap_reloc.specs.Initial.{AreInitial}
 use Rattle.obj_mem.specs.Counted.{count_of}
 use Rattle.obj_mem.specs.Endings.{is_turns, is_outside}
-use Rattle.c_tree.specs.File.{weight_limit}
+use Rattle.c_tree.specs.File.{HasRoom, weight_limit}
 use Rattle.c_tree.specs.Weight.{weight}
 use Rattle.typed_build.specs.Text.{IsFilled}
 
@@ -65,15 +64,11 @@ report image Steps = None
 
 -- ---- built
 
--- the input is bytes
-abbrev pub IsOfBytes : World → Type 0
-IsOfBytes w = (k b : ℕ) → slice_get w.bytes k ≡ Some b → b < 256
-
--- in one world, the machine's runs, and the program's meaning under the map
+-- in one world, the runs of the machine that was loaded, and what the program means under the map
 abbrev pub sides_in : Typed → Map → Loaded → World → Sides End Ending
 sides_in p map loaded w = record {
-  machine = λ same n. outcome limits act ending_alone loaded.machine n w;
-  meaning = λ same n. placed p map w n;
+  machine = λ n. outcome limits act ending_alone loaded.machine n w;
+  meaning = λ n. placed p map w n;
   steps = Steps;
   is_turns = is_turns;
   is_outside = is_outside;
@@ -86,10 +81,6 @@ pub record HasExtents (map : Map) (image : Image) : Type 0 where
   pub table : image.table ≡ map.table
   pub heap : image.heap ≡ map.heap
   pub stack : image.stack ≡ map.stack
-
--- word k of a text
-abbrev pub word_in : List ℕ → ℕ → ℕ
-word_in text k = little_number (take 4 (drop (4 * k) text))
 
 -- What the image of a program is. Under a legal map the file is the one that is written for its image, and it loads at
 -- the map's extents.
@@ -116,15 +107,9 @@ pub record IsImage (p : Typed) (file : List ℕ) (map : Map) : Type 0 where
   -- and its other bytes begin as the program's objects do
   pub begins : AreInitial p map loaded.image.initial_base loaded.image.initial
 
--- In a world the machine does what the program means, in both directions, and all of it within the count for each turn
-pub record RunsAsMeantIn (p : Typed) (map : Map) (loaded : Loaded) (count : ℕ) (w : World) : Type 0 where
-  pub does_what : DoesWhatIsMeant (sides_in p map loaded w)
-  pub keeps : KeepsToOutside (sides_in p map loaded w)
-  pub does_all : DoesAllThatIsMeant (sides_in p map loaded w) count
-
--- in each world that gives bytes
+-- In each world that gives bytes the machine does what the program means, and all of it within the count for each turn
 abbrev pub RunsAsMeant : Typed → Map → Loaded → (count : ℕ) → Type 0
-RunsAsMeant p map loaded count = (w : World) → IsOfBytes w → RunsAsMeantIn p map loaded count w
+RunsAsMeant p map loaded count = (w : World) → GivesBytes w → DoesWhatIsMeant (sides_in p map loaded w) count
 
 -- a relocation with Execute is the sentry of a function's entry
 abbrev pub EntersFunction : Map → Reloc → Type 0
@@ -148,11 +133,10 @@ pub record IsBuilt (p : Typed) (file : List ℕ) (map : Map) (count : ℕ) : Typ
 abbrev pub start : Pos
 start = record { line = 1; col = 1 }
 
--- At the start of the file: 141 where the objects of a program exceed their limit; else 142 where it is too heavy. Want
--- of memory is free.
+-- At the start of the file: 141 where there is no room for the objects of a program; else 142 where it is too heavy.
+-- Want of memory is free.
 abbrev pub ExceedsBy : Typed → ℕ → Type 0
-ExceedsBy p code =
-    ((code ≡ 141) × (exceeds p ≡ true)) ⊎ ((code ≡ 142) × (exceeds p ≡ false) × (weight_limit < weight p))
+ExceedsBy p code = ((code ≡ 141) × (HasRoom p → ⊥)) ⊎ ((code ≡ 142) × HasRoom p × (weight_limit < weight p))
 
 abbrev pub IsRefusal : Typed → Refusal → Type 0
 IsRefusal p (Code code pos) = (pos ≡ start) × ExceedsBy p code

@@ -1,6 +1,6 @@
 //! Building: from a typed program to the ELF file.
 ghost use Rattle.std.specs.Prelude.{◌≡◌, ◌≤◌, true, false, IfOk, IfErr, OnOk};
-ghost use Rattle.c_tree.specs.File.{weight_limit};
+ghost use Rattle.c_tree.specs.File.{HasRoom, weight_limit};
 ghost use Rattle.c_tree.specs.Typing.{Sound};
 ghost use Rattle.c_tree.specs.Weight.{weight};
 ghost use Rattle.cap_layout.specs.Kept.{AreLayoutsOf};
@@ -56,13 +56,14 @@ fn limit(alloc: Global, layouts: &Layouts, p: &Typed) -> Result<(), Refusal>
 /// by 141 where its objects exceed their limit, and then by 142 where its weight does. The runs of what is built are
 /// what the program means, and none leaves its text or makes code of data. `code` means the same, `places` has a home
 /// for each of its temps, and the text is their words.
+#[tactic(auto, using(crate::proofs::Rooms::has_room, crate::proofs::Rooms::no_room))]
 pub fn build_typed(alloc: Global, p: &Typed, sizes: Sizes) -> Result<Built, Refusal>
     requires sound { Sound p.now }
     requires sizes { in_range sizes ≡ true }
     ensures built { IfOk result (λ b. IsBuilt p.now b.elf.items b.map b.count) }
     ensures registers { IfOk result (λ b. UsesRegisters p.now b.code b.places.items b.elf.items b.map) }
     ensures sized { IfOk result (λ b. HasSizes sizes b.map) }
-    ensures within { OnOk result (exceeds p.now ≡ false) }
+    ensures within { OnOk result (HasRoom p.now) }
     ensures light { OnOk result (weight p.now ≤ weight_limit) }
     ensures refused { IfErr result (IsRefusal p.now) }
 {

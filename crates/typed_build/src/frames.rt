@@ -19,12 +19,11 @@ use reg_alloc::Places;
 use std::alloc::Global;
 use tac_ir::{Tac, TacFun, outgoing};
 
-/// The frame of function `k`.
+/// The frame of a function.
 fn frame_of(
     alloc: Global,
     layouts: &Layouts,
     p: &Typed,
-    k: u32,
     d: &FunDef,
     f: &TacFun,
     homes: &Places,
@@ -38,7 +37,7 @@ fn frame_of(
 {
     let locals = local_needs(alloc, layouts, p, d)?;
     let outgoing = outgoing(f.code.as_slice());
-    let made = frame(alloc, k, &locals, homes, outgoing as u32)?;
+    let made = frame(alloc, &locals, homes, outgoing as u32)?;
     Ok(made)
 }
 
@@ -73,7 +72,7 @@ pub fn frames_of(
     let defs = p.funs.as_slice();
     let funs = t.funs.as_slice();
     for k in 0..defs.len() {
-        let g = frame_of(alloc, layouts, p, k as u32, &defs[k], &funs[k], &homes[k])?;
+        let g = frame_of(alloc, layouts, p, &defs[k], &funs[k], &homes[k])?;
         add(&mut frames, g)?;
     }
     Ok(frames)

@@ -72,7 +72,9 @@ fn select_all(
     })
 }
 
-/// A program within its limits. The machine to which an image loads stands for the program's first state, by the law `images_fit`.
+/// A program within its limits. The machine to which an image loads stands for the program's first state, by the law
+/// `images_fit`.
+#[tactic(auto, using(crate::proofs::Rooms::no_room))]
 pub fn build_whole(
     alloc: Global,
     layouts: &Layouts,

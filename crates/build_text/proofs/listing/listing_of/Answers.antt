@@ -1,6 +1,7 @@
 use Rattle.std.proofs.Common.{ℕ, List, [], ◌++◌, ◌+◌, ◌*◌, ◌∙◌, ap, string_bytes}
 use Rattle.build_text.proofs.Grown.{no_lines, one_line}
-use Rattle.build_text.specs.Listing.{word_line, word_in}
+use Rattle.tag_mem.specs.Numbers.{word_in}
+use Rattle.build_text.specs.Listing.{word_line}
 use Rattle.build_text.proofs.listing.listing_of.Goals as goal
 
 pub loop-k-init : goal.loop-k-init

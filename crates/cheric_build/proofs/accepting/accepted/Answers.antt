@@ -1,4 +1,5 @@
 use Rattle.std.proofs.Common.{sym, ◌∙◌, arith}
+use Rattle.typed_build.proofs.Rooms.{has_room, has_no_room}
 use Rattle.cheric_build.proofs.FileAnswers.{accepted, no_room, heavy}
 use Rattle.cheric_build.proofs.Once.{once}
 use Rattle.cheric_build.proofs.accepting.accepted.Goals as goal
@@ -7,14 +8,16 @@ pub returns-then-branch-clause-refused : goal.returns-then-branch-clause-refused
 returns-then-branch-clause-refused c =
     let file = c.args.file.now in
     let front = c.in_ok-p.ensures in
-    no_room file (once file) c.in_ok-p.p front.typed front.sound (sym c.in_ok-exceeds_limit.ensures ∙ c.if-branch.true)
+    no_room file (once file) c.in_ok-p.p front.typed front.sound
+    (has_no_room c.in_ok-p.p front.sound (sym c.in_ok-exceeds_limit.ensures ∙ c.if-branch.true))
 
 pub returns-then-weight-gt-MOST_WEIGHT-clause-refused :
     goal.returns-then-weight-gt-MOST_WEIGHT-clause-refused
 returns-then-weight-gt-MOST_WEIGHT-clause-refused c =
     let file = c.args.file.now in
     let front = c.in_ok-p.ensures in
-    heavy file (once file) c.in_ok-p.p front.typed front.sound (sym c.in_ok-exceeds_limit.ensures ∙ c.if-branch.false)
+    heavy file (once file) c.in_ok-p.p front.typed front.sound
+    (has_room c.in_ok-p.p front.sound (sym c.in_ok-exceeds_limit.ensures ∙ c.if-branch.false))
     (omega (arith, c.weight.ensures, c.if-weight-gt-MOST_WEIGHT.true))
 
 pub returns-clause-accepted : goal.returns-clause-accepted
@@ -22,5 +25,5 @@ returns-clause-accepted c =
     let file = c.args.file.now in
     let front = c.in_ok-p.ensures in
     accepted file (once file) c.in_ok-p.p front.typed front.sound
-    (sym c.in_ok-exceeds_limit.ensures ∙ c.if-branch.false)
+    (has_room c.in_ok-p.p front.sound (sym c.in_ok-exceeds_limit.ensures ∙ c.if-branch.false))
     (omega (arith, c.weight.ensures, c.if-weight-gt-MOST_WEIGHT.false))

@@ -1,10 +1,12 @@
 -- The room of a program is what its objects need, since each has a complete type within the limit of sizes.
 use Rattle.std.proofs.Common.{◌≡◌, ℕ, zero, suc, ◌+◌, ◌<◌, ◌≤◌, Bool, true, false, List, [], ◌∷◌, length, map, Option}
-use Rattle.std.proofs.Common.{Some, refl, sym, ap, ◌∙◌, arith}
+use Rattle.std.proofs.Common.{Some, refl, sym, ap, ◌∙◌, arith, inl}
 use Rattle.std.specs.Prelude.{slice_get, sum_by, nat_lt, ◌||◌, if◌then◌else◌}
 use Rattle.std.specs.List.{filter, list_any}
 use Rattle.std.proofs.lemmas.Bool.{false≢true, le-leb, le-ltb, ltb-false}
 use Rattle.std.proofs.lemmas.List.Sums.{sum_by-cons}
+use Rattle.ck_base.specs.declared.refusal.Refusal.{Refusal}
+use Rattle.ck_base.specs.declared.refusal.Refusal.TheVariants.{Code, NoMemory}
 use Rattle.cap_ops.specs.Permissions.{data_permissions, const_permissions}
 use Rattle.c_tree.specs.declared.typed.CType.{CType}
 use Rattle.c_tree.specs.declared.typed.FunDef.{FunDef}
@@ -14,17 +16,17 @@ use Rattle.c_tree.specs.declared.typed.Typed.{Typed}
 use Rattle.c_tree.specs.declared.typed.VarDef.{VarDef}
 use Rattle.c_tree.specs.File.{object_room, global_room, literal_room, static_room, var_room, local_room, HasRoom}
 use Rattle.c_tree.specs.Layout.{Extent, extent, size_limit}
-use Rattle.c_tree.specs.Syntax.{Syn}
 use Rattle.c_tree.specs.Terms.{Program}
 use Rattle.c_tree.specs.TreeLayout.{tree_extent}
-use Rattle.c_tree.specs.Typing.{TypesSyntax, Sound}
+use Rattle.c_tree.specs.Typing.{Sound}
 use Rattle.c_tree.specs.Views.{Shows, IsOrdered}
 use Rattle.c_tree.specs.WellTyped.{WellTyped, IsComplete, type_in}
 use Rattle.c_tree.proofs.ViewLayout.{extent_is}
 use Rattle.c_facts.proofs.Sound.{well_typed}
 use Rattle.obj_mem.specs.Legal.{owned_of, alignment_of, room_of}
 use Rattle.obj_mem.specs.Needs.{need_by, is_const, global_need, literal_need, local_need, local_needs, is_object}
-use Rattle.bounds_place.specs.Placing.{locals_exceed, data_room, exceeds}
+use Rattle.bounds_place.specs.Placing.{locals_exceed, data_room, exceeds, IsRefusal as ExceedsLimit}
+use Rattle.typed_build.specs.Built.{IsRefusal}
 
 -- ---- sums over objects
 
@@ -130,9 +132,16 @@ module _ (p : Typed) (q : Program) (o : IsOrdered p) (s : Shows p q) (w : WellTy
       (λ k f g. le-ltb size_limit (room_of (local_needs p.types f))
       (omega (arith, locals k f g, h.locals f k g))))
 
--- a program that is within the limit has room, and one that exceeds it has none
-pub has_room : (p : Typed) (x : Syn) → TypesSyntax x p → Sound p → exceeds p ≡ false → HasRoom p
-has_room p x t h e = room_within p t.program t.ordered t.shows (well_typed p h) e
+-- a sound program has room exactly where it is not over the limit
+pub has_room : (p : Typed) → Sound p → exceeds p ≡ false → HasRoom p
+has_room p h e = let t = h.types.types in room_within p t.program t.ordered t.shows (well_typed p h) e
 
-pub has_no_room : (p : Typed) (x : Syn) → TypesSyntax x p → Sound p → exceeds p ≡ true → HasRoom p → ⊥
-has_no_room p x t h e r = false≢true (sym (within_room p t.program t.ordered t.shows (well_typed p h) r) ∙ e)
+pub has_no_room : (p : Typed) → Sound p → exceeds p ≡ true → HasRoom p → ⊥
+has_no_room p h e r =
+    let t = h.types.types in
+    false≢true (sym (within_room p t.program t.ordered t.shows (well_typed p h) r) ∙ e)
+
+-- so it is refused by the limit where it has none
+pub no_room : (p : Typed) → Sound p → (e : Refusal) → ExceedsLimit p e → IsRefusal p e
+no_room p h (Code code pos) e = (λ i. record { line = e.1.0 i; col = e.1.1 i }, inl (e.0, has_no_room p h e.2))
+no_room p h NoMemory e = tt
