@@ -95,13 +95,11 @@ fn slots_at(alloc: Global, locals: &[Owned], starts: &[u64]) -> Result<Vec<Slot>
     Ok(slots)
 }
 
-/// The frame of function `_f`, with these locals that are objects and these homes, and `outgoing` places for the
-/// arguments past eight of its calls. From its lowest address on stand the link, those places, the kept registers that
-/// are homes, the caller's stack where the alignment is above 16, the slots, and then the objects in ascending
-/// alignment.
+/// The frame of a function with these locals that are objects and these homes, and `outgoing` places for the arguments
+/// past eight of its calls. From its lowest address on stand the link, those places, the kept registers that are homes,
+/// the caller's stack where the alignment is above 16, the slots, and then the objects in ascending alignment.
 pub fn frame(
     alloc: Global,
-    _f: u32,
     locals: &Vec<Owned>,
     places: &Places,
     outgoing: u32,

@@ -203,6 +203,34 @@ module _ (ls : List Line) (ms : List Mark) (es : List ℕ) (top : ℕ) where
       → IsGrowing c ls ms es top
   growing_still a c i e g h = growing_append a (i ∷ []) c e g (sound_still i h)
 
+  -- a label stands, or a loop begins, before the next word
+  pub growing_label : (a : List Instr) (m : Mark) (ns : List Mark) → ns ≡ ms ++ m ∷ [] → m.at ≡ length a
+      → IsGrowing a ls ms es top → IsGrowing a ls ns es top
+  growing_label a m ns e at g =
+      let next = subst (IsSoFar a) (sym at) (next_target a) in
+      record {
+        sound = g.sound;
+        ordered = g.ordered;
+        ascend = g.ascend;
+        targets = record {
+          labels = subst (AreMarks a) (sym e) (All-push (λ (n : Mark). IsSoFar a n.at) ms m g.targets.labels next);
+          entered = g.targets.entered;
+          loop = g.targets.loop;
+        };
+      }
+
+  pub growing_loop : (a : List Instr) (n : ℕ) → n ≡ length a → IsGrowing a ls ms es top → IsGrowing a ls ms es n
+  growing_loop a n at g = record {
+    sound = g.sound;
+    ordered = g.ordered;
+    ascend = g.ascend;
+    targets = record {
+      labels = g.targets.labels;
+      entered = g.targets.entered;
+      loop = subst (IsSoFar a) (sym at) (next_target a);
+    };
+  }
+
   pub growing_line : (a c : List Instr) (i : Instr) (ks : List Line) (l : Line) → c ≡ a ++ i ∷ [] → ks ≡ ls ++ l ∷ []
       → l.at ≡ 4 * length a → l.kind < 2 → IsGrowing a ls ms es top → IsPlainWord i → IsGrowing c ks ms es top
   growing_line a c i ks l e f at kind g h =

@@ -33,7 +33,7 @@ fn is_argument(number: u8) -> bool
 }
 
 /// A temp that comes to the register of an argument from elsewhere.
-#[derive(Clone, Copy, Debug)]
+#[derive(Clone, Copy)]
 struct Bring {
     to: Reg,
     temp: u32,
@@ -143,7 +143,7 @@ pub fn call(
 }
 
 /// What is called, and from where in the source.
-#[derive(Clone, Copy, Debug)]
+#[derive(Clone, Copy)]
 pub struct Callee {
     pub value: u32,
     pub pos: Pos,

@@ -9,7 +9,7 @@ use reg_alloc::Places;
 
 /// The table of the program's capabilities: how many entries stand before those of the literals, of the functions,
 /// and of the heap.
-#[derive(Clone, Copy, Debug)]
+#[derive(Clone, Copy)]
 pub struct Entries {
     pub literals: u64,
     pub functions: u64,

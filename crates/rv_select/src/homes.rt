@@ -20,7 +20,7 @@ use reg_alloc::Home;
 use rv_instr::Reg;
 
 /// Where a temp is found.
-#[derive(Clone, Copy, Debug)]
+#[derive(Clone, Copy)]
 pub enum Place {
     /// Nowhere: it is a number.
     Number(i32),

@@ -9,14 +9,14 @@ use crate::instructions::{branch, jump};
 use rv_instr::Instr;
 
 /// A jump whose target is still to come: the word that jumps, and the number of a label or of a function.
-#[derive(Clone, Copy, Debug)]
+#[derive(Clone, Copy)]
 pub struct Jump {
     pub at: usize,
     pub to: u32,
 }
 
 /// A label that stands before the word `at`.
-#[derive(Clone, Copy, Debug)]
+#[derive(Clone, Copy)]
 pub struct Mark {
     pub label: u32,
     pub at: usize,

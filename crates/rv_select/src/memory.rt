@@ -29,7 +29,7 @@ use rv_instr::{BranchOp, CapGetOp, CapRegOp, ImmOp, LoadOp, Reg, RegOp, StoreOp}
 use tac_ir::{Amount, CapWork, TacKind};
 
 /// The instruction of an intrinsic.
-#[derive(Clone, Copy, Debug)]
+#[derive(Clone, Copy)]
 enum Intrinsic {
     OfOne(CapGetOp),
     OfTwo(CapRegOp),
@@ -448,7 +448,7 @@ fn copy_unit(code: &mut Code, unit: u8, from: Pos, to: Pos) -> Result<(), NoMemo
 }
 
 /// Where a struct is copied from and to, in the code and in the source.
-#[derive(Clone, Copy, Debug)]
+#[derive(Clone, Copy)]
 pub struct Ends {
     pub from: u32,
     pub to: u32,

@@ -10,7 +10,7 @@ use ck_base::NoMemory;
 use rv_instr::Reg;
 
 /// A move from one register to another.
-#[derive(Clone, Copy, Debug)]
+#[derive(Clone, Copy)]
 pub struct Move {
     pub from: Reg,
     pub to: Reg,

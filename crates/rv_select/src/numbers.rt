@@ -10,7 +10,7 @@ use std::alloc::Global;
 use tac_ir::{TacFun, TacInstr};
 
 /// What a function writes to a temp.
-#[derive(Clone, Copy, Debug)]
+#[derive(Clone, Copy)]
 pub enum Written {
     Nothing,
     /// One constant that 32 bits of two's complement hold.

@@ -117,7 +117,7 @@ pub fn reduce(code: &mut Code, kind: IntKind, r: Reg, from: Reg) -> Result<(), N
 }
 
 /// How an operation is computed, before its result is reduced to its kind.
-#[derive(Clone, Copy, Debug)]
+#[derive(Clone, Copy)]
 enum Work {
     Registers(RegOp, u32, u32),
     Immediate(ImmOp, u32, i32),

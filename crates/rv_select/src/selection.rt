@@ -25,7 +25,7 @@ use std::alloc::Global;
 use tac_ir::{Tac, TacFun};
 
 /// The text of a program, with the places in it that an image names. Places are in bytes from the text's base.
-#[derive(Debug, Drop)]
+#[derive(Drop)]
 pub struct Items {
     pub code: Vec<Instr>,
     /// Where the image is entered.

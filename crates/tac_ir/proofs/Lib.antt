@@ -1,10 +1,6 @@
-mod Acts
 mod BehindConst
 mod Endings
-mod Loops
-mod Matches
 mod Objects
 mod Rows
 mod Padding
-mod Whole
 mod Weighing

@@ -7,5 +7,4 @@ pub mod Within
 pub mod WellFormed
 pub mod Signatures
 pub mod Bodies
-pub mod Integers
 pub mod Weights

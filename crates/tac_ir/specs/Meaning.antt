@@ -1,7 +1,7 @@
 -- What three-address code means. It is gone through from the front; turns are the one bound, and between two turns a
 -- list of instructions is followed to its end at most once.
 use Rattle.std.specs.Prelude.{ℕ, zero, suc, ◌%◌, ◌==◌, Bool, true, false, List, [], ◌∷◌, ◌++◌, length, drop, map}
-use Rattle.std.specs.Prelude.{Option, Some, None, slice_get, slice_set}
+use Rattle.std.specs.Prelude.{Option, Some, None, slice_get, slice_set, if◌then◌else◌}
 use Rattle.ck_base.specs.World.{World, Outcome, nothing_done}
 use Rattle.ck_base.specs.declared.positions.Pos.{Pos}
 use Rattle.c_tree.specs.declared.typed.Typed.{Typed}
@@ -74,6 +74,11 @@ with_result vars (Some t) v = slice_set vars t (Some v)
 abbrev pub is_label : TacInstr → ℕ → Bool
 is_label (instr.Label k) l = k == l
 is_label i l = false
+
+-- how many instructions there are up to a label, which counts, or to the end
+abbrev pub up_to : ℕ → List TacInstr → ℕ
+up_to l [] = 0
+up_to l (i ∷ is) = if is_label i l then 1 else suc (up_to l is)
 
 abbrev pub seek : Bool → ℕ → Going
 seek true l = Runs

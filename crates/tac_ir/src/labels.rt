@@ -9,7 +9,7 @@ use crate::code::TacInstr;
 use crate::slices::first_and_rest;
 
 /// Whether this is the label of that number.
-pub fn is_label(i: &TacInstr, label: u32) -> bool
+fn is_label(i: &TacInstr, label: u32) -> bool
     ensures { result ≡ is_label i.now label }
 {
     match i {
@@ -19,7 +19,7 @@ pub fn is_label(i: &TacInstr, label: u32) -> bool
 }
 
 /// Whether two truth values are equal.
-pub fn same(a: bool, b: bool) -> bool
+fn same(a: bool, b: bool) -> bool
     ensures { result ≡ same_bool a b }
 {
     if a { b } else { !b }

@@ -1,8 +1,8 @@
 //! Three-address code: what it is, what it means, and what it costs.
 //!
-//! Promise: `well_formed` and `is_within_costs` are exact; `run_tac` gives the meaning of code over integers.
+//! Promise: `well_formed` and `is_within_costs` are exact.
 //! Definitions (`specs/`): `Effects`, `Meaning`, `WellFormed`, `Costs`, `Within`, `Intervals`.
-//! Main lemmas (`proofs/`): `Whole`, `Weighing`.
+//! Main lemmas (`proofs/`): `Padding`, `Weighing`.
 #![tactic(auto)]
 
 mod body;
@@ -11,8 +11,6 @@ mod code;
 mod costs;
 mod kinds;
 mod labels;
-mod moment;
-mod running;
 mod signatures;
 mod slices;
 mod weights;
@@ -21,7 +19,6 @@ mod within;
 pub use checking::well_formed;
 pub use code::{Amount, CapWork, LibOp, Tac, TacFun, TacInstr, TacKind};
 pub use costs::{cost, function_cost, outgoing};
-pub use running::{run_tac, runs_over_integers};
 pub use signatures::bare;
 pub use weights::function_weight;
 pub use within::is_within_costs;

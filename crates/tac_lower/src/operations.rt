@@ -100,7 +100,7 @@ fn complement(out: &mut Emitter, kind: IntKind, to: u32, a: u32) -> Result<(), N
 }
 
 /// The unary operations that give a value of their operand's kind (C11 6.5.3.3).
-#[derive(Clone, Copy, PartialEq, Eq)]
+#[derive(Clone, Copy)]
 pub enum Sign {
     Positive,
     Negative,

@@ -14,7 +14,7 @@ use ck_base::NoMemory;
 use std::alloc::Global;
 
 /// Which variables are written, by their numbers.
-#[derive(Clone, Copy, PartialEq, Eq)]
+#[derive(Clone, Copy)]
 pub enum Written {
     Nothing,
     One(u32),

@@ -43,7 +43,7 @@ fn ends(rt: &HostRuntime) -> Result<(Vec<Instr>, u32, Vec<Instr>, u64), NoMemory
     let places = Places {
         homes: Sequence::from_vec(Vec::new(rt.alloc())),
     };
-    let f = frame(rt.alloc(), 0, &Vec::new(rt.alloc()), &places, 2)?;
+    let f = frame(rt.alloc(), &Vec::new(rt.alloc()), &places, 2)?;
     let begin = prologue(rt.alloc(), &f, &places)?;
     let end = epilogue(rt.alloc(), &f, &places)?;
     Ok((begin, first_store(&f), end, saved(&f, &places).slot(1)))

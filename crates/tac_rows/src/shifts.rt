@@ -83,6 +83,6 @@ fn counts_of_narrow_shifts(rt: HostRuntime) -> Result<(), NoMemory> {
     let t = code(rt.alloc())?;
     let items = selected(rt.alloc(), &t)?;
     let words = items.code.as_slice().get(6..18);
-    assert!(rt; words == Some(wanted().as_slice()), "{items:?}");
+    assert!(rt; words == Some(wanted().as_slice()));
     Ok(())
 }

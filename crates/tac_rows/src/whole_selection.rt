@@ -87,7 +87,7 @@ pub fn selected(alloc: Global, t: &Tac) -> Result<Items, NoMemory>
     requires cheap { sum_by function_cost t.now.funs < 200 }
 {
     let l = places(alloc)?;
-    let f = frame(alloc, 0, &Vec::new(alloc), &l, 0)?;
+    let f = frame(alloc, &Vec::new(alloc), &l, 0)?;
     let places = vec![in alloc; l]?;
     let frames = vec![in alloc; f]?;
     select(alloc, t, &program(alloc), &places, &frames)
@@ -138,6 +138,6 @@ fn are_wanted(items: &Items) -> bool {
 fn a_byte_is_put_behind_a_jump(rt: HostRuntime) -> Result<(), NoMemory> {
     let t = code(rt.alloc())?;
     let items = selected(rt.alloc(), &t)?;
-    assert!(rt; are_wanted(&items), "{items:?}");
+    assert!(rt; are_wanted(&items));
     Ok(())
 }

@@ -16,13 +16,12 @@ use Rattle.mean_steps.specs.Parts.{Now, Came, On as Gives, Over}
 use Rattle.mean_steps.specs.Machine.{no_world}
 use Rattle.mean_steps.proofs.Steady.{IsOwn, own_turns}
 use Rattle.tac_ir.specs.Effects.{Next, On, To, Pause, Back, Into}
-use Rattle.tac_ir.specs.Meaning.{code_of, with_result}
+use Rattle.tac_ir.specs.Meaning.{code_of, with_result, up_to}
 use Rattle.tac_ir.specs.declared.code.LibOp.TheVariants as lib
 use Rattle.tac_ir.specs.declared.code.Tac.{Tac}
 use Rattle.tac_ir.specs.declared.code.TacFun.{TacFun}
 use Rattle.tac_ir.specs.declared.code.TacInstr.{TacInstr}
 use Rattle.tac_ir.specs.declared.code.TacInstr.TheVariants as instr
-use Rattle.tac_ir.specs.Integers.{up_to}
 use Rattle.tac_steps.specs.Machine.{Caller, Moment, effect, code_at, kinds_at, spent, arrived, onward, place_of, paused}
 use Rattle.tac_steps.specs.Machine.{entered, calls, returns_to, called_behind, returned_behind, leads, led, with_answer}
 use Rattle.tac_steps.specs.Machine.{act_on, act_at, act, limits}

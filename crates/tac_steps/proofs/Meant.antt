@@ -20,13 +20,12 @@ use Rattle.mean_steps.proofs.Alike.{state_of, follow as done_with}
 use Rattle.tac_ir.specs.Effects.{Next, On, To, Pause, Back, Into}
 use Rattle.tac_ir.specs.Effects as effects
 use Rattle.tac_ir.specs.Meaning.{Going, Runs, Seeks, Turned, Running, is_label, seek, name_of, with_result, behind_turn}
-use Rattle.tac_ir.specs.Meaning.{pass, follow, turned, back, into, enters, fate}
+use Rattle.tac_ir.specs.Meaning.{pass, follow, turned, back, into, enters, fate, up_to}
 use Rattle.tac_ir.specs.Meaning as meaning
 use Rattle.tac_ir.specs.declared.code.LibOp.TheVariants as lib
 use Rattle.tac_ir.specs.declared.code.Tac.{Tac}
 use Rattle.tac_ir.specs.declared.code.TacInstr.{TacInstr}
 use Rattle.tac_ir.specs.declared.code.TacInstr.TheVariants as instr
-use Rattle.tac_ir.specs.Integers.{up_to}
 use Rattle.tac_steps.specs.Machine.{Caller, Moment, value_in, effect, code_at, kinds_at, spent, onward, jumped, paused}
 use Rattle.tac_steps.specs.Machine.{caller_of, entered, calls, returns_to, leads, led, with_answer, act_on, act_at, act}
 use Rattle.tac_steps.proofs.Kept.{Stays, IsInside, kept_effect}

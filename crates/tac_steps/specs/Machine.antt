@@ -20,8 +20,7 @@ use Rattle.mean_steps.specs.Parts.{Now, Came, On as Gives, Over, Part, ◌>>=◌
 use Rattle.mean_steps.specs.Parts.{store, copy_units, test, allocate, called}
 use Rattle.tac_ir.specs.Effects.{kind_of, kind_at, work_of, no_position, Next, On, To, Pause, Back, Into, held}
 use Rattle.tac_ir.specs.Effects as effects
-use Rattle.tac_ir.specs.Integers.{up_to}
-use Rattle.tac_ir.specs.Meaning.{code_of, kinds_of, name_of, entry_temps, with_result}
+use Rattle.tac_ir.specs.Meaning.{code_of, kinds_of, name_of, entry_temps, with_result, up_to}
 use Rattle.tac_ir.specs.declared.code.Amount.{Amount}
 use Rattle.tac_ir.specs.declared.code.Amount.TheVariants as amount
 use Rattle.tac_ir.specs.declared.code.LibOp.{LibOp}

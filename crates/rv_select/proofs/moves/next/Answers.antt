@@ -1,4 +1,5 @@
-use Rattle.std.proofs.Common.{sym}
+use Rattle.std.proofs.Common.{sym, ◌∙◌}
+use Rattle.std.proofs.lemmas.Bool.{true≢false}
 use Rattle.rv_select.proofs.Moved.{free_unread}
 use Rattle.rv_select.proofs.moves.next.Goals as goal
 
@@ -8,5 +9,5 @@ loop-k-preserved c = record {
       let m = c.index-moves-k.result in
       let lt = c.loop-k-test.true in
       let unread = free_unread c.args.moves.now m free (c.loop-k.k, lt, sym c.index-moves-k.is) in
-      absurd (cc (c.if-not-is_read.ensures, unread));
+      absurd (true≢false (c.if-not-is_read.ensures ∙ unread));
 }

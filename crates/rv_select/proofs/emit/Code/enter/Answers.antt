@@ -3,6 +3,9 @@ use Rattle.rv_instr.specs.declared.instr.Instr.{Instr}
 use Rattle.rv_select.proofs.Grown.{growing_put, growing_enter}
 use Rattle.rv_select.proofs.emit.Code.enter.Goals as goal
 
+pub invariant_of-self : goal.invariant_of-self
+invariant_of-self c = rw c.in_err-push.ensures.items c.self.invariant
+
 pub invariant_of-self-in_err-push-2 : goal.invariant_of-self-in_err-push-2
 invariant_of-self-in_err-push-2 c =
     rw c.in_err-push-2.ensures.items
