@@ -1,8 +1,10 @@
 -- Copies of expressions and statements.
-use Rattle.std.proofs.Common.{◌≡◌, ℕ, suc, ◌+◌, ◌<◌, List, [], ◌∷◌, ◌++◌, length, get_or, take, map, Option, Some, None}
+use Rattle.std.proofs.Common.{◌≡◌, ℕ, zero, suc, ◌+◌, ◌<◌, ◌≤◌, List, [], ◌∷◌, ◌++◌, length, get_or, take, drop, map}
+use Rattle.std.proofs.Common.{Option, Some, None}
 use Rattle.std.proofs.Common.{Result, Ok, Err, refl, sym, ap, subst, ◌∙◌, arith, length-append, append_assoc}
 use Rattle.std.specs.Prelude.{slice_get, slice_index_or, IfOk, OnOk}
-use Rattle.std.proofs.lemmas.List.{take_more}
+use Rattle.std.proofs.lemmas.List.{take_more, get_or_past, length-take-le, take-append-drop}
+use Rattle.std.proofs.lemmas.Option.{slice_get_within}
 use Rattle.ck_base.specs.declared.refusal.NoMemory.{NoMemory}
 use Rattle.std.proofs.Math.Seq.{get_or-append_seam}
 use Rattle.std.proofs.Math.ListN.{get_or-append}
@@ -18,7 +20,7 @@ use Rattle.c_tree.specs.Types.{Ty}
 use Rattle.c_tree.specs.Terms.{Shape, Form, Term, Terms, term, terms, with_term, Action, Actions, action, actions}
 use Rattle.c_tree.specs.Terms.{with_action}
 use Rattle.c_tree.specs.Views.{grow, forest, type_at, kind_term, expr_from, no_term, term_at, kind_action, stmt_from}
-use Rattle.c_tree.specs.Views.{no_action, action_at, operands, values, parts, listed, same_number}
+use Rattle.c_tree.specs.Views.{nowhere, no_action, action_at, operands, values, parts, listed, same_number}
 use Rattle.c_tree.specs.Programs.{shape_with, term_with, terms_with, action_with, actions_with}
 use Rattle.c_tree.specs.Programs as programs
 use Rattle.c_tree.proofs.Forest.{forest_reads}
@@ -176,6 +178,19 @@ pub action_same : (f g : Form) (xs ys : Terms) (us ws : Actions) (p q : Pos) →
     action f xs us p ≡ action g ys ws q
 action_same f g xs ys us ws p q a b c d = cc
 
+-- an item and those before it
+pub split_there : {A : Type 0} (xs : List A) (k : ℕ) (x : A) → slice_get xs k ≡ Some x →
+    xs ≡ take k xs ++ x ∷ drop (suc k) xs
+split_there [] k x e = absurd cc
+split_there (y ∷ xs) zero x e = let same : y ≡ x = cc in ap (λ z. z ∷ xs) same
+split_there (y ∷ xs) (suc k) x e = ap (λ zs. y ∷ zs) (split_there xs k x e)
+
+pub past_end : {N T : Type 0} (make : N → (ℕ → T) → T) (bad : T) (ns : List N) (k : ℕ) → length ns ≤ k →
+    get_or (forest make bad ns) k bad ≡ bad
+past_end make bad ns k l =
+    let e : length (forest make bad ns) ≡ length ns = length-grow make bad ns [] ∙ omega arith in
+    get_or_past (forest make bad ns) k bad (omega arith)
+
 -- the operands of a copy
 operands_copied : (n : programs.Numbers) (go old seen : ℕ → Term) (ks js xs ys : List ℕ) (k : ℕ) → ks ≡ xs → ys ≡ js →
     AllBelow k ks → ((j : ℕ) → j < k → seen j ≡ old j) → map go js ≡ map (λ j. term_with n (old j)) ks →
@@ -191,13 +206,12 @@ values_copied n go old ks js xs ys e f m =
     ap terms (ap (map go) f ∙ m ∙ sym (map_map (term_with n) old ks) ∙ ap (λ zs. map (term_with n) (map old zs)) e)
     ∙ sym (terms_with_map n (map old xs))
 
-parts_copied : (n : programs.Numbers) (go old seen : ℕ → Action) (ks js xs ys : List ℕ) (k : ℕ) → ks ≡ xs → ys ≡ js →
-    AllBelow k ks → ((j : ℕ) → j < k → seen j ≡ old j) → map go js ≡ map (λ j. action_with n (old j)) ks →
-    actions (map go ys) ≡ actions_with n (actions (map seen xs))
-parts_copied n go old seen ks js xs ys k e f b s m =
+parts_copied : (n : programs.Numbers) (go old : ℕ → Action) (ks js xs ys : List ℕ) → ks ≡ xs → ys ≡ js →
+    map go js ≡ map (λ j. action_with n (old j)) ks → actions (map go ys) ≡ actions_with n (actions (map old xs))
+parts_copied n go old ks js xs ys e f m =
     ap actions (ap (map go) f ∙ m ∙ sym (map_map (action_with n) old ks)
-    ∙ ap (map (action_with n)) (sym (map_seen seen old ks k b s) ∙ ap (map seen) e))
-    ∙ sym (actions_with_map n (map seen xs))
+    ∙ ap (λ zs. map (action_with n) (map old zs)) e)
+    ∙ sym (actions_with_map n (map old xs))
 
 -- ---- expressions
 
@@ -258,19 +272,24 @@ copies_push t old new newer ks js ls k j x c d e =
 
 -- ---- statements
 
+-- the parts of a statement are those before it
 pub action_copied : (t : Numbers) (oe : List Expr) (os : List Stmt) (ne : List Expr) (mid : List Stmt) (k : ℕ)
     (s d : Stmt) (xs vs ks js : List ℕ) → slice_get os k ≡ Some s → xs ≡ values s.kind → ks ≡ parts s.kind →
-    AllBelow k ks →
-    AreCopies t oe ne xs vs → AreActionCopies t oe os ne mid ks js → IsStmtWith s.kind vs js d.kind → d.pos ≡ s.pos →
-    IsActionCopy t oe os ne (mid ++ d ∷ []) k (length mid)
-action_copied t oe os ne mid k s d xs vs ks js g xe ke b c f w ep = record {
+    AreCopies t oe ne xs vs → AreActionCopies t oe (take k os) ne mid ks js → IsStmtWith s.kind vs js d.kind →
+    d.pos ≡ s.pos → IsActionCopy t oe os ne (mid ++ d ∷ []) k (length mid)
+action_copied t oe os ne mid k s d xs vs ks js g xe ke c f w ep = record {
   is = λ ts n ys more a.
       let old : List Term = terms_in ts oe in
       let new : List Term = terms_in ts (ne ++ ys) in
-      let r = forest_reads (stmt_from old) no_action os k s g in
-      let seen : ℕ → Action = λ j. get_or r.seen j no_action in
+      let before = take k os in
+      let count : length before ≡ k = length-take-le k os (omega (arith, slice_get_within os k s g)) in
+      let seen : ℕ → Action = action_at (actions_in ts oe before) in
+      let is : action_at (actions_in ts oe os) k ≡ stmt_from old s seen =
+      ap (λ zs. action_at (actions_in ts oe zs) k) (split_there os k s g)
+      ∙ ap (action_at (actions_in ts oe (before ++ s ∷ drop (suc k) os))) (sym count)
+      ∙ at_seam (stmt_from old) no_action before s (drop (suc k) os) in
       let go : ℕ → Action = action_at (actions_in ts (ne ++ ys) mid) in
-      let now : map go js ≡ map (λ j. action_with n (action_at (actions_in ts oe os) j)) ks =
+      let now : map go js ≡ map (λ j. action_with n (seen j)) ks =
       ap (λ zs. map (action_at (actions_in ts (ne ++ ys) zs)) js) (sym (append-nil mid)) ∙ f.are ts n ys [] a in
       ap (λ zs. action_at (actions_in ts (ne ++ ys) zs) (length mid)) (append_assoc mid (d ∷ []) more)
       ∙ at_seam (stmt_from new) no_action mid d more
@@ -279,9 +298,30 @@ action_copied t oe os ne mid k s d xs vs ks js g xe ke b c f w ep = record {
       (terms_with n (terms (map (term_at old) (values s.kind)))) (actions (map go (parts d.kind)))
       (actions_with n (actions (map seen (parts s.kind)))) d.pos s.pos
       w.form (values_copied n (term_at new) (term_at old) xs vs (values s.kind) (values d.kind) xe w.values
-      (c.are ts n ys a)) (parts_copied n go (action_at (actions_in ts oe os)) seen ks js (parts s.kind)
-      (parts d.kind) k ke w.parts b r.before now) ep
-      ∙ ap (action_with n) (sym (r.is ∙ action_is old s.kind s.pos seen));
+      (c.are ts n ys a)) (parts_copied n go seen ks js (parts s.kind) (parts d.kind) ke w.parts now) ep
+      ∙ ap (action_with n) (sym (is ∙ action_is old s.kind s.pos seen));
+}
+
+-- a statement before a number, and a number that names none before it
+pub front_copied : (t : Numbers) (oe : List Expr) (os : List Stmt) (ne : List Expr) (ns : List Stmt) (n k j : ℕ) →
+    k < n → n ≤ length os → IsActionCopy t oe os ne ns k j → IsActionCopy t oe (take n os) ne ns k j
+front_copied t oe os ne ns n k j lt le c = record {
+  is = λ ts m xs more a. c.is ts m xs more a ∙ ap (action_with m)
+      (ap (λ zs. action_at (actions_in ts oe zs) k) (sym (take-append-drop n os))
+      ∙ forest_front (stmt_from (terms_in ts oe)) no_action (take n os) (drop n os) k
+      (omega (arith, length-take-le n os le)));
+}
+
+pub none_copied : (t : Numbers) (oe : List Expr) (os : List Stmt) (ne : List Expr) (mid : List Stmt) (n k : ℕ)
+    (d : Stmt) → n ≤ k → n ≤ length os → d ≡ record { kind = stmts.Empty; pos = nowhere } →
+    IsActionCopy t oe (take n os) ne (mid ++ d ∷ []) k (length mid)
+none_copied t oe os ne mid n k d le l e = record {
+  is = λ ts m xs more a.
+      ap (λ zs. action_at (actions_in ts (ne ++ xs) zs) (length mid)) (append_assoc mid (d ∷ []) more)
+      ∙ at_seam (stmt_from (terms_in ts (ne ++ xs))) no_action mid d more
+      ∙ ap (λ (x : Stmt). stmt_from (terms_in ts (ne ++ xs)) x (action_at (actions_in ts (ne ++ xs) mid))) e
+      ∙ ap (action_with m) (sym (past_end (stmt_from (terms_in ts oe)) no_action (take n os) k
+      (omega (arith, length-take-le n os l))));
 }
 
 pub action_copies_kept : (t : Numbers) (oe : List Expr) (os : List Stmt) (ne me : List Expr) (ns ms : List Stmt)
@@ -340,15 +380,14 @@ copied_through t old mid k e d ks kt ku js jt et eu ej g o b c w eo ep =
 
 pub action_copied_through :
     (t : Numbers) (oe : List Expr) (os : List Stmt) (ne me : List Expr) (mid : List Stmt) (k : ℕ) (s d : Stmt)
-    (xs xt vs vt ks kt ku js jt : List ℕ) → xt ≡ xs → vt ≡ vs → kt ≡ ks → ku ≡ ks → jt ≡ js → Extends ne me →
-    slice_get os k ≡ Some s →
-    xs ≡ values s.kind → ks ≡ parts s.kind → AllBelow k kt → AreCopies t oe ne xt vs →
-    AreActionCopies t oe os me mid ku js → IsStmtWith s.kind vt jt d.kind → d.pos ≡ s.pos →
+    (xs xt vs vt ks ku js jt : List ℕ) → xt ≡ xs → vt ≡ vs → ku ≡ ks → jt ≡ js → Extends ne me →
+    slice_get os k ≡ Some s → xs ≡ values s.kind → ks ≡ parts s.kind → AreCopies t oe ne xt vs →
+    AreActionCopies t oe (take k os) me mid ku js → IsStmtWith s.kind vt jt d.kind → d.pos ≡ s.pos →
     IsActionCopy t oe os me (mid ++ d ∷ []) k (length mid)
-action_copied_through t oe os ne me mid k s d xs xt vs vt ks kt ku js jt ex ev et eu ej x g xe ke b c f w ep =
-    action_copied t oe os me mid k s d xs vs ks js g xe ke (subst (λ ys. AllBelow k ys) et b)
+action_copied_through t oe os ne me mid k s d xs xt vs vt ks ku js jt ex ev eu ej x g xe ke c f w ep =
+    action_copied t oe os me mid k s d xs vs ks js g xe ke
     (copies_kept t oe ne me xs vs x (subst (λ ys. AreCopies t oe ne ys vs) ex c))
-    (subst (λ ys. AreActionCopies t oe os me mid ys js) eu f)
+    (subst (λ ys. AreActionCopies t oe (take k os) me mid ys js) eu f)
     (subst (λ ys. IsStmtWith s.kind vs ys d.kind) ej (subst (λ ys. IsStmtWith s.kind ys jt d.kind) ev w)) ep
 
 pub action_turn : (t : Numbers) (oe : List Expr) (os : List Stmt) (ne me : List Expr) (ns ms : List Stmt)

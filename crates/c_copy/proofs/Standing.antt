@@ -3,7 +3,7 @@ use Rattle.std.proofs.Common.{◌≡◌, ℕ, zero, suc, ◌<◌, ◌≤◌, Lis
 use Rattle.std.proofs.Common.{sym, ap, subst, ◌∙◌, ⊎_elim, arith}
 use Rattle.std.specs.Prelude.{slice_get}
 use Rattle.std.proofs.lemmas.Bool.{cases_lt}
-use Rattle.std.proofs.lemmas.List.{get_or_past, length-take-le}
+use Rattle.std.proofs.lemmas.List.{length-take-le}
 use Rattle.std.proofs.lemmas.Option.{slice_get_within}
 use Rattle.c_tree.specs.declared.typed.Expr.{Expr}
 use Rattle.c_tree.specs.declared.typed.ExprKind.{ExprKind}
@@ -17,21 +17,9 @@ use Rattle.c_copy.specs.declared.numbers.Numbers.{Numbers}
 use Rattle.c_copy.specs.Copying.{expr_shape, stmt_form, terms_in}
 use Rattle.c_copy.specs.Standing.{Stands, StandAll, ActionStands, ActionsStand, StandsIn, ActionStandsIn, NamesThere}
 use Rattle.c_copy.specs.Standing.{KindNamesThere}
-use Rattle.c_copy.proofs.Copies.{length-grow, at_seam, forest_front, kind_is, action_is}
+use Rattle.c_copy.proofs.Copies.{at_seam, forest_front, split_there, past_end, kind_is, action_is}
 
 -- ---- an item and those before it
-
-split_there : {A : Type 0} (xs : List A) (k : ℕ) (x : A) → slice_get xs k ≡ Some x →
-    xs ≡ take k xs ++ x ∷ drop (suc k) xs
-split_there [] k x e = absurd cc
-split_there (y ∷ xs) zero x e = let same : y ≡ x = cc in ap (λ z. z ∷ xs) same
-split_there (y ∷ xs) (suc k) x e = ap (λ zs. y ∷ zs) (split_there xs k x e)
-
-past_end : {N T : Type 0} (make : N → (ℕ → T) → T) (bad : T) (ns : List N) (k : ℕ) → length ns ≤ k →
-    get_or (forest make bad ns) k bad ≡ bad
-past_end make bad ns k l =
-    let e : length (forest make bad ns) ≡ length ns = length-grow make bad ns [] ∙ omega arith in
-    get_or_past (forest make bad ns) k bad (omega arith)
 
 -- it is made from those before it, and from nothing else
 record MadeOf {N T : Type 0} (make : N → (ℕ → T) → T) (bad : T) (ns : List N) (k : ℕ) (n : N) : Type 0 where

@@ -1,7 +1,6 @@
 //! Short lists of numbers.
 
-ghost use Rattle.std.specs.Prelude.{◌≡◌, ◌<◌, ◌++◌, ◌∷◌, [], IfOk, OnOk, length};
-ghost use Rattle.c_copy.specs.Copying.{AllBelow};
+ghost use Rattle.std.specs.Prelude.{◌≡◌, ◌++◌, ◌∷◌, [], IfOk, length};
 
 use ck_base::NoMemory;
 use std::alloc::Global;
@@ -86,25 +85,4 @@ pub(crate) fn three(xs: &[u32]) -> (u32, u32, u32)
         [a, b, c] => (*a, *b, *c),
         _ => unreachable!(),
     }
-}
-
-// A number is below another. Else NoMemory.
-fn below(a: u32, n: usize) -> Result<(), NoMemory>
-    ensures { OnOk result (a < n) }
-{
-    if (a as usize) < n {
-        Ok(())
-    } else {
-        Err(NoMemory)
-    }
-}
-
-/// Each number is below another. Else NoMemory.
-pub(crate) fn all_below(xs: &[u32], n: usize) -> Result<(), NoMemory>
-    ensures { OnOk result (AllBelow n xs.now) }
-{
-    for x in xs {
-        below(*x, n)?;
-    }
-    Ok(())
 }

@@ -1,15 +1,14 @@
 //! Copies of statements.
 
-ghost use Rattle.std.specs.Prelude.{◌≡◌, ℕ, ◌<◌, ◌≤◌, ◌++◌, ◌∷◌, [], Some, IfOk, OnOk, length, slice_get};
+ghost use Rattle.std.specs.Prelude.{◌≡◌, ℕ, ◌<◌, ◌≤◌, ◌++◌, ◌∷◌, [], Some, IfOk, OnOk, length, slice_get, take};
 ghost use Rattle.c_copy.specs.Copying.{AllBelow, Extends, IsActionCopy, AreActionCopies};
 ghost use Rattle.c_copy.specs.Order.{PartsBefore};
 ghost use Rattle.c_copy.specs.Standing.{ActionStandsIn, NamesThere, AnyForm};
 
 use crate::expressions::{Source, expressions};
-use crate::lists::all_below;
 use crate::stmt_kinds::{parts, stmt_with, values};
-use c_tree::{Expr, Stmt};
-use ck_base::NoMemory;
+use c_tree::{Expr, Stmt, StmtKind};
+use ck_base::{NoMemory, Pos};
 
 /// The copies.
 #[derive(Debug, Drop)]
@@ -57,14 +56,38 @@ pub fn statement(source: &Source<'_>, k: u32, into: &mut Copied) -> Result<u32, 
     let xs = values(source.alloc, &s.kind)?;
     let ks = parts(source.alloc, &s.kind)?;
     let count = source.exprs.len();
-    all_below(ks.as_slice(), k as usize)?;
     let vs = expressions(source, xs.as_slice(), count, &mut into.exprs)?;
     let js = statements(source, ks.as_slice(), k as usize, into)?;
     let kind = stmt_with(source.alloc, &s.kind, vs.as_slice(), js.as_slice())?;
     push_stmt(&mut into.stmts, Stmt { kind, pos: s.pos })
 }
 
-// The numbers of new copies of some statements, each of which stands before number `limit`.
+// The number of a new copy of a part of a statement, which stands before number `limit`. A number that names no
+// statement there stands for an empty one.
+#[cycle(statements)]
+fn part(source: &Source<'_>, k: u32, limit: usize, into: &mut Copied) -> Result<u32, NoMemory>
+    requires there { limit ≤ length source.now.stmts.now }
+    requires stands { k < limit →
+        ActionStandsIn (NamesThere source.now.numbers.now) AnyForm source.now.exprs.now source.now.stmts.now k }
+    ensures exprs { OnOk result (Extends into.old.exprs.items into.new.exprs.items) }
+    ensures stmts { OnOk result (Extends into.old.stmts.items into.new.stmts.items) }
+    ensures before { OnOk result (PartsBefore into.old.stmts.items → PartsBefore into.new.stmts.items) }
+    ensures there { IfOk result (λ j. j < length into.new.stmts.items) }
+    ensures is { IfOk result (IsActionCopy source.now.numbers.now source.now.exprs.now
+        (take limit source.now.stmts.now) into.new.exprs.items into.new.stmts.items k) }
+{
+    if (k as usize) < limit {
+        statement(source, k, into)
+    } else {
+        let nothing = Stmt {
+            kind: StmtKind::Empty,
+            pos: Pos { line: 0, col: 0 },
+        };
+        push_stmt(&mut into.stmts, nothing)
+    }
+}
+
+// The numbers of new copies of the parts of a statement, which stand before number `limit`.
 #[cycle(statements)]
 fn statements(
     source: &Source<'_>,
@@ -72,21 +95,20 @@ fn statements(
     limit: usize,
     into: &mut Copied,
 ) -> Result<Vec<u32>, NoMemory>
-    requires below { AllBelow limit ks.now }
     requires there { limit ≤ length source.now.stmts.now }
-    requires stand { (j a : ℕ) → slice_get ks.now j ≡ Some a →
+    requires stand { (j a : ℕ) → slice_get ks.now j ≡ Some a → a < limit →
         ActionStandsIn (NamesThere source.now.numbers.now) AnyForm source.now.exprs.now source.now.stmts.now a }
     ensures exprs { OnOk result (Extends into.old.exprs.items into.new.exprs.items) }
     ensures stmts { OnOk result (Extends into.old.stmts.items into.new.stmts.items) }
     ensures before { OnOk result (PartsBefore into.old.stmts.items → PartsBefore into.new.stmts.items) }
     ensures there { IfOk result (λ js. AllBelow (length into.new.stmts.items) js.items) }
     ensures count { IfOk result (λ js. length js.items ≡ length ks.now) }
-    ensures are { IfOk result (λ js. AreActionCopies source.now.numbers.now source.now.exprs.now source.now.stmts.now
-        into.new.exprs.items into.new.stmts.items ks.now js.items) }
+    ensures are { IfOk result (λ js. AreActionCopies source.now.numbers.now source.now.exprs.now
+        (take limit source.now.stmts.now) into.new.exprs.items into.new.stmts.items ks.now js.items) }
 {
     let mut js = Vec::new(source.alloc);
     for k in ks {
-        let j = statement(source, *k, into)?;
+        let j = part(source, *k, limit, into)?;
         js.push(j)?;
     }
     Ok(js)

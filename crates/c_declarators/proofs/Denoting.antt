@@ -5,6 +5,7 @@ use Rattle.ck_base.specs.declared.positions.Pos.{Pos}
 use Rattle.ck_base.specs.Tokens.{Lexeme}
 use Rattle.c_tree.specs.declared.typed.Typed.{Typed}
 use Rattle.c_tree.specs.Types.{Ty}
+use Rattle.c_tree.specs.Views.{types_of}
 use Rattle.c_tree.specs.Scopes as meant
 use Rattle.c_tree.specs.Scopes.{State, some_or, find_in, innermost, bind_name}
 use Rattle.c_tree.specs.Declarators.{alias_type, is_new, in_int, enumerate}
@@ -13,6 +14,8 @@ use Rattle.c_types.specs.declared.entries.Entity.TheVariants.{Local, Static, Rou
 use Rattle.c_types.specs.declared.scopes.Scopes.{Scopes}
 use Rattle.c_types.specs.Calls.{Given}
 use Rattle.c_types.specs.Declares.{denoted, declares_constant}
+use Rattle.c_interner.specs.Numbers.{type_named}
+use Rattle.c_types.proofs.Looking.{type_is}
 use Rattle.c_types.specs.Stands.{Stands, Seen, alias, named, entity_kept, entity_seen}
 use Rattle.c_declarators.specs.Naming.{alias_in, IsAlias}
 
@@ -72,10 +75,11 @@ none_meant : (ts : List Ty) (o : Option Ty) → option_map (named ts) None ≡ o
 none_meant ts None e = refl
 none_meant ts (Some t) e = absurd cc
 
-some_meant : (ts : List Ty) (k : ℕ) (o : Option Ty) (t : Ty) → named ts k ≡ Some t →
-    option_map (named ts) (Some k) ≡ option_map (λ t. Some t) o → o ≡ Some t
-some_meant ts k None t g e = absurd cc
-some_meant ts k (Some u) t g e = cc
+some_meant : (p : Typed) (k : ℕ) (o : Option Ty) →
+    option_map (named (types_of p.types)) (Some k) ≡ option_map (λ t. Some t) o → o ≡ Some (type_named p k)
+some_meant p k None e = absurd cc
+some_meant p k (Some u) e =
+    let f : named (types_of p.types) k ≡ Some u = cc in ap (λ t. Some t) (sym (type_is p k u f))
 
 pub no_alias : (ts : List Ty) (o : Option Entity) (e : Option meant.Entity) (p : Pos) (s : State) →
     option_map (entity_kept ts) o ≡ option_map entity_seen e → IsAlias o None →
@@ -83,11 +87,12 @@ pub no_alias : (ts : List Ty) (o : Option Entity) (e : Option meant.Entity) (p :
 no_alias ts o e p s h i =
     alias_type_is e p s ∙ ap (λ t. some_or t 133 p s) (none_meant ts (alias_meant e) (found ts o e None h i))
 
-pub an_alias : (ts : List Ty) (o : Option Entity) (e : Option meant.Entity) (k : ℕ) (t : Ty) (p : Pos) (s : State) →
-    option_map (entity_kept ts) o ≡ option_map entity_seen e → IsAlias o (Some k) → named ts k ≡ Some t →
-    alias_type e p s ≡ Ok (t, s)
-an_alias ts o e k t p s h i g =
-    alias_type_is e p s ∙ ap (λ u. some_or u 133 p s) (some_meant ts k (alias_meant e) t g (found ts o e (Some k) h i))
+pub alias_there : (q : Typed) (o : Option Entity) (e : Option meant.Entity) (k : ℕ) (p : Pos) (s : State) →
+    option_map (entity_kept (types_of q.types)) o ≡ option_map entity_seen e → IsAlias o (Some k) →
+    alias_type e p s ≡ Ok (type_named q k, s)
+alias_there q o e k p s h i =
+    alias_type_is e p s
+    ∙ ap (λ u. some_or u 133 p s) (some_meant q k (alias_meant e) (found (types_of q.types) o e (Some k) h i))
 
 -- ---- enumeration constants
 
@@ -100,16 +105,32 @@ pair_state : {A : Type 0} (a b : A) (v w : State) (x : Result (A × State) meant
 unfolding state_in
 pair_state a b v w x e f = ap (λ r. state_in r v) (sym e ∙ f)
 
+-- a new constant is declared
+constant_steps : (t : Lexeme) (z : ℤ) (s : State) → is_new s t.text ≡ true →
+    denoted t (declares_constant t z) s
+    ≡ Ok (
+      find_in (innermost (bind_name t.text (meant.Enumerator z) s).scopes).names t.text,
+      bind_name t.text (meant.Enumerator z) s,
+    )
+constant_steps t z s b = rw b refl
+
 -- what the scopes stand for once the constant is declared
 pub constant_stands : (sc : Scopes) (p : Typed) (t : Lexeme) (z : ℤ) (s : State)
     (F : State → Option meant.Entity → Type 0) → is_new s t.text ≡ true →
     Given sc p (denoted t (declares_constant t z) s) F → Stands sc p (bind_name t.text (meant.Enumerator z) s)
 constant_stands sc p t z s F b g =
     let u : State = bind_name t.text (meant.Enumerator z) s in
-    let e : denoted t (declares_constant t z) s ≡ Ok (find_in (innermost u.scopes).names t.text, u) = rw b refl in
+    let e = constant_steps t z s b in
     subst (λ (v : State). Stands sc p v) (sym
     (pair_state (find_in (innermost u.scopes).names t.text) g.value u g.state
     (denoted t (declares_constant t z) s) e g.is)) g.stands
+
+pub constant_not_refused : (t : Lexeme) (z : ℤ) (s : State) (f : meant.Fault) → is_new s t.text ≡ true →
+    denoted t (declares_constant t z) s ≡ Err f → ⊥
+constant_not_refused t z s f b g =
+    let u : State = bind_name t.text (meant.Enumerator z) s in
+    let e = constant_steps t z s b in
+    absurd cc
 
 pub enumerated : (t : Lexeme) (z : ℤ) (p : Pos) (s : State) → is_new s t.text ≡ true → in_int z ≡ true →
     enumerate t z p s ≡ Ok (z +ℤ pos 1, bind_name t.text (meant.Enumerator z) s)

@@ -36,7 +36,8 @@ use Rattle.c_types.specs.Calls as types
 use Rattle.c_types.specs.Calls.{Given, HasParts, Completes}
 use Rattle.c_types.specs.Declares.{name_of, declares_tag}
 use Rattle.c_types.specs.Looks.{tag_kind_of, ShowsInnermost}
-use Rattle.c_types.specs.Stands.{Stands, ShowsScope, named, part_seen, member_kept, text_at}
+use Rattle.c_types.specs.Stands.{Stands, ShowsScope, named, part_seen, member_kept, text_at, name_in, tag_in, entity_kept}
+use Rattle.c_types.specs.Stands.{tagging_of}
 use Rattle.c_expressions.specs.Nodes.{type_in, type_count}
 use Rattle.c_elaborator.specs.declared.work.Work.{Work}
 use Rattle.c_elaborator.specs.declared.work.Name.{Name}
@@ -179,6 +180,16 @@ tag_declared sc q k j t u b s n F kind name braces e l g =
     (subst (λ c. Given sc q (declares_tag j t c s) F) braces
     (subst (λ x. Given sc q (declares_tag j x b s) F) name g)))
 
+-- and that is not refused
+pub tag_not_refused : (k : RecordKind) (j : TagKind) (t u : Lexeme) (b : Bool) (s : State) (z : Fault) →
+    j ≡ tag_kind_of k → u ≡ t → b ≡ false → find_in (innermost s.scopes).tags t.text ≡ None →
+    declares_tag j u b s ≡ Err z → ⊥
+tag_not_refused k j t u b s z kind name braces e g =
+    let h = subst (λ i. declares_tag i t false s ≡ Err z) kind
+    (subst (λ c. declares_tag j t c s ≡ Err z) braces (subst (λ x. declares_tag j x b s ≡ Err z) name g)) in
+    let o = tag_steps k t s e in
+    absurd cc
+
 -- what is not in force is not in the scope
 first_none : {A : Type 0} (o p : Option A) → or_else o p ≡ None → o ≡ None
 first_none None p e = refl
@@ -301,6 +312,16 @@ pub closed_shows : (ts : List Ty) (n : ℕ) (c : Scope) (ms : List meant.Scope) 
     ShowsScope ts n c (innermost ms)
 closed_shows ts n c [] h = absurd h
 closed_shows ts n c (m ∷ ms) h = h
+
+-- where none is in force, an empty one is closed
+pub empty_shows : (ts : List Ty) (n : ℕ) (c : Scope) (ms : List meant.Scope) → ((x : List ℕ) → name_in c x ≡ None) →
+    ((x : List ℕ) → tag_in c x ≡ None) → ms ≡ [] → ShowsScope ts n c (innermost ms)
+empty_shows ts n c ms a b e =
+    subst (λ (l : List meant.Scope). ShowsScope ts n c (innermost l)) (sym e) (record {
+      names = λ x. ap (option_map (entity_kept ts)) (a x);
+      tags = λ x. ap (option_map tagging_of) (b x);
+      there = λ x k f. let g = b x in absurd cc;
+    })
 
 pub closing_given : (sc : Scopes) (q : Typed) (s : State) (F : State → Unit {0} → Type 0)
     (I : State → meant.Scope → Type 0) → I (record s { scopes = meant.outer_scopes s.scopes }) (innermost s.scopes) →

@@ -1,6 +1,6 @@
 -- What specifiers, parameters and declarators stand for.
 use Rattle.std.specs.Prelude.{◌≡◌, ℕ, ◌<◌, List, [], ◌∷◌, length, map, reverse, Option, option_map, All, Result, Ok}
-use Rattle.std.specs.Prelude.{Err, Bool, bytes_eq, is_some, ℤ}
+use Rattle.std.specs.Prelude.{Err, Bool, bytes_eq, is_some, ℤ, pos, ◌<ℤ◌, ◌^◌}
 use Rattle.std.specs.List.{list_any}
 use Rattle.std.specs.Map.{lookup}
 use Rattle.ck_base.specs.declared.refusal.Refusal.{Refusal}
@@ -154,8 +154,9 @@ AreAllMembers w v s xs = AreMembers w v.all.items xs
 
 -- ---- constants
 
+-- a value of an integer type
 abbrev pub ConstantThere : Work → Constant → Type 0
-ConstantThere w c = Unit {0}
+ConstantThere w c = c.number <ℤ pos (2 ^ 64)
 
 abbrev pub IsConstant : Work → Constant → meant_types.Constant → Type 0
 IsConstant w c x = x ≡ record { number = c.number; first = c.first }

@@ -1,6 +1,6 @@
 //! Integer constant expressions in declarations (C11 6.6), and lengths of arrays (6.7.6.2).
 
-ghost use Rattle.std.specs.Prelude.{◌≡◌, ◌*◌, ◌<◌, ◌≤◌, ◌^◌, nat_lt, pos, ◌-ℤ◌, if◌then◌else◌};
+ghost use Rattle.std.specs.Prelude.{◌≡◌, ◌*◌, ◌<◌, ◌≤◌, ◌^◌, nat_lt, pos, ◌-ℤ◌, ◌<ℤ◌, if◌then◌else◌};
 ghost use Rattle.ck_int.specs.Kinds.{value_of, reduced};
 ghost use Rattle.c_expressions.specs.Nodes.{IsWhole};
 ghost use Rattle.c_elaborator.specs.Answers.{Answers, quietly, OperandThere, operand_in};
@@ -23,7 +23,8 @@ pub struct Constant {
 fn signed(low: u64, sign: u64) -> i128
     requires width { sign ≤ 2 ^ 63 }
     requires in_range { low < 2 * sign }
-    ensures { result ≡ (if nat_lt low sign then pos low else pos low -ℤ pos (2 * sign)) }
+    ensures is { result ≡ (if nat_lt low sign then pos low else pos low -ℤ pos (2 * sign)) }
+    ensures small { result <ℤ pos sign }
 {
     if low < sign {
         i128::from(low)
@@ -35,7 +36,8 @@ fn signed(low: u64, sign: u64) -> i128
 // The number that a value of a kind is.
 #[tactic(auto, unfolding(ck_int::specs::Kinds::value_of, ck_int::specs::Kinds::reduced))]
 fn number_of(kind: IntKind, value: u64) -> i128
-    ensures { result ≡ value_of kind value }
+    ensures is { result ≡ value_of kind value }
+    ensures small { result <ℤ pos (2 ^ 64) }
 {
     match kind {
         IntKind::Bool => i128::from(value != 0),
@@ -72,7 +74,8 @@ pub fn constant_value(work: &Work<'_>, x: Operand) -> Result<Constant, Refusal>
 
 /// The number of elements that a constant expression gives: 134 if it is not at least 1.
 pub fn array_length(work: &Work<'_>, c: Constant) -> Result<u64, Refusal>
-    requires { IsWhole work.now.nodes }
+    requires whole { IsWhole work.now.nodes }
+    requires small { ConstantThere work.now c }
     ensures { Answers quietly work.now work.now (array_length c.number c.first) CountThere (in_any IsCount) result }
 {
     if c.number <= 0 {
@@ -80,6 +83,6 @@ pub fn array_length(work: &Work<'_>, c: Constant) -> Result<u64, Refusal>
     }
     match u64::try_from(c.number) {
         Ok(count) => Ok(count),
-        Err(_) => Err(Refusal::NoMemory),
+        Err(_) => unreachable!(),
     }
 }

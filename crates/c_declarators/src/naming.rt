@@ -40,13 +40,7 @@ pub fn typedef_name(work: &Work<'_>, name: Name) -> Result<u32, Refusal>
     let found = work.nodes.scopes.look(text_of(work.file, name.span));
     match alias_of(found) {
         None => Err(Refusal::Code(133, name.pos)),
-        Some(of) => {
-            if (of as usize) < work.nodes.p.types.as_slice().len() {
-                Ok(of)
-            } else {
-                Err(Refusal::NoMemory)
-            }
-        }
+        Some(of) => Ok(work.there(of)),
     }
 }
 
@@ -105,7 +99,7 @@ pub fn enumerate(work: &mut Work<'_>, name: Name, number: i128, at: Pos) -> Resu
         Some(value) => {
             let d = constant_of(name, value);
             match work.nodes.scopes.declare_constant(d, value) {
-                Err(_) => Err(Refusal::NoMemory),
+                Err(refusal) => Err(refusal),
                 Ok(_) => Ok(next_after(value)),
             }
         }

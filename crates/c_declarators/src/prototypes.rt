@@ -37,13 +37,13 @@ pub fn bind_parameter(work: &mut Work<'_>, k: u32, p: Param) -> Result<(), Refus
     }
 }
 
-/// The scope of parameters is left, and what it declares is kept.
+/// The scope of parameters is left, and what it declares is kept: nothing where no scope is in force.
 pub fn close<'a>(work: &mut Work<'a>) -> Result<Scope<'a>, Refusal>
     requires { IsWhole work.old.nodes }
     ensures { Answers quietly work.old work.new closing ScopeThere ShowsScopeOf result }
 {
     match work.nodes.scopes.close() {
-        None => Err(Refusal::NoMemory),
+        None => Ok(Scope::new(work.nodes.alloc)),
         Some(scope) => Ok(scope),
     }
 }

@@ -116,7 +116,7 @@ fn declare_tag(work: &mut Work<'_>, kind: RecordKind, name: Name) -> Result<u32,
     let k = tag_kind(kind);
     let d = tag_of(name, k, false);
     match bind_tag(&mut work.nodes, k, d) {
-        Err(_) => Err(Refusal::NoMemory),
+        Err(refusal) => Err(refusal),
         Ok(_) => Ok(tag),
     }
 }

@@ -1,11 +1,12 @@
 //! The words among specifiers, counted (C11 6.7.1 to 6.7.3).
 
-ghost use Rattle.std.specs.Prelude.{◌≡◌, ℕ, ◌+◌, ◌&&◌, ◌==◌, nat_lt, option_map, slice_get, IfOk};
+ghost use Rattle.std.specs.Prelude.{◌≡◌, ℕ, ◌+◌, ◌&&◌, ◌==◌, nat_lt, option_map, slice_get, IfOk, IfSome};
 ghost use Rattle.c_tree.specs.Declarators.{is_word};
 ghost use Rattle.c_tree.specs.Declarators.{has_register, parts_const};
 ghost use Rattle.c_tree.specs.Syntax.{Syns, StandAt};
 ghost use Rattle.c_tree.specs.Types.{Ty};
 ghost use Rattle.c_tree.specs.Views.{type_from};
+ghost use Rattle.c_interner.specs.Numbers.{IsPlain};
 ghost use Rattle.c_declarators.specs.Words.{FirstHas, is_of, times_at, words_of, type_words, storage_words, sign_words};
 ghost use Rattle.c_declarators.specs.Words.{is_alone, is_made_of, signs, sized_type, word_type};
 
@@ -212,8 +213,11 @@ impl Words {
 
     // The type with a sign or the one without.
     fn signs(self, signed: CType, unsigned: CType) -> Option<CType>
-        ensures { (go : ℕ → Ty) →
+        requires signed { IsPlain signed }
+        requires unsigned { IsPlain unsigned }
+        ensures is { (go : ℕ → Ty) →
             option_map (λ c. type_from c go) result ≡ signs self (type_from signed go) (type_from unsigned go) }
+        ensures plain { IfSome result IsPlain }
     {
         if self.sign_words() > 1 {
             return None;
@@ -226,7 +230,8 @@ impl Words {
 
     // The types that are made of `short`, `long` and `int`.
     fn sized_type(self) -> Option<CType>
-        ensures { (go : ℕ → Ty) → option_map (λ c. type_from c go) result ≡ sized_type self }
+        ensures is { (go : ℕ → Ty) → option_map (λ c. type_from c go) result ≡ sized_type self }
+        ensures plain { IfSome result IsPlain }
     {
         if self.ints > 1 {
             return None;
@@ -248,7 +253,8 @@ impl Words {
 
     /// The type that the words name, if they name one (C11 6.7.2p2).
     pub fn word_type(self) -> Option<CType>
-        ensures { (go : ℕ → Ty) → option_map (λ c. type_from c go) result ≡ word_type self }
+        ensures is { (go : ℕ → Ty) → option_map (λ c. type_from c go) result ≡ word_type self }
+        ensures plain { IfSome result IsPlain }
     {
         if self.is_alone(self.voids) {
             return Some(CType::Void);

@@ -4,6 +4,7 @@ use Rattle.std.proofs.Common.{length, map, take, Option, Some, None, Result, Ok,
 use Rattle.std.specs.Prelude.{slice_get, ◌==◌, ◌&&◌, not, if◌then◌else◌, All}
 use Rattle.std.specs.Global.{Vec}
 use Rattle.std.proofs.lemmas.Bool.{eq-eqb, ne_eqb}
+use Rattle.std.proofs.lemmas.List.{map-append}
 use Rattle.std.proofs.lemmas.List.Sums.{fold-append}
 use Rattle.c_tree.specs.declared.typed.Typed.{Typed}
 use Rattle.c_tree.specs.declared.typed.VarDef.{VarDef}
@@ -40,7 +41,8 @@ use Rattle.c_readings.proofs.Kids.{opened}
 use Rattle.c_elaborator.specs.declared.items.Items.{Items}
 use Rattle.c_elaborator.specs.Items.{AddsAction, ItemsThere, IsItems, items_in}
 use Rattle.c_statements.proofs.Standing.{reading_node}
-use Rattle.c_elab.specs.Functions.{variable_in, variables_from, VariableThere, ends, finishes, types_body}
+use Rattle.c_elab.specs.Functions.{variable_in, variable_seen, variables_from, VariableThere, ends, finishes}
+use Rattle.c_elab.specs.Functions.{types_body}
 
 -- ---- the variables
 
@@ -57,12 +59,26 @@ taken_count xs zero h = refl
 taken_count [] (suc i) h = absurd (omega arith)
 taken_count (x ∷ xs) (suc i) h = (let e : length (take i xs) ≡ i = taken_count xs i (omega arith) in omega arith)
 
+-- a variable with a number that names the same type
+pub variable_shown : (w : Work) (k of : ℕ) (v : VarDef) (b : Bool) → type_in w.nodes of ≡ type_in w.nodes v.of →
+    b ≡ (variable_in w k v).simple →
+    variable_seen w (let x : VarDef = record { name = v.name; pos = v.pos; of = of; simple = b } in x)
+    ≡ variable_seen w (variable_in w k v)
+variable_shown w k of v b e f =
+    ap (λ (t : Ty). (let x : Variable = record { name = v.name; place = v.pos; of = t; simple = b } in x)) e
+    ∙ ap (λ (c : Bool). (let x : Variable = record { name = v.name; place = v.pos; of = type_in w.nodes v.of; simple = c } in x)) f
+
 pub one_variable : (w : Work) (vs : List VarDef) (k : ℕ) (v x : VarDef) (done : List VarDef) → length vs ≡ k →
-    done ≡ variables_from w 0 vs → x ≡ variable_in w k v → done ++ x ∷ [] ≡ variables_from w 0 (vs ++ v ∷ [])
+    map (variable_seen w) done ≡ map (variable_seen w) (variables_from w 0 vs) →
+    variable_seen w x ≡ variable_seen w (variable_in w k v) →
+    map (variable_seen w) (done ++ x ∷ []) ≡ map (variable_seen w) (variables_from w 0 (vs ++ v ∷ []))
 one_variable w vs k v x done l e f =
-    ap (λ xs. xs ++ x ∷ []) e
-    ∙ ap (λ y. variables_from w 0 vs ++ y ∷ [])
-    (f ∙ ap (λ n. variable_in w n v) (let g : k ≡ 0 + length vs = omega arith in g)) ∙ sym (variables-push w 0 vs v)
+    map-append (variable_seen w) done (x ∷ [])
+    ∙ ap (λ (xs : List Variable). xs ++ variable_seen w x ∷ []) e
+    ∙ ap (λ (y : Variable). map (variable_seen w) (variables_from w 0 vs) ++ y ∷ [])
+    (f ∙ ap (λ n. variable_seen w (variable_in w n v)) (let g : k ≡ 0 + length vs = omega arith in g))
+    ∙ sym (map-append (variable_seen w) (variables_from w 0 vs) (variable_in w (0 + length vs) v ∷ []))
+    ∙ ap (map (variable_seen w)) (sym (variables-push w 0 vs v))
 
 -- they are those of the state
 variable_is : (w : Work) (k : ℕ) (v : VarDef) (l : LocalState) →
@@ -114,6 +130,8 @@ bodies_unseen sc p s k b h =
       scopes = h.scopes;
       tags = h.tags;
       tag_types = h.tag_types;
+      kinds = h.kinds;
+      tagged = h.tagged;
       members = h.members;
       objects = h.objects;
       globals = h.globals;
@@ -288,8 +306,8 @@ pub body_ends : (w : Work) (sc sd : Scopes) (ds : Vec Definition) (ks : Vec ℕ)
     (d : Definition) → IsWhole w.nodes →
     ((s : State) → Shows w s → (f : RoutineState) × (slice_get s.routines k ≡ Some f)) →
     ds.items ≡ w.definitions.items ++ d ∷ [] → d.function ≡ k → d.params.items ≡ numbers_from 0 count → d.body ≡ body →
-    d.vars.items ≡ variables_from w 0 vs → All (VariableThere w) d.vars.items → body < action_count w →
-    ks.items ≡ [] →
+    map (variable_seen w) d.vars.items ≡ map (variable_seen w) (variables_from w 0 vs) →
+    All (VariableThere w) d.vars.items → body < action_count w → ks.items ≡ [] →
     sc.file.now ≡ w.nodes.scopes.file.now → sd.file.now ≡ sc.file.now →
     ((s : State) → Stands w.nodes.scopes w.nodes.p s →
     map (var_kept w.nodes.scopes.file.now (types_of w.nodes.p.types)) vs ≡ map local_seen s.locals) →
@@ -303,7 +321,7 @@ body_ends w sc sd ds ks vs k count body d whole f is named params same vars all 
   gives = λ s h.
       let g = f s h in
       let v : map (views.variable_of (types_of w.nodes.p.types)) d.vars.items ≡ map programs.variable_of s.locals =
-      ap (map (views.variable_of (types_of w.nodes.p.types))) vars
+      vars
       ∙ variables_are w 0 vs s.locals (seen s h.stands)
       (λ j l e. h.addressed j l e ∙ ap (λ n. is_among n w.addressed.items) (let z : j ≡ 0 + j = omega arith in z))
       in
@@ -314,6 +332,71 @@ body_ends w sc sd ds ks vs k count body d whole f is named params same vars all 
         stays = tt;
         shows = body_shows w sd ds ks s k count body d g.0 h g.1 is named params same v lt all (fb ∙ fa) none
             (left_stands sc sd w.nodes.p s left (taken s h.stands));
+        fits = tt;
+      };
+}
+
+-- where there is no such function, its scope alone is left
+module _ (w : Work) (sc : Scopes) (ks : Vec ℕ) (s : State) (h : Shows w s) where
+  abbrev unnamed : Work
+  unnamed = with_body w sc w.definitions ks
+
+  nothing_addressed : (none : ks.items ≡ []) (j n : ℕ) → slice_get ks.items j ≡ Some n → ⊥
+  nothing_addressed none j n e = no_item j n (rw none at e)
+    where
+      no_item : (j n : ℕ) → slice_get [] j ≡ Some n → ⊥
+      no_item j n e = absurd cc
+
+  scope_shows : sc.file.now ≡ w.nodes.scopes.file.now → ks.items ≡ [] →
+      Stands sc w.nodes.p (record s { scopes = outer_scopes s.scopes; locals = [] }) →
+      Shows unnamed (record s { scopes = outer_scopes s.scopes; locals = [] })
+  scope_shows fl none st = record {
+    stands = st;
+    texts = h.texts;
+    used_objects = h.used_objects;
+    used_functions = h.used_functions;
+    addressed = λ j v e. absurd (no_local j v e);
+    fillings = h.fillings;
+    definitions = h.definitions;
+    waiting = h.waiting;
+    closed = record {
+      file = fl ∙ h.closed.file;
+      members = h.closed.members;
+      values = h.closed.values;
+      uses = h.closed.uses;
+      addressed = λ j n e. absurd (nothing_addressed none j n e);
+      fillings = h.closed.fillings;
+      definitions = λ j d e. let x = h.closed.definitions j d e in
+          record { function = x.function; body = x.body; vars = x.vars };
+    };
+  }
+    where
+      no_local : (j : ℕ) (v : LocalState) → slice_get [] j ≡ Some v → ⊥
+      no_local j v e = absurd cc
+
+pub body_left : (w : Work) (sc sd : Scopes) (ks : Vec ℕ) (k count body : ℕ) → IsWhole w.nodes →
+    ((s : State) → Shows w s → slice_get s.routines k ≡ None) → ks.items ≡ [] →
+    sc.file.now ≡ w.nodes.scopes.file.now → sd.file.now ≡ sc.file.now →
+    ((s : State) → Stands w.nodes.scopes w.nodes.p s → Stands sc w.nodes.p (record s { locals = [] })) →
+    Does sc w.nodes.p sd w.nodes.p scopes.leave (λ t a. Unit {0}) →
+    Done freely w (with_body w sd w.definitions ks) (ends k count (action_in w body)) (Unit {0}) (λ s a. Unit {0})
+body_left w sc sd ks k count body whole f none fa fb taken left = record {
+  whole = record { facts = whole.facts; typed = whole.typed; void_there = whole.void_there; void = whole.void };
+  grows = body_keeps w sd w.definitions ks;
+  there = tt;
+  gives = λ s h.
+      let change : RoutineState → RoutineState = λ r. record r { body = Some (body_of count (action_in w body) s) } in
+      let after : State = record s { scopes = outer_scopes s.scopes; locals = [] } in
+      let same : ended_in k count (action_in w body) s ≡ after =
+      ap (λ (o : Option RoutineState). (let z : State = record after { routines = with_changed change o s.routines k } in z))
+      (f s h) in
+      record {
+        value = tt;
+        state = ended_in k count (action_in w body) s;
+        is = refl;
+        stays = tt;
+        shows = subst (λ (z : State). Shows (with_body w sd w.definitions ks) z) (sym same)
+            (scope_shows w sd ks s h (fb ∙ fa) none (left_stands sc sd w.nodes.p s left (taken s h.stands)));
         fits = tt;
       };
 }

@@ -22,7 +22,8 @@ use Rattle.c_tree.specs.Grammar.{Initialized, Declaration, Optional, States, Ite
 use Rattle.c_tree.specs.Grammar.{is_declared_by}
 use Rattle.c_tree.specs.Parses
 use Rattle.c_tree.specs.Parses.{DerivesFile, file_start}
-use Rattle.c_elaborator.specs.Parts.{TokenFits, IsWritten, AreWritten}
+use Rattle.c_elaborator.specs.Parts.{TokenFits, IsOf, AreOf, AreEnumerators, HasParameters, IsStatement, PartsFit}
+use Rattle.c_elaborator.specs.Parts.{IsWritten, AreWritten}
 
 -- ---- what kind of token a symbol is
 
@@ -210,6 +211,78 @@ declared_wordy Grammar.Either types t e =
 wordy : (t : Lexeme) (s : Symbol) → is_wordy s ≡ true → symbol t ≡ s → t.kind ≡ Tokens.Word
 wordy t s w e = word_token t.kind t.text (ap is_wordy e ∙ w)
 
+-- ---- of what kinds parts are
+
+are_pieces : {types : List (List ℕ)} {a : List Lexeme} {xs : Syns} → Repeated types Grammar.Piece a xs →
+    AreOf Kinds.Text xs
+are_pieces Grammar.finished = tt
+are_pieces (Grammar.repeated a b d ds) = (is_piece d, are_pieces ds)
+  where
+    is_piece : {types : List (List ℕ)} {a : List Lexeme} {x : Syn} → Derives types Grammar.Piece a x → IsOf Kinds.Text x
+    is_piece (Grammar.piece t e) = refl
+
+are_enumerators : {types : List (List ℕ)} {a : List Lexeme} {xs : Syns} → Separated types Grammar.Enumerator a xs →
+    AreOf Kinds.Enumerator xs
+are_enumerators s = all s
+  where
+    is_enumerator : {types : List (List ℕ)} {a : List Lexeme} {x : Syn} → Derives types Grammar.Enumerator a x →
+        IsOf Kinds.Enumerator x
+    is_enumerator (Grammar.enumerator n e) = refl
+    is_enumerator (Grammar.enumerator_value n o a e f d) = refl
+
+    all : {types : List (List ℕ)} {a : List Lexeme} {xs : Syns} → Separated types Grammar.Enumerator a xs →
+        AreOf Kinds.Enumerator xs
+    all (Grammar.last a d) = (is_enumerator d, tt)
+    all (Grammar.separated c a b e d ds) = (is_enumerator d, all ds)
+
+behind_tag : {n : List Lexeme} {ns : Syns} → Tags n ns → (xs : Syns) → AreOf Kinds.Enumerator xs →
+    AreEnumerators (joined ns xs)
+behind_tag Grammar.untagged nil h = tt
+behind_tag Grammar.untagged (more (node Kinds.Tag t ys) xs) h = absurd (let e = h.0 in cc)
+behind_tag Grammar.untagged (more (node k t ys) xs) h = h
+behind_tag (Grammar.tagged n e) xs h = h
+
+are_parameters : {types : List (List ℕ)} {a : List Lexeme} {xs : Syns} → Listed types Grammar.Parameter a xs →
+    AreOf Kinds.Parameter xs
+are_parameters Grammar.nothing = tt
+are_parameters (Grammar.listed a s) = all s
+  where
+    is_parameter : {types : List (List ℕ)} {a : List Lexeme} {x : Syn} → Derives types Grammar.Parameter a x →
+        IsOf Kinds.Parameter x
+    is_parameter (Grammar.parameter a b d q) = refl
+
+    all : {types : List (List ℕ)} {a : List Lexeme} {xs : Syns} → Separated types Grammar.Parameter a xs →
+        AreOf Kinds.Parameter xs
+    all (Grammar.last a d) = (is_parameter d, tt)
+    all (Grammar.separated c a b e d ds) = (is_parameter d, all ds)
+
+-- a declarator is one part at most, and the parameters stand behind it
+parameters_last : {types : List (List ℕ)} {m : Naming} {starred : Bool} {a : List Lexeme} {xs : Syns} →
+    Declares types m starred a xs → (o : Lexeme) (ys : Syns) → HasParameters (joined xs (one (node Kinds.Parameters o ys)))
+parameters_last (Grammar.empty e) o ys = refl
+parameters_last (Grammar.declared n e) o ys = refl
+parameters_last (Grammar.enclosed p c a e f d) o ys = refl
+parameters_last (Grammar.open_array p c a e f d) o ys = refl
+parameters_last (Grammar.array p c a b e f d q) o ys = refl
+parameters_last (Grammar.function p c a b e f d ds) o ys = refl
+parameters_last (Grammar.pointer p a b e ds d) o ys = refl
+
+is_statement : {types : List (List ℕ)} {a : List Lexeme} {x : Syn} → States types a x → IsStatement x
+is_statement (Grammar.block o c a e f is) = refl
+is_statement (Grammar.empty_statement c e) = refl
+is_statement (Grammar.expression_statement c a e d) = refl
+is_statement (Grammar.if_statement t o c a b e f g d s) = refl
+is_statement (Grammar.if_else t o c z a b d e f g k q s n r) = refl
+is_statement (Grammar.switch t o c p q a b e f g k l d is) = refl
+is_statement (Grammar.while_statement t o c a b e f g d s) = refl
+is_statement (Grammar.do_statement t w o c z a b e f g k l s d) = refl
+is_statement (Grammar.for_statement t o p q c a b d z e f g k l x y w s) = refl
+is_statement (Grammar.for_declaration t o q c a b d z e f g k x y w s) = refl
+is_statement (Grammar.break_statement t c e f) = refl
+is_statement (Grammar.continue_statement t c e f) = refl
+is_statement (Grammar.return_statement t c e f) = refl
+is_statement (Grammar.return_value t c a e f d) = refl
+
 -- ---- the tokens of a tree
 
 module _ (Is : Lexeme → Type 0) where
@@ -230,7 +303,7 @@ module _ (Is : Lexeme → Type 0) where
 
   abbrev mutual
     pub IsFrom : Syn → Type 0
-    IsFrom (node k t xs) = (TokenFits k t × Is t) × AreFrom xs
+    IsFrom (node k t xs) = (TokenFits k t × Is t × PartsFit k xs) × AreFrom xs
 
     pub AreFrom : Syns → Type 0
     AreFrom nil = Unit {0}
@@ -314,7 +387,7 @@ module _ (Is : Lexeme → Type 0) where
   tags_from : {n : List Lexeme} {ns : Syns} → Tags n ns → AllKnown n → AreFrom ns
   unfolding is_wordy
   tags_from Grammar.untagged h = tt
-  tags_from (Grammar.tagged n e) h = (((wordy n Symbols.Word refl e, h.0.1), tt), tt)
+  tags_from (Grammar.tagged n e) h = (((wordy n Symbols.Word refl e, h.0.1, tt), tt), tt)
 
   -- a specifier begins with a word
   specifier_wordy : {types : List (List ℕ)} {a : List Lexeme} {x : Syn} → Derives types Grammar.Specifier a x →
@@ -339,95 +412,97 @@ module _ (Is : Lexeme → Type 0) where
     unfolding is_wordy
 
     read : {types : List (List ℕ)} {g : Goal} {a : List Lexeme} {x : Syn} → Derives types g a x → AllKnown a → IsFrom x
-    read (Grammar.name t l e f) h = ((word_token t.kind t.text (from_head Heads.Name (symbol t) e), h.0.1), tt)
+    read (Grammar.name t l e f) h = ((word_token t.kind t.text (from_head Heads.Name (symbol t) e), h.0.1, tt), tt)
     read (Grammar.number t l e) h =
-        ((number_token t.kind t.text (from_head Heads.Number (symbol t) e) h.0.0, h.0.1), tt)
+        ((number_token t.kind t.text (from_head Heads.Number (symbol t) e) h.0.0, h.0.1, tt), tt)
     read (Grammar.character t l e) h =
-        ((character_token t.kind t.text (from_head Heads.Character (symbol t) e) h.0.0, h.0.1), tt)
+        ((character_token t.kind t.text (from_head Heads.Character (symbol t) e) h.0.0, h.0.1, tt), tt)
     read (Grammar.text t a l e ds) h =
-        ((text_token t.kind t.text (from_head Heads.Text (symbol t) e) h.0.0, h.0.1), repeated_read ds h.1)
+        ((text_token t.kind t.text (from_head Heads.Text (symbol t) e) h.0.0, h.0.1, are_pieces ds), repeated_read ds h.1)
     read (Grammar.piece t e) h =
-        ((text_token t.kind t.text (from_head Heads.Text (symbol t) (ap head_of e)) h.0.0, h.0.1), tt)
-    read (Grammar.parenthesized o c a l e f d) h = ((tt, h.0.1), (read d (split a (c ∷ []) h.1).0, tt))
+        ((text_token t.kind t.text (from_head Heads.Text (symbol t) (ap head_of e)) h.0.0, h.0.1, tt), tt)
+    read (Grammar.parenthesized o c a l e f d) h = ((tt, h.0.1, tt), (read d (split a (c ∷ []) h.1).0, tt))
     read (Grammar.index o c a b l e f d q) h =
         let p = split a (o ∷ (b ++ (c ∷ []))) h in
-        ((tt, p.1.0.1), (read d p.0, (read q (split b (c ∷ []) p.1.1).0, tt)))
+        ((tt, p.1.0.1, tt), (read d p.0, (read q (split b (c ∷ []) p.1.1).0, tt)))
     read (Grammar.call o c a b l e f d ds) h =
         let p = split a (o ∷ (b ++ (c ∷ []))) h in
-        ((tt, p.1.0.1), (read d p.0, listed_read ds (split b (c ∷ []) p.1.1).0))
+        ((tt, p.1.0.1, tt), (read d p.0, listed_read ds (split b (c ∷ []) p.1.1).0))
     read (Grammar.select o n a l e f d) h =
         let p = split a (o ∷ (n ∷ [])) h in
-        ((tt, p.1.0.1), (read d p.0, (((wordy n Symbols.Word refl f, p.1.1.0.1), tt), tt)))
-    read (Grammar.postfix o a l e d) h = let p = split a (o ∷ []) h in ((tt, p.1.0.1), (read d p.0, tt))
-    read (Grammar.prefix o a l e d) h = ((tt, h.0.1), (read d h.1, tt))
-    read (Grammar.sizeof_expression o a l e d) h = ((tt, h.0.1), (read d h.1, tt))
-    read (Grammar.sizeof_type o b c a l e f k d) h = ((tt, h.0.1), (read d (split a (c ∷ []) h.1.1).0, tt))
+        ((tt, p.1.0.1, tt), (read d p.0, (((wordy n Symbols.Word refl f, p.1.1.0.1, tt), tt), tt)))
+    read (Grammar.postfix o a l e d) h = let p = split a (o ∷ []) h in ((tt, p.1.0.1, tt), (read d p.0, tt))
+    read (Grammar.prefix o a l e d) h = ((tt, h.0.1, tt), (read d h.1, tt))
+    read (Grammar.sizeof_expression o a l e d) h = ((tt, h.0.1, tt), (read d h.1, tt))
+    read (Grammar.sizeof_type o b c a l e f k d) h = ((tt, h.0.1, tt), (read d (split a (c ∷ []) h.1.1).0, tt))
     read (Grammar.cast o c a b l e f d q) h =
         let p = split a (c ∷ b) h.1 in
-        ((tt, h.0.1), (read d p.0, (read q p.1.1, tt)))
+        ((tt, h.0.1, tt), (read d p.0, (read q p.1.1, tt)))
     read (Grammar.binary o a b l e d q) h =
         let p = split a (o ∷ b) h in
-        ((tt, p.1.0.1), (read d p.0, (read q p.1.1, tt)))
+        ((tt, p.1.0.1, tt), (read d p.0, (read q p.1.1, tt)))
     read (Grammar.conditional o m a b c l e f d q k) h =
         let p = split a (o ∷ (b ++ (m ∷ c))) h in
         let r = split b (m ∷ c) p.1.1 in
-        ((tt, p.1.0.1), (read d p.0, (read q r.0, (read k r.1.1, tt))))
+        ((tt, p.1.0.1, tt), (read d p.0, (read q r.0, (read k r.1.1, tt))))
     read (Grammar.assignment o a b l e d q) h =
         let p = split a (o ∷ b) h in
-        ((tt, p.1.0.1), (read d p.0, (read q p.1.1, tt)))
-    read (Grammar.specifiers a {x = x} ds e) h = let r = repeated_read ds h in ((tt, own_is x r.0), r)
-    read (Grammar.specifier_word t e) h = ((tt, h.0.1), tt)
-    read (Grammar.typedef_name t e) h = ((typedef_wordy _ t e, h.0.1), tt)
-    read (Grammar.record_tag t n e f) h = ((tt, h.0.1), (((wordy n Symbols.Word refl f, h.1.0.1), tt), tt))
+        ((tt, p.1.0.1, tt), (read d p.0, (read q p.1.1, tt)))
+    read (Grammar.specifiers a {x = x} ds e) h = let r = repeated_read ds h in ((tt, own_is x r.0, tt), r)
+    read (Grammar.specifier_word t e) h = ((tt, h.0.1, tt), tt)
+    read (Grammar.typedef_name t e) h = ((typedef_wordy _ t e, h.0.1, tt), tt)
+    read (Grammar.record_tag t n e f) h = ((tt, h.0.1, tt), (((wordy n Symbols.Word refl f, h.1.0.1, tt), tt), tt))
     read (Grammar.record_members t o c n a {ns = ns} {x = x} {xs = xs} e tags f k ds) h =
         let p = split n (o ∷ (a ++ (c ∷ []))) h.1 in
-        ((tt, h.0.1), joined_from ns (more x xs) (tags_from tags p.0) (repeated_read ds (split a (c ∷ []) p.1.1).0))
+        ((tt, h.0.1, tt), joined_from ns (more x xs) (tags_from tags p.0) (repeated_read ds (split a (c ∷ []) p.1.1).0))
     read (Grammar.member c a b {s = s} e d ds m) h =
         let p = split a (b ++ (c ∷ [])) h in
         let r = read d p.0 in
-        ((tt, own_is s r), (r, separated_read ds (split b (c ∷ []) p.1).0))
-    read (Grammar.enum_tag t n e f) h = ((tt, h.0.1), (((wordy n Symbols.Word refl f, h.1.0.1), tt), tt))
+        ((tt, own_is s r, tt), (r, separated_read ds (split b (c ∷ []) p.1).0))
+    read (Grammar.enum_tag t n e f) h = ((tt, h.0.1, tt), (((wordy n Symbols.Word refl f, h.1.0.1, tt), tt), tt))
     read (Grammar.enum_list t o c n a z {ns = ns} {xs = xs} e tags f k ds w) h =
-        let p = split n (o ∷ (a ++ (z ++ (c ∷ [])))) h.1 in
-        ((tt, h.0.1), joined_from ns xs (tags_from tags p.0) (separated_read ds (split a (z ++ (c ∷ [])) p.1.1).0))
-    read (Grammar.enumerator n e) h = ((declared_wordy Grammar.Plain _ n e, h.0.1), tt)
-    read (Grammar.enumerator_value n o a e f d) h = ((declared_wordy Grammar.Plain _ n e, h.0.1), (read d h.1.1, tt))
-    read (Grammar.qualifier t e f) h = ((tt, h.0.1), tt)
+        let p = split n (o ∷ (a ++ (z ++ (c ∷ [])))) h.1 in (
+          (tt, h.0.1, behind_tag tags xs (are_enumerators ds)),
+          joined_from ns xs (tags_from tags p.0) (separated_read ds (split a (z ++ (c ∷ [])) p.1.1).0),
+        )
+    read (Grammar.enumerator n e) h = ((declared_wordy Grammar.Plain _ n e, h.0.1, tt), tt)
+    read (Grammar.enumerator_value n o a e f d) h = ((declared_wordy Grammar.Plain _ n e, h.0.1, tt), (read d h.1.1, tt))
+    read (Grammar.qualifier t e f) h = ((tt, h.0.1, tt), tt)
     read (Grammar.declarator a d) h = (declares_read d h).0
     read (Grammar.parameter a b {s = s} d q) h =
         let p = split a b h in
         let r = read d p.0 in
-        ((specifiers_wordy d, own_is s r), (r, declares_read q p.1))
+        ((specifiers_wordy d, own_is s r, tt), (r, declares_read q p.1))
     read (Grammar.type_name a b {s = s} d q) h =
         let p = split a b h in
         let r = read d p.0 in
-        ((tt, own_is s r), (r, declares_read q p.1))
+        ((tt, own_is s r, tt), (r, declares_read q p.1))
     read (Grammar.plain_initializer a d) h = read d h
-    read (Grammar.empty_braces o c e f) h = ((tt, h.0.1), tt)
-    read (Grammar.braces o c a z e f ds w) h = ((tt, h.0.1), separated_read ds (split a (z ++ (c ∷ [])) h.1).0)
+    read (Grammar.empty_braces o c e f) h = ((tt, h.0.1, tt), tt)
+    read (Grammar.braces o c a z e f ds w) h = ((tt, h.0.1, tt), separated_read ds (split a (z ++ (c ∷ [])) h.1).0)
 
     declares_read : {types : List (List ℕ)} {m : Naming} {starred : Bool} {a : List Lexeme} {xs : Syns} →
         Declares types m starred a xs → AllKnown a → AreFrom xs
     declares_read (Grammar.empty e) h = tt
-    declares_read (Grammar.declared {m = m} n e) h = (((declared_wordy m _ n e, h.0.1), tt), tt)
-    declares_read (Grammar.enclosed o c a e f d) h = (((tt, h.0.1), declares_read d (split a (c ∷ []) h.1).0), tt)
+    declares_read (Grammar.declared {m = m} n e) h = (((declared_wordy m _ n e, h.0.1, tt), tt), tt)
+    declares_read (Grammar.enclosed o c a e f d) h = (((tt, h.0.1, tt), declares_read d (split a (c ∷ []) h.1).0), tt)
     declares_read (Grammar.open_array o c a e f d) h =
-        let p = split a (o ∷ (c ∷ [])) h in (((tt, p.1.0.1), declares_read d p.0), tt)
+        let p = split a (o ∷ (c ∷ [])) h in (((tt, p.1.0.1, tt), declares_read d p.0), tt)
     declares_read (Grammar.array o c a b {xs = xs} {y = y} e f d q) h =
         let p = split a (o ∷ (b ++ (c ∷ []))) h in
-        (((tt, p.1.0.1), joined_from xs (one y) (declares_read d p.0) (read q (split b (c ∷ []) p.1.1).0, tt)), tt)
+        (((tt, p.1.0.1, tt), joined_from xs (one y) (declares_read d p.0) (read q (split b (c ∷ []) p.1.1).0, tt)), tt)
     declares_read (Grammar.function o c a b {xs = xs} {ys = ys} e f d ds) h =
         let p = split a (o ∷ (b ++ (c ∷ []))) h in (
           (
-            (tt, p.1.0.1),
+            (tt, p.1.0.1, parameters_last d o ys),
             joined_from xs (one (node Kinds.Parameters o ys)) (declares_read d p.0)
-                (((tt, p.1.0.1), listed_read ds (split b (c ∷ []) p.1.1).0), tt),
+                (((tt, p.1.0.1, are_parameters ds), listed_read ds (split b (c ∷ []) p.1.1).0), tt),
           ),
           tt,
         )
     declares_read (Grammar.pointer o a b e ds d) h =
         let p = split a b h.1 in
-        (((tt, h.0.1), (((tt, h.0.1), repeated_read ds p.0), declares_read d p.1)), tt)
+        (((tt, h.0.1, tt), (((tt, h.0.1, tt), repeated_read ds p.0), declares_read d p.1)), tt)
 
     repeated_read : {types : List (List ℕ)} {g : Goal} {a : List Lexeme} {xs : Syns} → Repeated types g a xs →
         AllKnown a → AreFrom xs
@@ -449,11 +524,11 @@ module _ (Is : Lexeme → Type 0) where
 
   initializes_read : {types : List (List ℕ)} {m : Naming} {defines : Bool} {a : List Lexeme} {x : Syn} →
       Initializes types m defines a x → AllKnown a → IsFrom x
-  initializes_read (Grammar.uninitialized a {x = x} d) h = let r = read d h in ((tt, first_is x r), (r, tt))
+  initializes_read (Grammar.uninitialized a {x = x} d) h = let r = read d h in ((tt, first_is x r, tt), (r, tt))
   initializes_read (Grammar.initialized o a b {x = x} e d q) h =
       let p = split a (o ∷ b) h in
       let r = read d p.0 in
-      ((tt, first_is x r), (r, (read q p.1.1, tt)))
+      ((tt, first_is x r, tt), (r, (read q p.1.1, tt)))
 
   initialized_read : {m : Naming} {defines : Bool} {types : List (List ℕ)} {a : List Lexeme} {xs : Syns} →
       Initialized m defines types a xs → AllKnown a → AreFrom xs
@@ -464,46 +539,46 @@ module _ (Is : Lexeme → Type 0) where
   declaration_read : {types : List (List ℕ)} {at_file_scope : Bool} {a : List Lexeme} {x : Syn} →
       Declaration types at_file_scope a x → AllKnown a → IsFrom x
   declaration_read (Grammar.specifiers_only c a {s = s} e d) h =
-      let r = read d (split a (c ∷ []) h).0 in ((tt, own_is s r), (r, tt))
+      let r = read d (split a (c ∷ []) h).0 in ((tt, own_is s r, tt), (r, tt))
   declaration_read (Grammar.declaration c a b {s = s} e d ds) h =
       let p = split a (b ++ (c ∷ [])) h in
       let r = read d p.0 in
-      ((tt, own_is s r), (r, initialized_read ds (split b (c ∷ []) p.1).0))
+      ((tt, own_is s r, tt), (r, initialized_read ds (split b (c ∷ []) p.1).0))
 
   optional_read : {types : List (List ℕ)} {before : Lexeme} {a : List Lexeme} {x : Syn} → Optional types before a x →
       AllKnown a → Is before → IsFrom x
-  optional_read Grammar.absent h i = ((tt, i), tt)
+  optional_read Grammar.absent h i = ((tt, i, tt), tt)
   optional_read (Grammar.present a d) h i = read d h
 
   -- ---- statements
 
   mutual
     states_read : {types : List (List ℕ)} {a : List Lexeme} {x : Syn} → States types a x → AllKnown a → IsFrom x
-    states_read (Grammar.block o c a e f is) h = ((tt, h.0.1), items_read is (split a (c ∷ []) h.1).0)
-    states_read (Grammar.empty_statement c e) h = ((tt, h.0.1), tt)
+    states_read (Grammar.block o c a e f is) h = ((tt, h.0.1, tt), items_read is (split a (c ∷ []) h.1).0)
+    states_read (Grammar.empty_statement c e) h = ((tt, h.0.1, tt), tt)
     states_read (Grammar.expression_statement c a {x = x} e d) h =
-        let r = read d (split a (c ∷ []) h).0 in ((tt, first_is x r), (r, tt))
+        let r = read d (split a (c ∷ []) h).0 in ((tt, first_is x r, tt), (r, tt))
     states_read (Grammar.if_statement t o c a b e f g d s) h =
         let p = split a (c ∷ b) h.1.1 in
-        ((tt, h.0.1), (read d p.0, (states_read s p.1.1, tt)))
+        ((tt, h.0.1, is_statement s), (read d p.0, (states_read s p.1.1, tt)))
     states_read (Grammar.if_else t o c z a b d e f g k q s n r) h =
         let p = split a (c ∷ (b ++ (z ∷ d))) h.1.1 in
         let u = split b (z ∷ d) p.1.1 in
-        ((tt, h.0.1), (read q p.0, (states_read s u.0, (states_read r u.1.1, tt))))
+        ((tt, h.0.1, (is_statement s, is_statement r)), (read q p.0, (states_read s u.0, (states_read r u.1.1, tt))))
     states_read (Grammar.switch t o c p q a b e f g k l d is) h =
         let u = split a (c ∷ (p ∷ (b ++ (q ∷ [])))) h.1.1 in
-        ((tt, h.0.1), (read d u.0, items_read is (split b (q ∷ []) u.1.1.1).0))
+        ((tt, h.0.1, tt), (read d u.0, items_read is (split b (q ∷ []) u.1.1.1).0))
     states_read (Grammar.while_statement t o c a b e f g d s) h =
         let p = split a (c ∷ b) h.1.1 in
-        ((tt, h.0.1), (read d p.0, (states_read s p.1.1, tt)))
+        ((tt, h.0.1, is_statement s), (read d p.0, (states_read s p.1.1, tt)))
     states_read (Grammar.do_statement t w o c z a b e f g k l s d) h =
         let p = split a (w ∷ (o ∷ (b ++ (c ∷ (z ∷ []))))) h.1 in
-        ((tt, h.0.1), (states_read s p.0, (read d (split b (c ∷ (z ∷ [])) p.1.1.1).0, tt)))
+        ((tt, h.0.1, is_statement s), (states_read s p.0, (read d (split b (c ∷ (z ∷ [])) p.1.1.1).0, tt)))
     states_read (Grammar.for_statement t o p q c a b d z e f g k l x y w s) h =
         let u = split a (p ∷ (b ++ (q ∷ (d ++ (c ∷ z))))) h.1.1 in
         let v = split b (q ∷ (d ++ (c ∷ z))) u.1.1 in
         let r = split d (c ∷ z) v.1.1 in (
-          (tt, h.0.1),
+          (tt, h.0.1, is_statement s),
           (
             optional_read x u.0 u.1.0.1,
             (optional_read y v.0 v.1.0.1, (optional_read w r.0 r.1.0.1, (states_read s r.1.1, tt))),
@@ -513,16 +588,16 @@ module _ (Is : Lexeme → Type 0) where
         let u = split a (b ++ (q ∷ (d ++ (c ∷ z)))) h.1.1 in
         let v = split b (q ∷ (d ++ (c ∷ z))) u.1 in
         let r = split d (c ∷ z) v.1.1 in (
-          (tt, h.0.1),
+          (tt, h.0.1, is_statement s),
           (
             declaration_read x u.0,
             (optional_read y v.0 v.1.0.1, (optional_read w r.0 r.1.0.1, (states_read s r.1.1, tt))),
           ),
         )
-    states_read (Grammar.break_statement t c e f) h = ((tt, h.0.1), tt)
-    states_read (Grammar.continue_statement t c e f) h = ((tt, h.0.1), tt)
-    states_read (Grammar.return_statement t c e f) h = ((tt, h.0.1), tt)
-    states_read (Grammar.return_value t c a e f d) h = ((tt, h.0.1), (read d (split a (c ∷ []) h.1).0, tt))
+    states_read (Grammar.break_statement t c e f) h = ((tt, h.0.1, tt), tt)
+    states_read (Grammar.continue_statement t c e f) h = ((tt, h.0.1, tt), tt)
+    states_read (Grammar.return_statement t c e f) h = ((tt, h.0.1, tt), tt)
+    states_read (Grammar.return_value t c a e f d) h = ((tt, h.0.1, tt), (read d (split a (c ∷ []) h.1).0, tt))
 
     items_read : {in_switch : Bool} {types : List (List ℕ)} {a : List Lexeme} {xs : Syns} → Items in_switch types a xs →
         AllKnown a → AreFrom xs
@@ -531,15 +606,15 @@ module _ (Is : Lexeme → Type 0) where
         let p = split a b h in (declaration_read d p.0, items_read is p.1)
     items_read (Grammar.statement_item a b s is) h = let p = split a b h in (states_read s p.0, items_read is p.1)
     items_read (Grammar.case_item t c a b e f d is) h =
-        let p = split a (c ∷ b) h.1 in (((tt, h.0.1), (read d p.0, tt)), items_read is p.1.1)
-    items_read (Grammar.default_item t c b e f is) h = (((tt, h.0.1), tt), items_read is h.1.1)
+        let p = split a (c ∷ b) h.1 in (((tt, h.0.1, tt), (read d p.0, tt)), items_read is p.1.1)
+    items_read (Grammar.default_item t c b e f is) h = (((tt, h.0.1, tt), tt), items_read is h.1.1)
 
   -- ---- files
 
   externals_read : {types : List (List ℕ)} {a : List Lexeme} {xs : Syns} → Externals types a xs → AllKnown a →
       AreFrom xs
   externals_read Grammar.no_external h = tt
-  externals_read (Grammar.empty_external c b e es) h = (((tt, h.0.1), tt), externals_read es h.1)
+  externals_read (Grammar.empty_external c b e es) h = (((tt, h.0.1, tt), tt), externals_read es h.1)
   externals_read (Grammar.external_declaration a b d es) h =
       let p = split a b h in (declaration_read d p.0, externals_read es p.1)
   externals_read (Grammar.function_definition o c a b d z {s = s} e f k x is es) h =
@@ -547,17 +622,17 @@ module _ (Is : Lexeme → Type 0) where
       let v = split b (o ∷ (d ++ (c ∷ z))) u.1 in
       let r = split d (c ∷ z) v.1.1 in
       let y = read k u.0 in
-      (((tt, own_is s y), (y, (read x v.0, (((tt, v.1.0.1), items_read is r.0), tt)))), externals_read es r.1.1)
+      (((tt, own_is s y, tt), (y, (read x v.0, (((tt, v.1.0.1, tt), items_read is r.0), tt)))), externals_read es r.1.1)
 
   -- each token of a file's tree is one of the file's tokens, or stands for its beginning
   pub file_read : {a : List Lexeme} {x : Syn} → DerivesFile a x → AllKnown a → Is file_start → IsFrom x
-  file_read (Parses.file es) h i = ((tt, i), externals_read es h)
+  file_read (Parses.file es) h i = ((tt, i, tt), externals_read es h)
 
   mutual
     unfolding IsWritten AreWritten
 
     pub written_from : (x : Syn) → IsFrom x → IsWritten x
-    written_from (node k t xs) h = (h.0.0, all_written_from xs h.1)
+    written_from (node k t xs) h = (h.0.0, h.0.2, all_written_from xs h.1)
 
     pub all_written_from : (xs : Syns) → AreFrom xs → AreWritten xs
     all_written_from nil h = tt

@@ -6,14 +6,14 @@ use Rattle.ck_base.specs.Tokens.{Lexeme}
 use Rattle.c_tree.specs.declared.typed.VarDef.{VarDef}
 use Rattle.c_tree.specs.Syntax.{Syn, first_token}
 use Rattle.c_tree.specs.Types.{bare, is_scalar}
-use Rattle.c_tree.specs.Terms.{Action, numbers_from}
+use Rattle.c_tree.specs.Terms.{Action, Variable, numbers_from}
 use Rattle.c_tree.specs.Readings as meant
 use Rattle.c_tree.specs.Scopes.{State, Body, Doing, look, leave, change, change_routine, ◌>>=◌, ◌>>◌}
 use Rattle.c_tree.specs.Statements.{block_action}
 use Rattle.c_tree.specs.Expressions.{routine_type}
 use Rattle.c_tree.specs.Programs.{reading, body_context, define_named, parameter_name, parameter_local}
 use Rattle.c_tree.specs.Programs.{first_incomplete, refused_at}
-use Rattle.c_tree.specs.Views.{types_of}
+use Rattle.c_tree.specs.Views.{types_of, variable_of}
 use Rattle.c_types.specs.declared.scopes.Scopes.{Scopes}
 use Rattle.c_types.specs.Stands.{Stands, text_at, var_kept, local_seen}
 use Rattle.c_expressions.specs.Nodes.{IsWhole, type_in, type_count}
@@ -87,6 +87,10 @@ variable_in w k v = record v { simple = is_scalar (bare (type_in w.nodes v.of)) 
 abbrev pub variables_from : Work → ℕ → List VarDef → List VarDef
 variables_from w k [] = []
 variables_from w k (v ∷ vs) = variable_in w k v ∷ variables_from w (k + 1) vs
+
+-- a variable with its type
+abbrev pub variable_seen : Work → VarDef → Variable
+variable_seen w v = variable_of (types_of w.nodes.p.types) v
 
 abbrev pub VariableThere : Work → VarDef → Type 0
 VariableThere w v = v.of < type_count w.nodes

@@ -1,13 +1,13 @@
 //! The bodies of functions (C11 6.9.1).
 
-ghost use Rattle.std.specs.Prelude.{◌≡◌, true, Some, ◌+◌, ◌<◌, ◌∷◌, ◌++◌, [], All, IfOk, OnOk, length, map, slice_get};
-ghost use Rattle.std.specs.Prelude.{slice_set};
+ghost use Rattle.std.specs.Prelude.{◌≡◌, true, Some, None, Ok, ◌+◌, ◌<◌, ◌∷◌, ◌++◌, [], All, IfOk, OnOk, length, map, slice_get};
+ghost use Rattle.std.specs.Prelude.{slice_set, ◌&&◌, not};
 ghost use Rattle.c_tree.specs.Syntax.{Syn};
 ghost use Rattle.c_tree.specs.Expressions.{routine_type};
 ghost use Rattle.c_tree.specs.Programs.{body_context, first_incomplete};
 ghost use Rattle.c_tree.specs.Terms.{numbers_from};
 ghost use Rattle.c_tree.specs.Types.{given_by};
-ghost use Rattle.c_tree.specs.Scopes.{State};
+ghost use Rattle.c_tree.specs.Scopes.{State, RoutineState};
 ghost use Rattle.c_expressions.specs.Nodes.{IsWhole, type_in, type_count};
 ghost use Rattle.c_elaborator.specs.Work.{Shows};
 ghost use Rattle.c_elaborator.specs.Answers.{Answers, freely, NothingThere, IsNothing, action_in, action_count};
@@ -17,8 +17,8 @@ ghost use Rattle.c_declarators.specs.Forming.{ParamIsThere};
 ghost use Rattle.c_declarators.specs.Parts.{IsPrototype, param_in, shown_in};
 ghost use Rattle.c_elaborator.specs.Items.{ContextThere, context_in, ItemsThere, items_in};
 ghost use Rattle.c_elaborator.specs.Shown.{AnswersFor};
-ghost use Rattle.c_elab.specs.Functions.{AreMarked, VariableThere, variable_in, variables_from, ends, finishes};
-ghost use Rattle.c_elab.specs.Functions.{types_body, defines};
+ghost use Rattle.c_elab.specs.Functions.{AreMarked, VariableThere, variable_in, variable_seen, variables_from, ends};
+ghost use Rattle.c_elab.specs.Functions.{finishes, types_body, defines};
 
 use crate::parameters::open_body;
 use c_declarators::{Param, Prototype};
@@ -51,18 +51,18 @@ fn given_by(nodes: &Nodes<'_>, of: u32) -> u32
     }
 }
 
-fn context_of(work: &Work<'_>, k: u32) -> Result<Context, NoMemory>
+fn context_of(work: &Work<'_>, k: u32) -> Context
     requires { IsWhole work.now.nodes }
-    ensures there { IfOk result (λ c. ContextThere work.now c) }
-    ensures is { IfOk result (λ c. (s : State) → Shows work.now s →
-        context_in work.now c ≡ body_context (routine_type (slice_get s.routines k))) }
+    ensures there { ContextThere work.now result }
+    ensures is { (s : State) → Shows work.now s →
+        context_in work.now result ≡ body_context (routine_type (slice_get s.routines k)) }
 {
-    let of = work.function_type(k)?;
-    Ok(Context {
+    let of = work.routine_type(k);
+    Context {
         gives: given_by(&work.nodes, of),
         in_loop: false,
         breakable: false,
-    })
+    }
 }
 
 // ---- the variables
@@ -110,23 +110,29 @@ fn is_taken(marks: &[bool], k: u32) -> bool
     }
 }
 
+fn is_simple(scalar: bool, taken: bool) -> bool
+    ensures { result ≡ (scalar && not taken) }
+{
+    scalar && !taken
+}
+
 // A local holds a value and is no object where it is a scalar whose address is never taken.
-fn variable(work: &Work<'_>, marks: &[bool], k: u32, v: VarDef) -> Result<VarDef, NoMemory>
+fn variable(work: &Work<'_>, marks: &[bool], k: u32, v: VarDef) -> VarDef
     requires whole { IsWhole work.now.nodes }
     requires marks { AreMarked work.now.addressed.items marks.now }
     requires marked { k < length marks.now }
-    ensures there { IfOk result (λ x. VariableThere work.now x) }
-    ensures is { IfOk result (λ x. x ≡ variable_in work.now k v) }
+    ensures there { VariableThere work.now result }
+    ensures is { variable_seen work.now result ≡ variable_seen work.now (variable_in work.now k v) }
 {
-    let of = work.there(v.of)?;
+    let of = work.there(v.of);
     let scalar = work.nodes.is_scalar(work.nodes.bare(of));
     let taken = is_taken(marks, k);
-    Ok(VarDef {
+    VarDef {
         name: v.name,
         pos: v.pos,
         of,
-        simple: scalar && !taken,
-    })
+        simple: is_simple(scalar, taken),
+    }
 }
 
 fn push_variable(all: &mut Vec<VarDef>, x: VarDef) -> Result<(), NoMemory>
@@ -146,13 +152,14 @@ fn after(k: u32) -> Result<u32, NoMemory>
 fn variables(work: &Work<'_>, locals: &[VarDef]) -> Result<Vec<VarDef>, NoMemory>
     requires { IsWhole work.now.nodes }
     ensures there { IfOk result (λ xs. All (VariableThere work.now) xs.items) }
-    ensures are { IfOk result (λ xs. xs.items ≡ variables_from work.now 0 locals.now) }
+    ensures are { IfOk result (λ xs. map (variable_seen work.now) xs.items
+        ≡ map (variable_seen work.now) (variables_from work.now 0 locals.now)) }
 {
     let marks = marks_of(work, locals.len())?;
     let mut all = Vec::new(work.nodes.alloc);
     let mut k: u32 = 0;
     for v in locals {
-        let x = variable(work, marks.as_slice(), k, *v)?;
+        let x = variable(work, marks.as_slice(), k, *v);
         push_variable(&mut all, x)?;
         let next = after(k)?;
         k = next;
@@ -181,13 +188,24 @@ fn add_definition(definitions: &mut Vec<Definition>, d: Definition) -> Result<()
     Ok(())
 }
 
-// A statement and the locals are the function's body, and its scope is left.
-fn end_body(work: &mut Work<'_>, k: u32, count: u32, body: u32) -> Result<(), Refusal>
+// The scope of a body is left, where there is no function that it is of.
+fn leave_body(work: &mut Work<'_>, k: u32, count: u32, body: u32)
+    requires whole { IsWhole work.old.nodes }
+    requires none { (s : State) → Shows work.old s → slice_get s.routines k ≡ None }
+    ensures { Answers freely work.old work.new (ends k count (action_in work.old body)) NothingThere IsNothing (Ok tt) }
+{
+    let _ = work.nodes.scopes.take_locals();
+    work.addressed.clear();
+    work.nodes.scopes.leave();
+}
+
+// A statement and the locals are a function's body, and its scope is left.
+fn define_end(work: &mut Work<'_>, k: u32, count: u32, body: u32) -> Result<(), Refusal>
     requires whole { IsWhole work.old.nodes }
     requires there { body < action_count work.old }
+    requires known { (s : State) → Shows work.old s → (f : RoutineState) × (slice_get s.routines k ≡ Some f) }
     ensures { Answers freely work.old work.new (ends k count (action_in work.old body)) NothingThere IsNothing result }
 {
-    work.function_type(k)?;
     let params = numbers_below(work.nodes.alloc, count)?;
     let locals = work.nodes.scopes.take_locals();
     let vars = variables(work, locals.as_slice())?;
@@ -201,6 +219,21 @@ fn end_body(work: &mut Work<'_>, k: u32, count: u32, body: u32) -> Result<(), Re
     work.addressed.clear();
     work.nodes.scopes.leave();
     Ok(())
+}
+
+// The end of the body of a function.
+fn end_body(work: &mut Work<'_>, k: u32, count: u32, body: u32) -> Result<(), Refusal>
+    requires whole { IsWhole work.old.nodes }
+    requires there { body < action_count work.old }
+    ensures { Answers freely work.old work.new (ends k count (action_in work.old body)) NothingThere IsNothing result }
+{
+    match work.function_type(k) {
+        None => {
+            leave_body(work, k, count, body);
+            Ok(())
+        }
+        Some(_) => define_end(work, k, count, body),
+    }
 }
 
 // What stands in the braces is one statement at the first byte of the block.
@@ -281,7 +314,7 @@ pub(crate) fn define_body<'a>(
         (λ q. defines k q z) NothingThere IsNothing result }
 {
     let count = count_of(p.params.as_slice())?;
-    let context = context_of(work, k)?;
+    let context = context_of(work, k);
     if let Some(place) = first_incomplete(work, p.params.as_slice()) {
         return Err(Refusal::Code(132, place));
     }

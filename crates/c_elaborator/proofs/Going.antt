@@ -16,7 +16,7 @@ use Rattle.c_elaborator.specs.Work.{Shows, ValuesAreThere}
 use Rattle.c_elaborator.specs.Answers.{Keeps, Way, freely, Done, Answers, action_in, action_count}
 use Rattle.c_elaborator.proofs.Sequencing.{IsLawful}
 use Rattle.c_elaborator.specs.declared.items.Items.{Items}
-use Rattle.c_elaborator.specs.Items.{AddsAction, ActionThere, ActionsThere, IsAction, ItemsThere, IsItems, items_in}
+use Rattle.c_elaborator.specs.Items.{AddsAction, ActionThere, ActionsThere, IsAction, ItemsThere, OnlyThere, IsItems, items_in}
 use Rattle.c_elaborator.specs.Items.{ContextThere, context_in}
 
 -- what comes next may use that the work before stood for a state
@@ -76,11 +76,11 @@ added u v k x a = record {
 }
 
 pub added_alone : (u v : Work) (k : ℕ) (x : Action) (i : Items) → AddsAction u v k x → i.vars.items ≡ [] →
-    i.actions.items ≡ k ∷ [] → Done freely u v (give (one_action x)) (ItemsThere v i) (IsItems v i)
+    i.actions.items ≡ k ∷ [] → Done freely u v (give (one_action x)) (OnlyThere v i) (IsItems v i)
 added_alone u v k x i a e f = record {
   whole = a.whole;
   grows = a.keeps;
-  there = rw f (a.there, tt);
+  there = rw f ((a.there, tt), refl);
   gives = λ s t. record {
     value = one_action x;
     state = s;

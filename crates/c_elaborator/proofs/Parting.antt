@@ -14,8 +14,9 @@ use Rattle.c_tree.specs.Expressions.{pieces}
 use Rattle.c_types.specs.Stands.{text_at}
 use Rattle.c_elaborator.specs.declared.work.Part.{Part}
 use Rattle.c_elaborator.specs.declared.work.Work.{Work}
-use Rattle.c_elaborator.specs.Nodes.{IsNode}
-use Rattle.c_elaborator.specs.Parts.{TokenFits, IsWritten, AreWritten, IsPart, AreParts, HasPart, HaveParts}
+use Rattle.c_elaborator.specs.Nodes.{IsNode, syns_of}
+use Rattle.c_elaborator.specs.Parts.{TokenFits, PartsFit, IsOf, AreOf, IsWritten, AreWritten, IsPart, AreParts, HasText}
+use Rattle.c_elaborator.specs.Parts.{HasPart, HaveParts, HaveTexts}
 
 -- the first of them, and the others
 pub record Cut (w : Work) (k : ℕ) (ks : List ℕ) (xs : Syns) : Type 0 where
@@ -64,9 +65,13 @@ have_at w (k ∷ ks) (suc i) d h lt =
 
 -- ---- adjacent string literals
 
-pub piece_accepted : (w : Work) (p : Part) (x : Syn) → p.kind ≡ Kinds.Text → IsNode w p x →
+text_kind : (w : Work) (p : Part) (x : Syn) → IsOf Kinds.Text x → IsNode w p x → p.kind ≡ Kinds.Text
+text_kind w p (node k t xs) e n = sym n.kind ∙ e
+
+pub piece_accepted : (w : Work) (p : Part) (x : Syn) → IsOf Kinds.Text x → IsNode w p x →
     IsAccepted Text (text_at w.file.now p.name.span)
-piece_accepted w p x e n =
+piece_accepted w p x o n =
+    let e = text_kind w p x o n in
     let fits : TokenFits Kinds.Text (own_token x) = subst (λ (k : NodeKind). TokenFits k (own_token x)) e n.fits in
     subst (λ (bs : List ℕ). IsAccepted Text bs) n.text fits
 
@@ -74,6 +79,25 @@ pub piece_is : (w : Work) (p : Part) (before later : List ℕ) (x : Syn) →
     later ≡ before ++ characters_of (text_at w.file.now p.name.span) → IsNode w p x →
     later ≡ before ++ characters_of (own_token x).text
 piece_is w p before later x e n = e ∙ ap (λ bs. before ++ characters_of bs) (sym n.text)
+
+pub text_at_number : (w : Work) (ks : List ℕ) (i d : ℕ) → HaveTexts w ks → i < length ks → HasText w (get_or ks i d)
+text_at_number w [] i d h lt = absurd (omega arith)
+text_at_number w (k ∷ ks) zero d h lt =
+    let c = cut w k ks h.syntax h.are in
+    let t = subst (λ (xs : Syns). AreOf Kinds.Text xs) c.is h.texts in
+    record { syntax = c.head; is = c.first; text = t.0 }
+text_at_number w (k ∷ ks) (suc i) d h lt =
+    let c = cut w k ks h.syntax h.are in
+    let t = subst (λ (xs : Syns). AreOf Kinds.Text xs) c.is h.texts in
+    text_at_number w ks i d (record { syntax = c.tail; are = c.others; texts = t.1 }) (omega arith)
+
+-- the literals behind a string literal
+pub texts_of : (w : Work) (p : Part) (x : Syn) → p.kind ≡ Kinds.Text → IsNode w p x → HaveTexts w p.kids.now
+texts_of w p x e n = record {
+  syntax = syns_of x;
+  are = n.parts;
+  texts = subst (λ (k : NodeKind). PartsFit k (syns_of x)) e n.kinds;
+}
 
 -- what was written of them, and what is left
 pub record Written (w : Work) (before : List ℕ) (xs : Syns) (now : List ℕ) (ks : List ℕ) : Type 0 where

@@ -1,9 +1,10 @@
 -- What a node of the tree shows.
-use Rattle.std.proofs.Common.{◌≡◌, ℕ, ◌-◌, ◌<◌, ◌≤◌, ⊎_elim, List, length, take, drop, Some, refl, sym, ap, subst, ◌∙◌}
+use Rattle.std.proofs.Common.{◌≡◌, ℕ, ◌-◌, ◌<◌, ◌≤◌, ⊎_elim, List, length, take, drop, Some, None, refl, sym, ap, subst, ◌∙◌}
 use Rattle.std.proofs.Common.{arith, length-drop}
 use Rattle.std.specs.Prelude.{min, slice_get}
 use Rattle.std.proofs.lemmas.List.{take_min}
 use Rattle.std.proofs.lemmas.Bool.{cases_lt}
+use Rattle.std.proofs.lemmas.Option.{slice_get_past}
 use Rattle.std.specs.Borrow.{Bor}
 use Rattle.ck_base.specs.declared.positions.Span.{Span}
 use Rattle.c_tree.specs.declared.syntax.Node.{Node}
@@ -50,9 +51,15 @@ node_read w k n _ e (stands {n = m} {t = t} {xs = xs} f p s i kids) sp wr =
       span = sym s;
       text = sp.0 ∙ text_spelled w.file.now t.span ∙ ap (text_at w.file.now) (sym s);
       fits = wr.0;
+      kinds = wr.1;
       first = sym i;
-      parts = record { stand = rw q kids; spelled = sp.1; written = wr.1 };
+      parts = record { stand = rw q kids; spelled = sp.1; written = wr.2 };
     })
+
+-- the node of a part is there
+pub part_there : (nodes : List Node) (k : ℕ) (x : Syn) → length nodes ≤ k → StandsAt nodes k x → ⊥
+part_there nodes k _ le (stands {n = m} f p s i kids) =
+    let e : slice_get nodes k ≡ None = slice_get_past nodes k le in absurd cc
 
 pub part_read : (w : Work) (k : ℕ) (n : Node) (ks : Bor (List ℕ)) (x : Syn) → slice_get w.tree.now.nodes k ≡ Some n →
     ks.now ≡ n.kids → IsPart w k x →

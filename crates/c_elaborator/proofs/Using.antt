@@ -8,7 +8,7 @@ use Rattle.std.specs.Global.{Vec}
 use Rattle.ck_base.specs.declared.positions.Pos.{Pos}
 use Rattle.c_tree.specs.declared.typed.Typed.{Typed}
 use Rattle.c_tree.specs.Types as types
-use Rattle.c_tree.specs.Types.{Ty, Pointer}
+use Rattle.c_tree.specs.Types.{Ty, Void, Pointer}
 use Rattle.c_tree.specs.Terms.{Global, Fun, Var, Address, Term, term, step}
 use Rattle.c_tree.specs.Conversions as meant
 use Rattle.c_tree.specs.Conversions.{operand_type, is_place}
@@ -144,6 +144,8 @@ stands_still sc p s t q a b h = record {
   scopes = rw a h.scopes;
   tags = h.tags ∙ ap (map tag_seen) (sym b);
   tag_types = h.tag_types;
+  kinds = h.kinds;
+  tagged = h.tagged;
   members = rw b h.members;
   objects = h.objects ∙ sym (same_through object_of unused_static s.statics t.statics (λ g. refl) q.statics);
   globals = h.globals ∙ sym (same_through static_seen unused_static s.statics t.statics (λ g. refl) q.statics);
@@ -338,6 +340,27 @@ object_is k p u s g e q =
     (ap (λ xs. slice_get xs k) set ∙ slice_get-slice_set s.statics k g (f g) e)
     ∙ ap (λ (t : Ty). giving_leaf (Global k) t p (use_static k p s)) (sym q)
 
+-- no use of what is not there
+pub no_object_is : (k : ℕ) (p : Pos) (u : Ty) (s : State) → slice_get s.statics k ≡ None → u ≡ Void →
+    using_object k p s ≡ giving_leaf (Global k) u p s
+no_object_is k p u s e q =
+    let f : StaticState → StaticState = λ x. record x { used = first_use x.used p } in
+    let same : use_static k p s ≡ s =
+    ap (λ (o : Option StaticState). record s { statics = with_changed f o s.statics k }) e in
+    ap (λ (t : State). giving_leaf (Global k) (static_type (slice_get t.statics k)) p t) same
+    ∙ ap (λ (o : Option StaticState). giving_leaf (Global k) (static_type o) p s) e
+    ∙ ap (λ (t : Ty). giving_leaf (Global k) t p s) (sym q)
+
+pub no_function_is : (k : ℕ) (p : Pos) (u : Ty) (s : State) → slice_get s.routines k ≡ None → u ≡ Void →
+    using_function k p s ≡ giving_leaf (Fun k) u p s
+no_function_is k p u s e q =
+    let f : RoutineState → RoutineState = λ x. record x { used = first_use x.used p } in
+    let same : use_routine k p s ≡ s =
+    ap (λ (o : Option RoutineState). record s { routines = with_changed f o s.routines k }) e in
+    ap (λ (t : State). giving_leaf (Fun k) (routine_type (slice_get t.routines k)) p t) same
+    ∙ ap (λ (o : Option RoutineState). giving_leaf (Fun k) (routine_type o) p s) e
+    ∙ ap (λ (t : Ty). giving_leaf (Fun k) t p s) (sym q)
+
 pub function_is : (k : ℕ) (p : Pos) (u : Ty) (s : State) (g : RoutineState) → slice_get s.routines k ≡ Some g →
     u ≡ g.of → using_function k p s ≡ giving_leaf (Fun k) u p (use_routine k p s)
 function_is k p u s g e q =
@@ -402,6 +425,12 @@ address_is a p s =
 pub taken_local : (x : Term) (k : ℕ) (s : State) → local_of x ≡ Some k → taken x s ≡ take_address k s
 taken_local (term (Var j) xs t p) k s e = let i : j ≡ k = cc in ap (λ n. take_address n s) i
 taken_local (term _ xs t p) k s e = absurd cc
+
+-- the address of a local that is not there
+pub taken_same : (x : Term) (k : ℕ) (s : State) → local_of x ≡ Some k → slice_get s.locals k ≡ None → taken x s ≡ s
+taken_same x k s e h =
+    let f : LocalState → LocalState = λ v. record v { addressed = true } in
+    taken_local x k s e ∙ ap (λ (o : Option LocalState). record s { locals = with_changed f o s.locals k }) h
 
 pub taken_none : (x : Term) (s : State) → local_of x ≡ None → taken x s ≡ s
 taken_none (term (Var j) xs t p) s e = absurd cc

@@ -1,5 +1,5 @@
 -- What declarations and statements give, by the numbers of statements.
-use Rattle.std.specs.Prelude.{◌≡◌, ℕ, ◌<◌, List, [], ◌∷◌, map, Some, slice_get}
+use Rattle.std.specs.Prelude.{◌≡◌, ℕ, ◌<◌, List, [], ◌∷◌, length, map, Some, slice_get}
 use Rattle.c_tree.specs.Terms.{Action}
 use Rattle.c_tree.specs.Readings as meant
 use Rattle.c_tree.specs.Scopes.{State}
@@ -52,6 +52,10 @@ ActionsThere w (k ∷ ks) = (k < action_count w) × ActionsThere w ks
 
 abbrev pub ItemsThere : Work → Items → Type 0
 ItemsThere w i = ActionsThere w i.actions.items
+
+-- one statement
+abbrev pub OnlyThere : Work → Items → Type 0
+OnlyThere w i = ItemsThere w i × (length i.actions.items ≡ 1)
 
 abbrev pub items_in : Work → Items → meant.Items
 items_in w i = record { vars = i.vars.items; actions = map (action_in w) i.actions.items }

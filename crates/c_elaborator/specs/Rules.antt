@@ -7,7 +7,7 @@ use Rattle.ck_base.specs.declared.positions.Pos.{Pos}
 use Rattle.c_tree.specs.Terms.{Shape, Constant, Literal, Var, Global, Fun, Term, Deref, leaf, step}
 use Rattle.c_tree.specs.Layout.{size_limit}
 use Rattle.c_tree.specs.Types.{Ty, Pointer, Array, char, int, is_integer, is_pointer, is_scalar, is_function}
-use Rattle.c_tree.specs.Scopes.{StaticState, RoutineState, LocalState, State, Doing, look, change, refuse, need}
+use Rattle.c_tree.specs.Scopes.{StaticState, RoutineState, State, Doing, look, change, refuse, need}
 use Rattle.c_tree.specs.Scopes.{use_static, use_routine, is_complete, ◌>>=◌, ◌>>◌}
 use Rattle.c_tree.specs.Conversions.{Operand}
 use Rattle.c_tree.specs.Expressions.{gives, static_type, routine_type, pointed, is_counted, is_additive}
@@ -65,18 +65,17 @@ denoting n (Some (entities.Enumerator z)) p = giving_leaf (Constant (kept_of z))
 denoting n (Some (entities.Alias of)) p = refuse 133 p
 denoting n (Some (entities.Library k of)) p = refuse 133 p
 
--- a number names the type of an object of static storage duration, and of a function
-abbrev pub IsObjectType : Work → ℕ → ℕ → Type 0
-IsObjectType w k of = (s : State) → Shows w s →
+-- what is known of the type of an object of static storage duration, and of a function: that a number names it, or that
+-- there is none
+abbrev pub IsObjectType : Work → ℕ → Option ℕ → Type 0
+IsObjectType w k None = (s : State) → Shows w s → slice_get s.statics k ≡ None
+IsObjectType w k (Some of) = (s : State) → Shows w s →
     (g : StaticState) × (slice_get s.statics k ≡ Some g) × (type_in w.nodes of ≡ g.of)
 
-abbrev pub IsFunctionType : Work → ℕ → ℕ → Type 0
-IsFunctionType w k of = (s : State) → Shows w s →
+abbrev pub IsFunctionType : Work → ℕ → Option ℕ → Type 0
+IsFunctionType w k None = (s : State) → Shows w s → slice_get s.routines k ≡ None
+IsFunctionType w k (Some of) = (s : State) → Shows w s →
     (f : RoutineState) × (slice_get s.routines k ≡ Some f) × (type_in w.nodes of ≡ f.of)
-
--- a number names a local of the function at work
-abbrev pub IsLocal : Work → ℕ → Type 0
-IsLocal w k = (s : State) → Shows w s → (v : LocalState) × (slice_get s.locals k ≡ Some v)
 
 -- ---- string literals
 

@@ -6,7 +6,7 @@ ghost use Rattle.c_tree.specs.Statements.{one_action};
 ghost use Rattle.c_tree.specs.Views.{kind_action, terms_of};
 ghost use Rattle.c_expressions.specs.Nodes.{IsWhole, term_count};
 ghost use Rattle.c_elaborator.specs.Answers.{Answers, freely, action_in};
-ghost use Rattle.c_elaborator.specs.Items.{ValuesThere, AddsAction, ItemsThere, IsItems};
+ghost use Rattle.c_elaborator.specs.Items.{ValuesThere, AddsAction, OnlyThere, IsItems};
 
 use crate::work::Work;
 use c_tree::{Stmt, StmtKind};
@@ -84,7 +84,7 @@ pub fn does(work: &mut Work<'_>, kind: StmtKind, pos: Pos) -> Result<Items, Refu
     requires whole { IsWhole work.old.nodes }
     requires values { ValuesThere (term_count work.old.nodes) kind }
     ensures { Answers freely work.old work.new
-        (give (one_action (kind_action (terms_of work.old.nodes.p) kind pos (action_in work.old)))) ItemsThere IsItems
+        (give (one_action (kind_action (terms_of work.old.nodes.p) kind pos (action_in work.old)))) OnlyThere IsItems
         result }
 {
     let k = add_statement(work, kind, pos)?;

@@ -61,9 +61,13 @@ impl<'a> Work<'a> {
         requires whole { IsWhole self.old.nodes }
         ensures { Answers quietly self.old self.new (using_object k pos) OperandThere IsOperand result }
     {
-        let of = self.object_type(k)?;
-        push_use(&mut self.uses, Used::Object(k), pos)?;
-        self.leaf(Leaf::Global(k), of, pos)
+        match self.object_type(k) {
+            None => self.leaf(Leaf::Global(k), self.nodes.void, pos),
+            Some(of) => {
+                push_use(&mut self.uses, Used::Object(k), pos)?;
+                self.leaf(Leaf::Global(k), of, pos)
+            }
+        }
     }
 
     // A use of a function.
@@ -71,9 +75,13 @@ impl<'a> Work<'a> {
         requires whole { IsWhole self.old.nodes }
         ensures { Answers quietly self.old self.new (using_function k pos) OperandThere IsOperand result }
     {
-        let of = self.function_type(k)?;
-        push_use(&mut self.uses, Used::Function(k), pos)?;
-        self.leaf(Leaf::Fun(k), of, pos)
+        match self.function_type(k) {
+            None => self.leaf(Leaf::Fun(k), self.nodes.void, pos),
+            Some(of) => {
+                push_use(&mut self.uses, Used::Function(k), pos)?;
+                self.leaf(Leaf::Fun(k), of, pos)
+            }
+        }
     }
 
     // A use of a parameter or another local.
@@ -82,7 +90,7 @@ impl<'a> Work<'a> {
         ensures { Answers quietly self.old self.new
             (giving_leaf (Var k) (type_in self.old.nodes of) pos) OperandThere IsOperand result }
     {
-        let known = self.there(of)?;
+        let known = self.there(of);
         self.leaf(Leaf::Var(k), known, pos)
     }
 

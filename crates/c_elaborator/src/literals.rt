@@ -9,13 +9,13 @@ ghost use Rattle.c_tree.specs.Expressions.{text, text_bytes, pieces};
 ghost use Rattle.c_types.specs.Stands.{text_at};
 ghost use Rattle.c_expressions.specs.Nodes.{IsWhole, HasType};
 ghost use Rattle.c_elaborator.specs.Answers.{Answers, quietly, OperandThere, IsOperand};
-ghost use Rattle.c_elaborator.specs.Parts.{IsPart, HasPart, AreParts, HaveParts, token_of};
+ghost use Rattle.c_elaborator.specs.Parts.{IsPart, HasText, AreParts, HaveTexts, token_of};
 ghost use Rattle.c_elaborator.specs.Rules.{writing};
 
 use crate::work::{Name, Work};
 use c_expressions::{Integer, Leaf, Nodes, Operand};
 use c_operators::append_text;
-use c_tree::{CType, Literal, NodeKind};
+use c_tree::{CType, Literal};
 use ck_base::{NoMemory, Pos, Refusal, Sequence, TokenKind};
 use ck_int::IntKind;
 use std::alloc::Global;
@@ -58,19 +58,16 @@ fn chars(nodes: &mut Nodes<'_>, count: u64) -> Result<u32, NoMemory>
 impl Work<'_> {
     // The bytes that one of adjacent literals spells.
     fn append_piece(&self, k: u32, into: &mut Vec<u8>) -> Result<(), NoMemory>
-        requires { HasPart self.now k }
+        requires { HasText self.now k }
         ensures { OnOk result ((x : Syn) → IsPart self.now k x →
             into.new.items ≡ into.old.items ++ characters_of (own_token x).text) }
     {
-        let part = self.part(k)?;
-        match part.kind {
-            NodeKind::Text => append_text(self.text(part.name.span), into),
-            _ => Err(NoMemory),
-        }
+        let part = self.part(k);
+        append_text(self.text(part.name.span), into)
     }
 
     fn append_pieces(&self, kids: &[u32], into: &mut Vec<u8>) -> Result<(), NoMemory>
-        requires { HaveParts self.now kids.now }
+        requires { HaveTexts self.now kids.now }
         ensures { OnOk result ((xs : Syns) → AreParts self.now kids.now xs →
             into.new.items ≡ into.old.items ++ pieces xs) }
     {
@@ -83,7 +80,7 @@ impl Work<'_> {
     /// The bytes of adjacent string literals, which are one, and the zero byte behind them (C11 6.4.5p5, p6).
     pub fn text_bytes(&self, name: Name, kids: &[u32]) -> Result<Vec<u8>, NoMemory>
         requires accepted { IsAccepted TokenKind.Text (text_at self.now.file.now name.span) }
-        requires parts { HaveParts self.now kids.now }
+        requires parts { HaveTexts self.now kids.now }
         ensures { IfOk result (λ v. (xs : Syns) → AreParts self.now kids.now xs →
             v.items ≡ text_bytes (token_of self.now name) xs) }
     {
@@ -117,7 +114,7 @@ impl Work<'_> {
     pub fn literal(&mut self, name: Name, kids: &[u32]) -> Result<Operand, Refusal>
         requires whole { IsWhole self.old.nodes }
         requires accepted { IsAccepted TokenKind.Text (text_at self.old.file.now name.span) }
-        requires parts { HaveParts self.old kids.now }
+        requires parts { HaveTexts self.old kids.now }
         ensures { (xs : Syns) → AreParts self.old kids.now xs →
             Answers quietly self.old self.new (text (token_of self.old name) xs) OperandThere IsOperand result }
     {

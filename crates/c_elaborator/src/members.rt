@@ -112,7 +112,7 @@ impl Work<'_> {
             Outcome::Incomplete => Err(Refusal::Code(132, a.first)),
             Outcome::Missing => Err(Refusal::Code(133, a.first)),
             Outcome::At(member) => {
-                let of = self.there(member.of)?;
+                let of = self.there(member.of);
                 self.member_at(a, member.number, of, pos)
             }
         }

@@ -1,6 +1,5 @@
 //! The parts of the syntax, by their numbers, and the literals that are written there (C11 6.4.4).
 
-ghost use Rattle.std.specs.Prelude.{IfOk};
 ghost use Rattle.ck_base.specs.Lexes.{IsAccepted};
 ghost use Rattle.c_tree.specs.Syntax.{Syn};
 ghost use Rattle.c_types.specs.Stands.{text_at};
@@ -8,21 +7,22 @@ ghost use Rattle.c_expressions.specs.Nodes.{IsWhole};
 ghost use Rattle.c_operators.specs.Rules.{number_at, character_at};
 ghost use Rattle.c_elaborator.specs.Answers.{Answers, quietly, OperandThere, IsOperand};
 ghost use Rattle.c_elaborator.specs.Nodes.{IsNode};
-ghost use Rattle.c_elaborator.specs.Parts.{IsPart};
+ghost use Rattle.c_elaborator.specs.Parts.{IsPart, HasPart};
 
 use crate::work::{Name, Part, Work};
 use c_expressions::Operand;
-use ck_base::{NoMemory, Refusal, TokenKind};
+use ck_base::{Refusal, TokenKind};
 
 impl<'a> Work<'a> {
     /// The node with a number.
-    pub fn part(&self, k: u32) -> Result<Part<'a>, NoMemory>
-        ensures { IfOk result (λ p. (x : Syn) → IsPart self.now k x → IsNode self.now p x) }
+    pub fn part(&self, k: u32) -> Part<'a>
+        requires { HasPart self.now k }
+        ensures { (x : Syn) → IsPart self.now k x → IsNode self.now result x }
     {
         let tree = self.tree;
         match tree.nodes.as_slice().get(k as usize) {
-            None => Err(NoMemory),
-            Some(node) => Ok(Part {
+            None => unreachable!(),
+            Some(node) => Part {
                 kind: node.kind,
                 name: Name {
                     span: node.text,
@@ -30,7 +30,7 @@ impl<'a> Work<'a> {
                 },
                 first: node.first,
                 kids: node.kids.as_slice(),
-            }),
+            },
         }
     }
 

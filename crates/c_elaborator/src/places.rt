@@ -88,8 +88,12 @@ impl Work<'_> {
         ensures { Answers quietly self.old self.new
             (address (operand_in self.old a) pos) OperandThere IsOperand result }
     {
-        let known = self.local_there(k)?;
-        push_number(&mut self.addressed, known)?;
-        address_of(&mut self.nodes, a, pos)
+        match self.nodes.scopes.type_of_local(k) {
+            None => address_of(&mut self.nodes, a, pos),
+            Some(_) => {
+                push_number(&mut self.addressed, k)?;
+                address_of(&mut self.nodes, a, pos)
+            }
+        }
     }
 }

@@ -13,10 +13,8 @@ pub fn enter(work: &mut Work<'_>) -> Result<(), Refusal>
     requires whole { IsWhole work.old.nodes }
     ensures { Answers freely work.old work.new enter NothingThere IsNothing result }
 {
-    match work.nodes.scopes.enter() {
-        Ok(()) => Ok(()),
-        Err(_) => Err(Refusal::NoMemory),
-    }
+    work.nodes.scopes.enter()?;
+    Ok(())
 }
 
 /// Drops the innermost scope.

@@ -5,7 +5,7 @@ ghost use Rattle.c_tree.specs.Types.{Ty, Tys};
 ghost use Rattle.c_tree.specs.Terms.{type_of, pos_of};
 ghost use Rattle.c_tree.specs.Views.{type_from, expr_from, types_of};
 ghost use Rattle.c_tree.specs.Scopes.{State};
-ghost use Rattle.c_interner.specs.Numbers.{AddsTypes};
+ghost use Rattle.c_interner.specs.Numbers.{IsPlain, AddsTypes};
 ghost use Rattle.c_types.specs.Stands.{Stands};
 ghost use Rattle.c_expressions.specs.Classes.{class_type, PartIsThere};
 ghost use Rattle.c_expressions.specs.Facts.{fact_of};
@@ -61,9 +61,10 @@ impl<'a> Nodes<'a> {
         })
     }
 
-    /// The number of a type.
+    /// The number of a type that is no struct or union.
     pub fn type_number(&mut self, c: CType) -> Result<u32, NoMemory>
-        requires { IsWhole self.old }
+        requires whole { IsWhole self.old }
+        requires plain { IsPlain c }
         ensures { IfOk result (λ k. HasType self.old self.new k (type_from c (type_in self.old))) }
     {
         self.scopes.number_of(&mut self.p, c)

@@ -24,8 +24,9 @@ use Rattle.c_copy.specs.declared.numbers.Numbers.{Numbers}
 use Rattle.c_copy.specs.Copying.{actions_in}
 use Rattle.c_passing.specs.Routines.{IsPassedProgram}
 use Rattle.c_finish.specs.declared.file_end.Parts.{Parts}
-use Rattle.c_finish.specs.Finished.{IsFinished, Finished, IsWritten, IsSyntax, IsProgram, IsMain, HaveNumbers, TagsFit}
+use Rattle.c_finish.specs.Finished.{IsFinished, Finished, IsWritten, IsSyntax, IsProgram, IsMain, HaveNumbers}
 use Rattle.c_finish.specs.Finished.{AreObjects, AreRoutines, EndsIn}
+use Rattle.c_finish.proofs.Records.{tag_agrees}
 
 abbrev made : Work → List GlobalDef → List FunDef → List Expr → List Stmt → ℕ → Typed
 made w gs fs es ss v = record {
@@ -39,14 +40,14 @@ made w gs fs es ss v = record {
 }
 
 shows_made : (w : Work) (t : Numbers) (gs : List GlobalDef) (fs : List FunDef) (es : List Expr) (ss : List Stmt)
-    (k v : ℕ) (s : State) → TagsFit w → HaveNumbers w t → slice_get t.functions.items k ≡ Some v → IsMain w (Some k) →
+    (k v : ℕ) (s : State) → HaveNumbers w t → slice_get t.functions.items k ≡ Some v → IsMain w (Some k) →
     AreObjects w gs → AreRoutines w es ss s (length s.routines) fs →
     Shows w s → views.Shows (made w gs fs es ss v) (program_of s)
 unfolding program_of
-shows_made w t gs fs es ss k v s a n e m o r h =
+shows_made w t gs fs es ss k v s n e m o r h =
     let ts = types_of w.nodes.p.types in
     record {
-      tags = λ j c g. a j c g s h;
+      tags = λ j c g. tag_agrees w s j c h g;
       objects = o s h;
       texts = h.texts;
       routines = ap (λ (xs : List Expr). map (routine_of ts (actions_in ts xs ss)) fs) (sym (append-nil es))
@@ -56,12 +57,12 @@ shows_made w t gs fs es ss k v s a n e m o r h =
     }
 
 pub written_is : (w : Work) (p : Typed) (t : Numbers) (gs : List GlobalDef) (fs : List FunDef) (es : List Expr)
-    (ss : List Stmt) (k v : ℕ) → p ≡ made w gs fs es ss v → TagsFit w → HaveNumbers w t →
+    (ss : List Stmt) (k v : ℕ) → p ≡ made w gs fs es ss v → HaveNumbers w t →
     slice_get t.functions.items k ≡ Some v → IsMain w (Some k) → AreObjects w gs →
     ((s : State) → Shows w s → AreRoutines w es ss s (length s.routines) fs) → IsWritten w p
-written_is w p t gs fs es ss k v q a n e m o r =
+written_is w p t gs fs es ss k v q n e m o r =
     λ s h. subst (λ (x : Typed). views.Shows x (program_of s)) (sym q)
-    (shows_made w t gs fs es ss k v s a n e m o (r s h) h)
+    (shows_made w t gs fs es ss k v s n e m o (r s h) h)
 
 pub program_is : (w : Work) (tree : Tree) (p q : Typed) → tree ≡ w.tree.now → IsWritten w p → IsPassedProgram tree p q →
     IsProgram w q

@@ -1,14 +1,11 @@
 -- What the end of a file gives.
 use Rattle.std.specs.Prelude.{ℤ, pos, neg_ℤ, ◌≤ℤ◌, ◌^◌}
 use Rattle.std.specs.Prelude.{◌≡◌, ℕ, ◌+◌, ◌<◌, ◌≤◌, true, false, List, [], ◌∷◌, ◌++◌, length, map, flat_map, take}
-use Rattle.std.specs.Prelude.{Option, Some, None, Result, Ok, Err, option_map, slice_get}
+use Rattle.std.specs.Prelude.{Option, Some, None, Result, Ok, Err, slice_get}
 use Rattle.std.specs.List.{position_or_len}
 use Rattle.ck_base.specs.declared.positions.Pos.{Pos}
 use Rattle.ck_base.specs.declared.refusal.Refusal.{Refusal}
 use Rattle.ck_base.specs.declared.refusal.Refusal.TheVariants.{Code, NoMemory}
-use Rattle.c_tree.specs.declared.syntax.RecordKind.{RecordKind}
-use Rattle.c_tree.specs.declared.typed.CType.{CType}
-use Rattle.c_tree.specs.declared.typed.Member.{Member}
 use Rattle.c_tree.specs.declared.typed.Expr.{Expr}
 use Rattle.c_tree.specs.declared.typed.Stmt.{Stmt}
 use Rattle.c_tree.specs.declared.typed.FunDef.{FunDef}
@@ -19,15 +16,13 @@ use Rattle.c_tree.specs.declared.typed.Target.TheVariants as targets
 use Rattle.c_tree.specs.declared.typed.Typed.{Typed}
 use Rattle.c_tree.specs.Syntax.{Syn, StandsAt}
 use Rattle.c_tree.specs.Layout.{Extent, size_limit}
-use Rattle.c_tree.specs.Terms.{Aim, To_global, To_function, To_literal, Text, Block, Action, action, Actions, no_terms}
-use Rattle.c_tree.specs.Terms.{Program, Tag}
+use Rattle.c_tree.specs.Terms.{Aim, To_global, To_function, To_literal, Text, Block, action, Actions, no_terms}
+use Rattle.c_tree.specs.Terms.{Program}
 use Rattle.c_tree.specs.Passed.{passed_program, call_name, calls_in}
 use Rattle.c_tree.specs.Scopes.{Reach, All, Within, Aiming, Body, Fault, State, StaticState, RoutineState, type_extent}
-use Rattle.c_tree.specs.Views.{Shows, IsOrdered, TagAgrees, types_of, routine_of, member_of}
+use Rattle.c_tree.specs.Views.{Shows, IsOrdered, types_of, routine_of}
 use Rattle.c_tree.specs.Views as views
 use Rattle.c_tree.specs.Programs as programs
-use Rattle.c_types.specs.Stands.{member_kept, part_seen}
-use Rattle.c_types.specs.Members.{parts_of}
 use Rattle.c_elaborator.specs.declared.work.Filling.{Filling}
 use Rattle.c_elaborator.specs.declared.work.Start.{Start}
 use Rattle.c_elaborator.specs.declared.work.Work.{Work}
@@ -116,28 +111,6 @@ pub record HaveNumbers (w : Work) (t : Numbers) : Type 0 where
   pub objects : length t.objects.items ≡ length w.nodes.p.globals
   pub functions : length t.functions.items ≡ length w.nodes.p.funs
   pub fit : (s : State) → works.Shows w s → AreNumbers t (programs.numbers_of s)
-
--- what a type says of a tag
-abbrev pub TagFits : Work → CType → Type 0
-TagFits w c = (s : State) → works.Shows w s → TagAgrees (types_of w.nodes.p.types) (map programs.tag_of s.tags) c
-
-abbrev pub IsRecord : Work → ℕ → RecordKind → List Member → Type 0
-IsRecord w tag kind ms = (s : State) → works.Shows w s →
-    slice_get (map programs.tag_of s.tags) tag
-    ≡ Some (record { kind = kind; members = Some (map (member_of (types_of w.nodes.p.types)) ms) })
-
--- the members of a tag, with their types as far as they are there
-abbrev pub HasMembers : Work → ℕ → List Member → Type 0
-HasMembers w tag ms = (s : State) → works.Shows w s →
-    Some (map (member_kept (types_of w.nodes.p.types)) ms)
-    ≡ option_map (map part_seen) (parts_of (slice_get s.tags tag))
-
-abbrev pub IsOpen : Work → ℕ → Type 0
-IsOpen w tag = (s : State) → works.Shows w s →
-    (t : Tag) × (slice_get (map programs.tag_of s.tags) tag ≡ Some t) × (t.members ≡ None)
-
-abbrev pub TagsFit : Work → Type 0
-TagsFit w = (k : ℕ) (c : CType) → slice_get w.nodes.p.types k ≡ Some c → TagFits w c
 
 -- an initial value
 abbrev pub filled : Filling → List ℕ × List Aiming

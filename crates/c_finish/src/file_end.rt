@@ -17,7 +17,6 @@ use crate::numbering::new_numbers;
 use crate::objects::objects;
 use crate::routines::routines;
 use crate::tables::{first_uses, last_definitions, last_fillings};
-use crate::tags::check_tags;
 use c_copy::{Copied, Numbers};
 use c_elaborator::Work;
 use c_passing::pass;
@@ -75,7 +74,6 @@ fn parts_of(work: &Work<'_>, definitions: &[Option<u32>], main: u32) -> Result<P
     ensures { IfOk result (AreParts work.now) }
 {
     let alloc = work.nodes.alloc;
-    check_tags(work)?;
     let numbers = new_numbers(work, definitions)?;
     let main = number_of_main(&numbers, main);
     let fillings = last_fillings(work)?;

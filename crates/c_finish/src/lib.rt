@@ -14,6 +14,5 @@ mod numbering;
 mod objects;
 mod routines;
 mod tables;
-mod tags;
 
 pub use file_end::finish;

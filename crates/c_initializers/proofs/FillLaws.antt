@@ -2,7 +2,7 @@
 use Rattle.std.proofs.Common.{◌≡◌, ℕ, zero, suc, ◌+◌, ◌-◌, ◌<◌, ◌≤◌, min, Bool, true, false, cond, not, List, [], ◌∷◌}
 use Rattle.std.proofs.Common.{◌++◌, length, get_or, take, drop, map, Some, None, refl, sym, ap, subst, ◌∙◌, inl}
 use Rattle.std.proofs.Common.{inr, arith, append_assoc}
-use Rattle.std.specs.Prelude.{slice_get, option_map, flat_map, find, position, nat_lt, nat_le, ◌&&◌, ◌==◌}
+use Rattle.std.specs.Prelude.{Option, slice_get, option_map, flat_map, find, position, nat_lt, nat_le, ◌&&◌, ◌==◌}
 use Rattle.std.specs.Prelude.{if◌then◌else◌, pos}
 use Rattle.std.specs.List.{All, position_or_len}
 use Rattle.std.proofs.lemmas.Bool.{cases_lt}
@@ -23,7 +23,8 @@ use Rattle.c_tree.specs.Initializers.{covers, scalar_slot, zero_slot, every_slot
 use Rattle.c_tree.specs.Initializers.{array_count}
 use Rattle.c_expressions.specs.declared.nodes.Nodes.{Nodes}
 use Rattle.c_expressions.specs.Nodes.{IsWhole, Keeps, HasTerm, type_in, term_in, type_count, term_count}
-use Rattle.c_expressions.proofs.Keeping.{keeps_same, keeps_then, needed, refused}
+use Rattle.c_expressions.proofs.Keeping.{keeps_same, keeps_then, refused}
+use Rattle.c_expressions.proofs.Keeping as keeping
 use Rattle.c_expressions.specs.Answers.{Given, Refuses}
 use Rattle.c_initializers.specs.declared.slots.Slot.{Slot}
 use Rattle.c_initializers.specs.declared.slots.Filled.{Filled}
@@ -31,7 +32,7 @@ use Rattle.c_initializers.specs.declared.places.Place.{Place}
 use Rattle.c_initializers.specs.declared.covering.Extent.{Extent}
 use Rattle.c_initializers.specs.Covering.{covers_place}
 use Rattle.c_initializers.specs.Slots.{slot_in, slots_in, IsSlotThere, AreSlotsThere, HasSlots, AddsSlots, chosen}
-use Rattle.c_initializers.specs.Slots.{place_of, extent_of, scalars_given, IsFilledIn, string_filled}
+use Rattle.c_initializers.specs.Slots.{place_of, extent_of, scalars_given, IsFilledIn, string_filled, begins_at, is_needed, needed}
 use Rattle.c_initializers.specs.Slots.{HaveExtents, every_slot_of, SlotsThere, AreSlots}
 use Rattle.c_initializers.specs.Places.{ArePartsOf}
 use Rattle.c_elaborator.specs.declared.work.Work.{Work}
@@ -196,6 +197,55 @@ every_slot-is s whole t slots es places l h e =
     (λ p. ap (scalar_slot whole p) (find-chosen s p.0 es slots l h))
     ∙ ap (flat_map (λ p. scalar_slot whole p (chosen slots (position (covers_place p.0) es)))) (sym e)
 
+-- ---- the scalars that get a value
+
+-- values begin where their bytes do
+StartsSame : List Extent → List meant.Slot → Type 0
+StartsSame es xs = (k : ℕ) → option_map (λ (e : Extent). e.from) (slice_get es k)
+    ≡ option_map (λ (x : meant.Slot). x.at) (slice_get xs k)
+
+starts-same : (s : State) (es : List Extent) (xs : List meant.Slot) →
+    map (λ (e : Extent). (e.from, e.to)) es ≡ map (extent_of s) xs → StartsSame es xs
+unfolding StartsSame
+starts-same s [] [] h k = refl
+starts-same s [] (x ∷ xs) h k = absurd cc
+starts-same s (e ∷ es) [] h k = absurd cc
+starts-same s (e ∷ es) (x ∷ xs) h zero =
+    let a : (e.from, e.to) ≡ extent_of s x = cc in ap (λ (p : ℕ × ℕ). Some p.0) a
+starts-same s (e ∷ es) (x ∷ xs) h (suc k) =
+    let b : map (λ (e : Extent). (e.from, e.to)) es ≡ map (extent_of s) xs = cc in starts-same s es xs b k
+
+-- any other scalar gets none
+unneeded : (whole : Pos) (p : ℕ × Ty) (a : Option Extent) (b : Option meant.Slot) →
+    option_map (λ (e : Extent). e.from) a ≡ option_map (λ (x : meant.Slot). x.at) b → begins_at p.0 a ≡ false →
+    scalar_slot whole p b ≡ []
+unneeded whole p None b h f = absurd cc
+unneeded whole p (Some e) None h f = absurd cc
+unneeded whole p (Some e) (Some x) h f =
+    let i : e.from ≡ x.at = cc in
+    ap (λ (t : Bool). if t then x ∷ [] else []) (sym (ap (λ (n : ℕ). n == p.0) i) ∙ f)
+
+chosen-starts : (es : List Extent) (xs : List meant.Slot) (o : Option ℕ) → StartsSame es xs →
+    option_map (λ (e : Extent). e.from) (chosen es o) ≡ option_map (λ (x : meant.Slot). x.at) (chosen xs o)
+unfolding StartsSame
+chosen-starts es xs None h = refl
+chosen-starts es xs (Some k) h = h k
+
+needed-given : (whole : Pos) (given : List meant.Slot) (es : List Extent) (ps : List (ℕ × Ty)) → StartsSame es given →
+    scalars_given whole given es (needed es ps) ≡ scalars_given whole given es ps
+needed-given whole given es [] h = refl
+needed-given whole given es (p ∷ ps) h = by_need (needed-given whole given es ps h) (is_needed es p.0) refl
+  where
+    by_need : scalars_given whole given es (needed es ps) ≡ scalars_given whole given es ps → (b : Bool) →
+        is_needed es p.0 ≡ b → scalars_given whole given es (if b then p ∷ needed es ps else needed es ps)
+        ≡ scalars_given whole given es (p ∷ ps)
+    by_need r true e = ap (λ ys. scalar_slot whole p (chosen given (position (covers_place p.0) es)) ++ ys) r
+    by_need r false e =
+        let o = position (covers_place p.0) es in
+        r
+        ∙ ap (λ ys. ys ++ scalars_given whole given es ps)
+        (sym (unneeded whole p (chosen es o) (chosen given o) (chosen-starts es given o h) e))
+
 -- ---- strings
 
 pub taken-take : (n : ℕ) (bs : List ℕ) → taken n bs ≡ take n bs
@@ -227,7 +277,7 @@ string-given old new bytes q whole t at f el room most r e m h g c =
     (sym (taken-most n most bytes (m ∙ ap (min (length bytes)) r))) in
     record {
       value = v;
-      is = λ s. needed (nat_le (length bytes) (n + 1)) 133 q (give v) s b;
+      is = λ s. keeping.needed (nat_le (length bytes) (n + 1)) 133 q (give v) s b;
       keeps = g.keeps;
       shows = record {
         there = g.there;
@@ -341,14 +391,14 @@ shows-counted w k s h = record {
   };
 }
 
-pub every-slot : (w : Work) (n : Nodes) (k : ℕ) (whole : Pos) (of : ℕ) (slots : List Slot) (es fs : List Extent)
+pub every-slot : (w : Work) (n : Nodes) (k : ℕ) (whole : Pos) (of : ℕ) (slots : List Slot) (es fs gs : List Extent)
     (places others : List Place) (out : Vec Slot) → HaveExtents w slots es →
-    ArePartsOf w places (λ s. scalars s (type_in w.nodes of)) → fs ≡ es → others ≡ places →
+    ArePartsOf w places (λ s. needed gs (scalars s (type_in w.nodes of))) → fs ≡ es → gs ≡ es → others ≡ places →
     HasSlots w.nodes n out.items (scalars_given whole (slots_in w.nodes slots) fs (map (place_of w.nodes) others)) →
     Done quietly w (record w { nodes = n; scalars = k })
     (every_slot_of whole (type_in w.nodes of) (slots_in w.nodes slots))
     (SlotsThere (record w { nodes = n; scalars = k }) out) (AreSlots (record w { nodes = n; scalars = k }) out)
-every-slot w n count whole of slots es fs places others out e p f o h =
+every-slot w n count whole of slots es fs gs places others out e p f g o h =
     let given = slots_in w.nodes slots in
     let t = type_in w.nodes of in
     let l : length es ≡ length given = e.0 ∙ sym (length-slots w.nodes slots) in
@@ -365,6 +415,9 @@ every-slot w n count whole of slots es fs places others out e p f o h =
         is = refl;
         stays = still_same s;
         shows = shows-counted (record w { nodes = n }) count s (shows_nodes w n s h.keeps k);
-        fits = every_slot-is s whole t given es (map (place_of w.nodes) places) l (e.1 s k) (p.are s k) ∙ sym r;
+        fits = every_slot-is s whole t given es (scalars s t) l (e.1 s k) refl
+            ∙ sym (needed-given whole given es (scalars s t) (starts-same s es given (e.1 s k)))
+            ∙ ap (λ xs. scalars_given whole given es (needed xs (scalars s t))) (sym g)
+            ∙ ap (scalars_given whole given es) (sym (p.are s k)) ∙ sym r;
       };
     }

@@ -41,7 +41,7 @@ use Rattle.c_elaborator.specs.Answers.{Keeps, Done, Answers, quietly, freely, Ty
 use Rattle.c_elaborator.specs.Answers.{IsNothing}
 use Rattle.c_elaborator.proofs.Growing.{keeps_nodes, shows_nodes}
 use Rattle.ck_base.specs.declared.refusal.Refusal.{Refusal}
-use Rattle.c_elaborator.proofs.Sequencing.{keeps_then, answers_at, then, then_by, also_then, freed, failed, free_law}
+use Rattle.c_elaborator.proofs.Sequencing.{keeps_same, keeps_then, answers_at, then, then_by, also_then, freed, failed, free_law}
 use Rattle.c_initializers.specs.declared.slots.Slot.{Slot}
 use Rattle.c_initializers.specs.declared.slots.Filled.{Filled}
 use Rattle.c_initializers.specs.declared.statics.Found.{Found}
@@ -87,6 +87,26 @@ shows_static w m fs k f s whole e u st fl below h =
       };
     }
 
+-- where there is no object, nothing changes
+pub no_object : (w : Work) (k : ℕ) (f : StaticState → StaticState) → IsWhole w.nodes → IsObjectType w k None →
+    Done freely w w (change (change_static k f)) (NothingThere w tt) (IsNothing w tt)
+no_object w k f whole none = record {
+  whole = whole;
+  grows = keeps_same w;
+  there = tt;
+  gives = λ s h.
+      let e : change_static k f s ≡ s =
+      ap (λ (o : Option StaticState). record s { statics = with_changed f o s.statics k }) (none s h) in
+      record {
+        value = tt;
+        state = change_static k f s;
+        is = refl;
+        stays = tt;
+        shows = subst (λ (t : State). Shows w t) (sym e) h;
+        fits = tt;
+      };
+}
+
 -- ---- its type
 
 pub retyped_extended : (n m : Nodes) → m ≡ record n { p = m.p } → Extends n.p m.p → AreExtended n m
@@ -105,7 +125,7 @@ static-changed f g k s x e q =
     ∙ ap (λ y. record s { statics = slice_set s.statics k y }) q
     ∙ sym (ap (λ (o : Option StaticState). record s { statics = with_changed g o s.statics k }) e)
 
-pub object_completed : (w : Work) (n m : Nodes) (k of t count : ℕ) → IsWhole w.nodes → IsObjectType w k of →
+pub object_completed : (w : Work) (n m : Nodes) (k of t count : ℕ) → IsWhole w.nodes → IsObjectType w k (Some of) →
     nodes.HasType w.nodes n t (with_count (type_in w.nodes of) count) → AreExtended n m →
     ((s : State) (u : Ty) → Stands n.scopes n.p s → named (types_of n.p.types) t ≡ Some u →
     Stands m.scopes m.p (change_static k (λ (g : StaticState). record g { of = u }) s)) →
@@ -138,11 +158,6 @@ object_completed w n m k of t count whole known has e st =
             fits = tt;
           };
     }
-
-pub object_complete_is : (w : Work) (k of : ℕ) (p : Pos) (s : State) → IsObjectType w k of → Shows w s →
-    object_complete k p s ≡ complete_now (type_in w.nodes of) p s
-object_complete_is w k of p s known h =
-    let x = known s h in ap (λ o. complete_now (static_of o) p s) x.1 ∙ ap (λ t. complete_now t p s) (sym x.2)
 
 -- ---- its initial value
 
@@ -181,7 +196,7 @@ filled_extended n m e f v w =
     }
 
 pub object_filled : (w : Work) (m : Nodes) (gs : Vec Filling) (k of : ℕ) (f : Filling) → IsWhole w.nodes →
-    IsObjectType w k of → AreExtended w.nodes m → f.object ≡ k →
+    IsObjectType w k (Some of) → AreExtended w.nodes m → f.object ≡ k →
     ((j : ℕ) → filling_of j gs.items ≡ (if f.object == j then Some (value_of f) else filling_of j w.fillings.items)) →
     ((n : ℕ) → f.object < n → AreBelow n w.fillings.items → AreBelow n gs.items) →
     ((s : State) (i : List ℕ × List Aiming) → Stands w.nodes.scopes w.nodes.p s →

@@ -1,6 +1,7 @@
 -- Parts whose scalars are to be listed.
-use Rattle.std.proofs.Common.{◌≡◌, ℕ, zero, suc, ◌+◌, ◌-◌, ◌<◌, List, [], ◌∷◌, ◌++◌, get_or, length, drop, map, refl}
+use Rattle.std.proofs.Common.{◌≡◌, ℕ, zero, suc, ◌+◌, ◌-◌, ◌<◌, ◌≤◌, Bool, true, false, List, [], ◌∷◌, ◌++◌, get_or, length, drop, map, refl}
 use Rattle.std.proofs.Common.{sym, ap, subst, ◌∙◌, arith, append_assoc, length-append}
+use Rattle.std.specs.Prelude.{if◌then◌else◌}
 use Rattle.std.specs.List.{All}
 use Rattle.std.proofs.Math.Seq.{get_or-append_seam}
 use Rattle.std.proofs.lemmas.List.{map_push, append-nil, get_or_append_left}
@@ -16,8 +17,11 @@ use Rattle.c_elaborator.specs.declared.work.Work.{Work}
 use Rattle.c_elaborator.specs.Work.{Shows}
 use Rattle.c_initializers.specs.declared.places.Place.{Place}
 use Rattle.c_initializers.specs.declared.scalars.Row.{Row}
-use Rattle.c_initializers.specs.Places.{place_in, IsPlaceThere, IsTagCount}
-use Rattle.c_initializers.specs.Rows.{IsRowThere, row_scalars, rows_scalars, AddsRows, Walks}
+use Rattle.c_initializers.specs.Places.{place_in, IsPlaceThere, IsTagCount, ArePartsOf}
+use Rattle.c_initializers.specs.Rows.{IsRowThere, row_scalars, rows_scalars, row_steps, rows_steps, AddsRows, Walks}
+use Rattle.c_initializers.specs.declared.covering.Extent.{Extent}
+use Rattle.c_initializers.specs.Slots.{is_needed, needed}
+use Rattle.c_initializers.proofs.StepLaws.{steps-push}
 use Rattle.c_initializers.proofs.PlaceLaws.{drop-next, scalars-all, all-none}
 
 pub first-part : (n step at : ℕ) (f : ℕ → List (ℕ × Ty)) → 0 < n →
@@ -64,18 +68,30 @@ scalar-alone s go (classes.Function t) f ps at a b d = refl
 scalar-alone s go (classes.Const t) f ps at a b d = absurd (d t refl)
 
 -- one row more
-pub adds-row : (w : Work) (old new : List Row) (r : Row) (parts : State → List (ℕ × Ty)) → new ≡ old ++ r ∷ [] →
-    IsRowThere w r → ((s : State) → Shows w s → row_scalars w s r ≡ parts s) → AddsRows w old new parts
-adds-row w old new r parts e h f = record {
+pub adds-row : (w : Work) (old new : List Row) (r : Row) (most : ℕ) (parts : State → List (ℕ × Ty)) →
+    new ≡ old ++ r ∷ [] → IsRowThere w r → ((s : State) → Shows w s → row_scalars w s r ≡ parts s) →
+    row_steps w r ≤ most → AddsRows w old new most parts
+adds-row w old new r most parts e h f l = record {
   there = λ a. subst (λ (l : List Row). All (IsRowThere w) l) (sym e) (All-push (IsRowThere w) old r a h);
   are = λ s k. ap (rows_scalars w s) e ∙ rows-push w s old r ∙ ap (λ l. l ++ rows_scalars w s old) (f s k);
+  steps = let i = ap (rows_steps w) e ∙ steps-push w old r in omega arith;
 }
 
-pub adds-no-row : (w : Work) (rows : List Row) (parts : State → List (ℕ × Ty)) → ((s : State) → parts s ≡ []) →
-    AddsRows w rows rows parts
-adds-no-row w rows parts f = record {
+-- the same parts
+pub adds-parts : (w : Work) (old new : List Row) (most : ℕ) (parts others : State → List (ℕ × Ty)) →
+    ((s : State) → parts s ≡ others s) → AddsRows w old new most parts → AddsRows w old new most others
+adds-parts w old new most parts others e a = record {
+  there = a.there;
+  are = λ s k. a.are s k ∙ ap (λ l. l ++ rows_scalars w s old) (e s);
+  steps = a.steps;
+}
+
+pub adds-no-row : (w : Work) (rows : List Row) (most : ℕ) (parts : State → List (ℕ × Ty)) →
+    ((s : State) → parts s ≡ []) → AddsRows w rows rows most parts
+adds-no-row w rows most parts f = record {
   there = λ a. a;
   are = λ s k. ap (λ l. l ++ rows_scalars w s rows) (sym (f s));
+  steps = omega arith;
 }
 
 -- one member more, from the last one on
@@ -94,45 +110,70 @@ member-row w s go ms i d at old new fn r l e f h =
 
 -- ---- one step
 
-pub walks-rows : (w : Work) (rows new : List Row) (places : List Place) (parts : State → List (ℕ × Ty)) →
-    AddsRows w rows new parts → Walks w rows places new places parts
-walks-rows w rows new places parts a = record {
+pub walks-rows : (w : Work) (es : List Extent) (rows new : List Row) (places : List Place) (n most : ℕ)
+    (parts : State → List (ℕ × Ty)) → AddsRows w rows new n parts → n < most →
+    Walks w es rows places new places most parts
+walks-rows w es rows new places n most parts a l = record {
   rows_there = a.there;
   places_there = λ h. h;
-  are = λ s k. ap (λ l. map (place_in w) places ++ l) (a.are s k);
+  are = λ s k. ap (λ l. map (place_in w) places ++ needed es l) (a.are s k);
+  steps = let i = a.steps in omega arith;
 }
 
-pub walks-place : (w : Work) (rows : List Row) (places new : List Place) (p : Place) (parts : State → List (ℕ × Ty)) →
-    new ≡ places ++ p ∷ [] → IsPlaceThere w p → ((s : State) → parts s ≡ place_in w p ∷ []) →
-    Walks w rows places rows new parts
-walks-place w rows places new p parts e h f = record {
+pub walks-place : (w : Work) (es : List Extent) (rows : List Row) (places new : List Place) (p : Place) (most : ℕ)
+    (parts : State → List (ℕ × Ty)) →
+    new ≡ places ++ (if is_needed es p.at then p ∷ [] else []) → IsPlaceThere w p →
+    ((s : State) → parts s ≡ place_in w p ∷ []) → 0 < most → Walks w es rows places rows new most parts
+walks-place w es rows places new p most parts e h f l = record {
   rows_there = λ a. a;
-  places_there = λ a. subst (λ (l : List Place). All (IsPlaceThere w) l) (sym e)
-      (All-push (IsPlaceThere w) places p a h);
-  are = λ s k. ap (λ l. map (place_in w) l ++ rows_scalars w s rows) e
-      ∙ ap (λ l. l ++ rows_scalars w s rows) (map_push (place_in w) places p)
-      ∙ append_assoc (map (place_in w) places) (place_in w p ∷ []) (rows_scalars w s rows)
-      ∙ ap (λ l. map (place_in w) places ++ (l ++ rows_scalars w s rows)) (sym (f s));
+  places_there = λ a. subst (λ (l : List Place). All (IsPlaceThere w) l) (sym e) (all (is_needed es p.at) a);
+  are = λ s k. ap (λ l. map (place_in w) l ++ needed es (rows_scalars w s rows)) e
+      ∙ listed (is_needed es p.at) (needed es (rows_scalars w s rows))
+      ∙ ap (λ l. map (place_in w) places ++ needed es (l ++ rows_scalars w s rows)) (sym (f s));
+  steps = omega arith;
+}
+  where
+    all : (b : Bool) → All (IsPlaceThere w) places → All (IsPlaceThere w) (places ++ (if b then p ∷ [] else []))
+    all true a = All-push (IsPlaceThere w) places p a h
+    all false a = subst (λ (l : List Place). All (IsPlaceThere w) l) (sym (append-nil places)) a
+
+    listed : (b : Bool) (rest : List (ℕ × Ty)) → map (place_in w) (places ++ (if b then p ∷ [] else [])) ++ rest
+        ≡ map (place_in w) places ++ (if b then place_in w p ∷ rest else rest)
+    listed true rest = ap (λ l. l ++ rest) (map_push (place_in w) places p)
+        ∙ append_assoc (map (place_in w) places) (place_in w p ∷ []) rest
+    listed false rest = ap (λ l. map (place_in w) l ++ rest) (append-nil places)
+
+pub walks-none : (w : Work) (es : List Extent) (rows : List Row) (places : List Place) (most : ℕ)
+    (parts : State → List (ℕ × Ty)) → ((s : State) → parts s ≡ []) → 0 < most →
+    Walks w es rows places rows places most parts
+walks-none w es rows places most parts f l = record {
+  rows_there = λ a. a;
+  places_there = λ a. a;
+  are = λ s k. ap (λ x. map (place_in w) places ++ needed es (x ++ rows_scalars w s rows)) (sym (f s));
+  steps = omega arith;
 }
 
 -- the first part of a row, and then the rest
-pub walks-both : (w : Work) (rows mid new : List Row) (places others : List Place)
-    (rest first parts : State → List (ℕ × Ty)) → AddsRows w rows mid rest → Walks w mid places new others first →
-    ((s : State) → parts s ≡ first s ++ rest s) → Walks w rows places new others parts
-walks-both w rows mid new places others rest first parts a b f = record {
+pub walks-both : (w : Work) (es : List Extent) (rows mid new : List Row) (places others : List Place)
+    (m n : ℕ) (rest first parts : State → List (ℕ × Ty)) → AddsRows w rows mid m rest →
+    Walks w es mid places new others n first → ((s : State) → parts s ≡ first s ++ rest s) →
+    Walks w es rows places new others (m + n) parts
+walks-both w es rows mid new places others m n rest first parts a b f = record {
   rows_there = λ h. b.rows_there (a.there h);
   places_there = b.places_there;
-  are = λ s k. b.are s k ∙ ap (λ l. map (place_in w) places ++ (first s ++ l)) (a.are s k)
-      ∙ ap (λ l. map (place_in w) places ++ l)
+  are = λ s k. b.are s k ∙ ap (λ l. map (place_in w) places ++ needed es (first s ++ l)) (a.are s k)
+      ∙ ap (λ l. map (place_in w) places ++ needed es l)
       (sym (append_assoc (first s) (rest s) (rows_scalars w s rows))
       ∙ ap (λ l. l ++ rows_scalars w s rows) (sym (f s)));
+  steps = let i = a.steps in let j = b.steps in omega arith;
 }
 
 -- what is listed, and what is to be listed
-pub record AllWalked (w : Work) (rows : List Row) (places : List Place) (all : State → List (ℕ × Ty)) : Type 0 where
+pub record AllWalked (w : Work) (es : List Extent) (rows : List Row) (places : List Place)
+    (all : State → List (ℕ × Ty)) : Type 0 where
   pub rows_there : All (IsRowThere w) rows
   pub places_there : All (IsPlaceThere w) places
-  pub are : (s : State) → Shows w s → map (place_in w) places ++ rows_scalars w s rows ≡ all s
+  pub are : (s : State) → Shows w s → map (place_in w) places ++ needed es (rows_scalars w s rows) ≡ needed es (all s)
 
 front-all : (w : Work) (old rest : List Row) (r : Row) → old ≡ rest ++ r ∷ [] → All (IsRowThere w) old →
     All (IsRowThere w) rest
@@ -148,26 +189,43 @@ last-there w old rest r e h =
     let n : length rest < length (rest ++ r ∷ []) = omega (arith, length-append rest (r ∷ [])) in
     subst (IsRowThere w) (get_or-append_seam rest r [] r) (a (length rest) r n)
 
-pub walked-on : (w : Work) (old rest new : List Row) (places others : List Place) (r : Row)
-    (all : State → List (ℕ × Ty)) → old ≡ rest ++ r ∷ [] → AllWalked w old places all →
-    Walks w rest places new others (λ s. row_scalars w s r) → AllWalked w new others all
-walked-on w old rest new places others r all e a b = record {
+pub walked-on : (w : Work) (es : List Extent) (old rest new : List Row) (places others : List Place) (r : Row) (most : ℕ)
+    (all : State → List (ℕ × Ty)) → old ≡ rest ++ r ∷ [] → AllWalked w es old places all →
+    Walks w es rest places new others most (λ s. row_scalars w s r) → AllWalked w es new others all
+walked-on w es old rest new places others r most all e a b = record {
   rows_there = b.rows_there (front-all w old rest r e a.rows_there);
   places_there = b.places_there a.places_there;
   are = λ s k. b.are s k
-      ∙ ap (λ l. map (place_in w) places ++ l) (sym (ap (rows_scalars w s) e ∙ rows-push w s rest r)) ∙ a.are s k;
+      ∙ ap (λ l. map (place_in w) places ++ needed es l) (sym (ap (rows_scalars w s) e ∙ rows-push w s rest r))
+      ∙ a.are s k;
 }
 
 -- a whole type is one row
-pub walked-first : (w : Work) (rows : List Row) (r : Row) (places : List Place) (of tags : ℕ) → rows ≡ r ∷ [] →
+pub walked-first : (w : Work) (es : List Extent) (rows : List Row) (r : Row) (places : List Place) (of tags : ℕ) → rows ≡ r ∷ [] →
     of < type_count w.nodes → places ≡ [] → r ≡ record { at = 0; of = of; count = 1; step = 0; tags = tags } →
-    IsTagCount w tags → AllWalked w rows places (λ s. scalars s (type_in w.nodes of))
-walked-first w rows r places of tags e l p q k = record {
+    IsTagCount w tags → AllWalked w es rows places (λ s. scalars s (type_in w.nodes of))
+walked-first w es rows r places of tags e l p q k = record {
   rows_there = subst (λ (x : List Row). All (IsRowThere w) x) (sym e)
       (All-push (IsRowThere w) [] r (λ i d h. absurd (omega arith))
       (subst (λ (x : Row). x.of < type_count w.nodes) (sym q) l));
   places_there = all-none (IsPlaceThere w) places p;
-  are = λ s h. ap (λ x. map (place_in w) places ++ rows_scalars w s x) e
-      ∙ ap (λ x. map (place_in w) places ++ x) (single-row w s r of 0 tags q)
-      ∙ scalars-all w s (type_in w.nodes of) tags places p (k s h);
+  are = λ s h. ap (λ x. map (place_in w) x ++ needed es (rows_scalars w s rows)) p
+      ∙ ap (λ x. needed es (rows_scalars w s x)) e ∙ ap (needed es) (single-row w s r of 0 tags q)
+      ∙ ap (needed es) (scalars-all w s (type_in w.nodes of) tags [] refl (k s h));
 }
+
+-- nothing is left to walk
+pub walked-all : (w : Work) (es : List Extent) (rows : List Row) (places : List Place) (all : State → List (ℕ × Ty)) → rows ≡ [] →
+    AllWalked w es rows places all → ArePartsOf w places (λ s. needed es (all s))
+walked-all w es rows places all e a = record {
+  there = a.places_there;
+  are = λ s h. sym (append-nil (map (place_in w) places)) ∙ ap (λ x. map (place_in w) places ++ needed es (rows_scalars w s x)) (sym e)
+      ∙ a.are s h;
+}
+
+-- fewer steps are left
+pub fewer-steps : (w : Work) (es : List Extent) (old rest new : List Row) (places others : List Place) (r : Row)
+    (parts : State → List (ℕ × Ty)) → old ≡ rest ++ r ∷ [] → Walks w es rest places new others (row_steps w r) parts →
+    rows_steps w new < rows_steps w old
+fewer-steps w es old rest new places others r parts e b =
+    let i = ap (rows_steps w) e ∙ steps-push w rest r in let j = b.steps in omega arith

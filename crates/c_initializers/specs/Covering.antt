@@ -19,3 +19,8 @@ pub record IsCursor (c : Cursor) : Type 0 where
   pub ordered : c.ordered ≡ true → IsOrdered c.extents.now
   pub next : c.next ≤ length c.extents.now
   pub passed : EndBefore c.extents.now c.next c.passed
+
+-- it is a cursor of the same values
+pub record StaysCursor (old new : Cursor) : Type 0 where
+  pub is : IsCursor new
+  pub of : new.extents.now ≡ old.extents.now

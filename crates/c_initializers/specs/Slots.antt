@@ -1,5 +1,5 @@
 -- What an initializer gives.
-use Rattle.std.specs.Prelude.{◌≡◌, ℕ, ◌+◌, ◌<◌, Bool, ◌==◌, nat_le, if◌then◌else◌, List, ◌++◌, length, map, flat_map}
+use Rattle.std.specs.Prelude.{◌≡◌, ℕ, ◌+◌, ◌<◌, Bool, true, ◌==◌, nat_le, if◌then◌else◌, filter, List, ◌++◌, length, map, flat_map}
 use Rattle.std.specs.Prelude.{position, Option, Some, None, slice_get}
 use Rattle.std.specs.List.{All}
 use Rattle.std.specs.Global.{Vec}
@@ -99,6 +99,18 @@ extent_of s x = (x.at, x.at + size s x.of)
 abbrev pub HaveExtents : Work → List Slot → List Extent → Type 0
 HaveExtents w xs es = (length es ≡ length xs) ×
     ((s : State) → Shows w s → map (λ (e : Extent). (e.from, e.to)) es ≡ map (extent_of s) (slots_in w.nodes xs))
+
+-- the value that has the byte at a place begins there, or there is none
+abbrev pub begins_at : ℕ → Option Extent → Bool
+begins_at at None = true
+begins_at at (Some e) = e.from == at
+
+-- a scalar gets a value: none does to which an earlier one goes on
+abbrev pub is_needed : List Extent → ℕ → Bool
+is_needed es at = begins_at at (chosen es (position (covers_place at) es))
+
+abbrev pub needed : List Extent → List (ℕ × Ty) → List (ℕ × Ty)
+needed es ps = filter (λ p. is_needed es p.0) ps
 
 -- what the scalars at these places get
 abbrev pub scalars_given : Pos → List meant.Slot → List Extent → List (ℕ × Ty) → List meant.Slot

@@ -35,27 +35,24 @@ fn significant(width: u64, number: u64) -> u64
 }
 
 // Where a number ends, up to its last byte that is not zero.
-fn end_of(x: &Placed) -> Result<u64, NoMemory>
-    ensures { IfOk result (λ n. n ≡ end_in x.now) }
+fn end_of(x: &Placed) -> u128
+    ensures { result ≡ end_in x.now }
 {
     if x.number == 0 {
-        return Ok(0);
+        return 0;
     }
-    match x.at.checked_add(significant(x.width, x.number)) {
-        Some(end) => Ok(end),
-        None => Err(NoMemory),
-    }
+    u128::from(x.at) + u128::from(significant(x.width, x.number))
 }
 
 // Where the last of the numbers ends.
-fn greatest_end(numbers: &[Placed]) -> Result<u64, NoMemory>
-    ensures { IfOk result (λ n. n ≡ greatest_end numbers.now) }
+fn greatest_end(numbers: &[Placed]) -> u128
+    ensures { result ≡ greatest_end numbers.now }
 {
-    let mut greatest: u64 = 0;
+    let mut greatest: u128 = 0;
     for x in numbers {
-        greatest = greatest.max(end_of(x)?);
+        greatest = greatest.max(end_of(x));
     }
-    Ok(greatest)
+    greatest
 }
 
 // Adds one byte to what stands at a place.
@@ -103,21 +100,24 @@ fn put_all(bytes: &mut [u8], numbers: &[Placed]) -> Result<(), NoMemory>
     Ok(())
 }
 
-fn zeros(alloc: Global, count: usize) -> Result<Vec<u8>, NoMemory>
+// No vector has more than `usize::MAX` bytes.
+fn zeros(alloc: Global, count: u128) -> Result<Vec<u8>, NoMemory>
     ensures { IfOk result (λ v. v.items ≡ replicate count 0) }
 {
-    Ok(vec![in alloc; 0; count]?)
+    match usize::try_from(count) {
+        Ok(count) => Ok(vec![in alloc; 0; count]?),
+        Err(_) => Err(NoMemory),
+    }
 }
 
 /// The bytes of an object from the numbers and pointers that stand in it. They end at the last byte that is not zero or
 /// belongs to a pointer: the last pointer ends at `end`, which is 0 where there is none. A pointer's own bytes are
 /// zero.
-pub fn initial_bytes(alloc: Global, numbers: &[Placed], end: u64) -> Result<Vec<u8>, NoMemory>
+pub fn initial_bytes(alloc: Global, numbers: &[Placed], end: u128) -> Result<Vec<u8>, NoMemory>
     ensures { IfOk result (λ bytes. (ls : List Aiming) → pointers_end ls ≡ end →
         bytes.items ≡ initial_bytes (map placed_of numbers.now) ls) }
 {
-    let count = greatest_end(numbers)?.max(end);
-    let mut bytes = zeros(alloc, count as usize)?;
+    let mut bytes = zeros(alloc, greatest_end(numbers).max(end))?;
     put_all(&mut bytes, numbers)?;
     Ok(bytes)
 }

@@ -1,13 +1,14 @@
 //! Which of the values that an initialiser gives stands at a place (C11 6.7.9p19, p21).
 
 ghost use Rattle.std.specs.Prelude.{◌≡◌, ℕ, ◌<◌, ◌≤◌, true, length, position, slice_index_or};
+ghost use Rattle.c_initializers.specs.Slots.{is_needed};
 ghost use Rattle.c_initializers.specs.Covering.{IsOrdered, IsCursor, EndBefore, covers_place};
 
 /// The bytes of an object that a value has: from an offset up to another one.
 #[derive(Clone, Copy)]
 pub(crate) struct Extent {
     pub(crate) from: u64,
-    pub(crate) to: u64,
+    pub(crate) to: u128,
 }
 
 /// The bytes that some values have, and how far a walk along the object has come. Values that stand in the order of
@@ -26,9 +27,9 @@ pub(crate) struct Cursor<'c> {
 fn are_ordered(extents: &[Extent]) -> bool
     ensures { result ≡ true → IsOrdered extents.now }
 {
-    let mut end: u64 = 0;
+    let mut end: u128 = 0;
     for e in extents {
-        if e.from < end || e.to < e.from {
+        if u128::from(e.from) < end || e.to < u128::from(e.from) {
             return false;
         }
         end = e.to;
@@ -44,7 +45,7 @@ fn skip(extents: &[Extent], next: usize, at: u64) -> usize
     ensures ends { (d : Extent) → result < length extents.now → at < (slice_index_or extents.now result d).to }
 {
     let mut k = next;
-    while k < extents.len() && extents[k].to <= at {
+    while k < extents.len() && extents[k].to <= u128::from(at) {
         k += 1;
     }
     k
@@ -91,11 +92,29 @@ impl<'c> Cursor<'c> {
             None
         }
     }
+
+    /// Whether the value that has the byte at a place begins there, or there is none.
+    pub(crate) fn needs(&mut self, at: u64) -> bool
+        requires { IsCursor self.old }
+        ensures is { IsCursor self.new }
+        ensures of { self.new.extents.now ≡ self.old.extents.now }
+        ensures needed { result ≡ is_needed self.old.extents.now at }
+    {
+        match self.find(at) {
+            None => true,
+            Some(k) => match self.extents.get(k) {
+                None => true,
+                Some(e) => e.from == at,
+            },
+        }
+    }
 }
 
 // The first that has the byte at a place, whatever their order.
 fn first_covering(extents: &[Extent], at: u64) -> Option<usize>
     ensures { result ≡ position (covers_place at) extents.now }
 {
-    extents.iter().position(|e| e.from <= at && at < e.to)
+    extents
+        .iter()
+        .position(|e| e.from <= at && u128::from(at) < e.to)
 }

@@ -12,7 +12,7 @@ ghost use Rattle.c_initializers.specs.Slots.{every_slot_of};
 
 use crate::covering::{Cursor, Extent};
 use crate::places::Place;
-use crate::scalars::{moved, scalars};
+use crate::scalars::scalars;
 use crate::sizes::size_of;
 use crate::slots::Slot;
 use c_elaborator::Work;
@@ -74,7 +74,7 @@ fn extents_of(work: &Work, slots: &[Slot]) -> Result<Vec<Extent>, NoMemory>
 {
     let mut extents = Vec::new(work.nodes.alloc);
     for x in slots {
-        let to = moved(x.at, size_of(work, x.of)?)?;
+        let to = u128::from(x.at) + u128::from(size_of(work, x.of)?);
         extents.push(Extent { from: x.at, to })?;
     }
     Ok(extents)
@@ -173,8 +173,8 @@ pub fn every_slot(
         result }
 {
     let most = most_scalars(work, listed).saturating_add(record_bytes(work, slots)?);
-    let places = scalars(work, of, most)?;
     let extents = extents_of(work, slots)?;
+    let places = scalars(work, of, most, extents.as_slice())?;
     let out = scalar_slots(
         &mut work.nodes,
         whole,

@@ -3,6 +3,7 @@
 ghost use Rattle.std.specs.Prelude.{◌≡◌, ℕ, ◌+◌, ◌<◌, ◌≤◌, ◌^◌, ◌&&◌, nat_le, Some, None, pos, ◌≤ℤ◌, neg_ℤ, reverse};
 ghost use Rattle.std.specs.Prelude.{option_map, slice_get, if◌then◌else◌, IfOk};
 ghost use Rattle.cap_concentrate.specs.Rounding.{owned};
+ghost use Rattle.c_tree.specs.Layout.{size_limit};
 ghost use Rattle.c_tree.specs.Scopes.{State};
 ghost use Rattle.c_tree.specs.Statics.{There, static_length, text_length, aim_length, near_all, moved_to, inside};
 ghost use Rattle.c_tree.specs.Statics.{narrowed_in, narrowed, member_offset, move_by, pointed_at, target_size};
@@ -22,16 +23,13 @@ use c_tree::{RecordKind, Target};
 use cap_layout::{LayoutFault, owned};
 use ck_base::NoMemory;
 
-// What an object of so many bytes owns. None has more than 67,108,864 bytes.
-fn owned_bytes(n: u64) -> Result<u64, NoMemory>
-    ensures is { IfOk result (λ k. k ≡ owned n) }
-    ensures small { IfOk result (λ k. k < 2 ^ 62) }
+// What an object of so many bytes owns.
+fn owned_bytes(n: u64) -> u64
+    requires { n ≤ size_limit }
+    ensures is { result ≡ owned n }
+    ensures small { result < 2 ^ 62 }
 {
-    if n > LIMIT {
-        Err(NoMemory)
-    } else {
-        Ok(owned(n).length)
-    }
+    owned(n).length
 }
 
 // What an object of static storage duration owns, where its type is complete.
@@ -43,7 +41,7 @@ fn object_length(work: &Work, k: u32) -> Result<Option<u64>, NoMemory>
         Some(g) => match work.nodes.scopes.layout(&work.nodes.p, g.of) {
             Err(LayoutFault::Incomplete) => Ok(None),
             Err(LayoutFault::TooLarge) => Err(NoMemory),
-            Ok(layout) => Ok(Some(owned_bytes(layout.size)?)),
+            Ok(layout) => Ok(Some(owned_bytes(layout.size))),
         },
     }
 }
@@ -54,7 +52,13 @@ fn literal_length(work: &Work, k: u32) -> Result<Option<u64>, NoMemory>
 {
     match work.nodes.p.literals.as_slice().get(k as usize) {
         None => Ok(None),
-        Some(text) => Ok(Some(owned_bytes(text.bytes.as_slice().len() as u64)?)),
+        Some(text) => {
+            let bytes = text.bytes.as_slice().len() as u64;
+            if bytes > LIMIT {
+                return Err(NoMemory);
+            }
+            Ok(Some(owned_bytes(bytes)))
+        }
     }
 }
 
@@ -285,7 +289,7 @@ pub(crate) fn pointed_at(work: &Work, node: u32, x: Known) -> Result<Option<Know
 {
     if work.nodes.fact(node).member {
         let n = size_of(work, work.nodes.of(node))?;
-        narrowed(work, owned_bytes(n)?, x)
+        narrowed(work, owned_bytes(n), x)
     } else {
         Ok(Some(x))
     }

@@ -5,7 +5,7 @@ ghost use Rattle.cap_concentrate.specs.Rounding.{rounded_up};
 ghost use Rattle.cap_layout.specs.Answers.{extent_is, greatest_align};
 ghost use Rattle.c_tree.specs.Layout.{size_limit, member_offset, behind, no_members};
 ghost use Rattle.c_tree.specs.Scopes.{State};
-ghost use Rattle.c_expressions.specs.Nodes.{IsWhole};
+ghost use Rattle.c_expressions.specs.Nodes.{IsWhole, type_count};
 ghost use Rattle.c_elaborator.specs.Work.{Shows};
 ghost use Rattle.c_initializers.specs.Places.{AreMembers, AreMembersOf, ArePlaced, AreAllMembers, AreFirstMembers};
 ghost use Rattle.c_initializers.specs.Places.{IsRecord, IsNext, IsTagCount};
@@ -103,9 +103,10 @@ fn behind(m: Layout, end: Layout) -> Layout
 
 // The next member of a struct behind the end of those before it; none where its type is not complete.
 fn next_of(work: &Work, of: u32, end: Layout) -> Result<Option<Next>, NoMemory>
+    requires { of < type_count work.now.nodes }
     ensures { IfOk result (λ n. IsNext work.now of end n) }
 {
-    if end.size > LIMIT || of as usize >= work.nodes.p.types.as_slice().len() {
+    if end.size > LIMIT {
         return Err(NoMemory);
     }
     match work.nodes.scopes.layout(&work.nodes.p, of) {
@@ -129,7 +130,7 @@ fn struct_places(work: &Work, members: &[Member]) -> Result<Vec<Place>, NoMemory
     let mut places = Vec::new(work.nodes.alloc);
     let mut end = Layout { size: 0, align: 1 };
     for m in members {
-        match next_of(work, m.of, end)? {
+        match next_of(work, work.there(m.of), end)? {
             None => return Ok(places),
             Some(next) => {
                 places.push(next.place)?;
@@ -147,10 +148,10 @@ fn first_place(work: &Work, members: &[Member]) -> Result<Vec<Place>, NoMemory>
 {
     let mut places = Vec::new(work.nodes.alloc);
     if let Some(m) = members.first() {
-        if m.of as usize >= work.nodes.p.types.as_slice().len() {
-            return Err(NoMemory);
-        }
-        places.push(Place { at: 0, of: m.of })?;
+        places.push(Place {
+            at: 0,
+            of: work.there(m.of),
+        })?;
     }
     Ok(places)
 }

@@ -43,10 +43,14 @@ fn complete_object(work: &mut Work, k: u32, count: u64) -> Result<(), Refusal>
     requires { IsWhole work.old.nodes }
     ensures { Answers freely work.old work.new (completes_object k count) NothingThere IsNothing result }
 {
-    let of = work.object_type(k)?;
-    let counted = with_count(&mut work.nodes, of, count)?;
-    retype(&mut work.nodes, k, counted);
-    Ok(())
+    match work.object_type(k) {
+        None => Ok(()),
+        Some(of) => {
+            let counted = with_count(&mut work.nodes, of, count)?;
+            retype(&mut work.nodes, k, counted);
+            Ok(())
+        }
+    }
 }
 
 // An object has a complete type (132), within the limit (140).
@@ -54,8 +58,7 @@ fn object_complete(work: &Work, k: u32, pos: Pos) -> Result<(), Refusal>
     requires { IsWhole work.now.nodes }
     ensures { Answers quietly work.now work.now (object_complete k pos) NothingThere IsNothing result }
 {
-    let of = work.object_type(k)?;
-    complete_now(work, of, pos)
+    complete_now(work, work.static_type(k), pos)
 }
 
 // One more initial value. The last one of an object counts.
@@ -91,15 +94,19 @@ fn fill_object(work: &mut Work, k: u32, bytes: Vec<u8>, starts: Vec<Start>) -> R
     ensures { Answers freely work.old work.new
         (fills_object k bytes.items (map aiming_of starts.items)) NothingThere IsNothing result }
 {
-    let _known = work.object_type(k)?;
-    let filling = Filling {
-        object: k,
-        bytes,
-        starts,
-    };
-    add_filling(&mut work.fillings, filling)?;
-    mark_filled(&mut work.nodes, k);
-    Ok(())
+    match work.object_type(k) {
+        None => Ok(()),
+        Some(_) => {
+            let filling = Filling {
+                object: k,
+                bytes,
+                starts,
+            };
+            add_filling(&mut work.fillings, filling)?;
+            mark_filled(&mut work.nodes, k);
+            Ok(())
+        }
+    }
 }
 
 // The same from the numbers and pointers that stand in it.
@@ -108,7 +115,7 @@ fn fill_found(work: &mut Work, k: u32, found: Found) -> Result<(), Refusal>
     ensures { Answers freely work.old work.new (fills_found k (found_seen found)) NothingThere IsNothing result }
 {
     let Found { numbers, starts } = found;
-    let end = pointers_end(starts.as_slice())?;
+    let end = pointers_end(starts.as_slice());
     let bytes = initial_bytes(work.nodes.alloc, numbers.as_slice(), end)?;
     fill_object(work, k, bytes, starts)
 }

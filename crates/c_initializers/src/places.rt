@@ -27,7 +27,7 @@ pub enum Places {
         /// The number of their type.
         of: u32,
         /// The bytes of each.
-        size: u64,
+        size: u32,
         /// How many there are, 0 where that is not known.
         count: u64,
     },
@@ -48,7 +48,7 @@ pub fn places_of(work: &Work, of: u32, count: usize) -> Result<Places, NoMemory>
     match work.nodes.class(base) {
         Class::Array(element, length) => Ok(Places::Elements {
             of: element,
-            size: size_of(work, element)?,
+            size: size_of(work, element)? as u32,
             count: length,
         }),
         Class::Tagged(tag) => Ok(Places::Members(first_members(work, tag, count)?)),
@@ -57,35 +57,36 @@ pub fn places_of(work: &Work, of: u32, count: usize) -> Result<Places, NoMemory>
 }
 
 // An element of an array.
-fn element(of: u32, size: u64, k: u64) -> Result<Place, NoMemory>
-    ensures { IfOk result (λ p. p ≡ record { at = k * size; of = of }) }
+fn element(of: u32, size: u32, k: u32) -> Place
+    ensures { result ≡ record { at = k * size; of = of } }
 {
-    match k.checked_mul(size) {
-        None => Err(NoMemory),
-        Some(at) => Ok(Place { at, of }),
+    Place {
+        at: u64::from(k) * u64::from(size),
+        of,
     }
 }
 
 impl Places {
     /// The part that an item with this number, counted from 0, initialises; none where there are too many items (133).
-    pub fn get(&self, k: u32) -> Result<Option<Place>, NoMemory>
-        ensures { IfOk result (λ o. o ≡ place_at self.now k) }
+    pub fn get(&self, k: u32) -> Option<Place>
+        ensures { result ≡ place_at self.now k }
     {
         match self {
             Places::Elements { of, size, count } => {
-                let n = u64::from(k);
-                if n < *count || *count == 0 {
-                    Ok(Some(element(*of, *size, n)?))
+                if u64::from(k) < *count || *count == 0 {
+                    Some(element(*of, *size, k))
                 } else {
-                    Ok(None)
+                    None
                 }
             }
-            Places::Members(places) => Ok(places.get(k as usize).copied()),
-            Places::Alone(of) => Ok(if k == 0 {
-                Some(Place { at: 0, of: *of })
-            } else {
-                None
-            }),
+            Places::Members(places) => places.get(k as usize).copied(),
+            Places::Alone(of) => {
+                if k == 0 {
+                    Some(Place { at: 0, of: *of })
+                } else {
+                    None
+                }
+            }
         }
     }
 }

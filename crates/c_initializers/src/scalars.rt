@@ -1,11 +1,15 @@
 //! The scalars of a type in the order of their offsets (C11 6.2.5p21).
 
-ghost use Rattle.std.specs.Prelude.{◌≡◌, ◌+◌, ◌-◌, ◌++◌, ◌∷◌, [], ◌<◌, IfOk, OnOk};
+ghost use Rattle.std.specs.Prelude.{◌≡◌, ◌+◌, ◌-◌, ◌*◌, ◌++◌, ◌∷◌, [], ◌<◌, ◌≤◌, if◌then◌else◌, length, IfOk, OnOk};
 ghost use Rattle.c_tree.specs.Initializers.{scalars, scalars_of, tag_scalars, repeat};
+ghost use Rattle.c_tree.specs.Types.{Tagged};
 ghost use Rattle.c_expressions.specs.Nodes.{IsWhole, type_in, type_count};
+ghost use Rattle.c_initializers.specs.Covering.{IsCursor, StaysCursor};
 ghost use Rattle.c_initializers.specs.Places.{ArePartsOf};
-ghost use Rattle.c_initializers.specs.Rows.{IsRowThere, row_scalars, AddsRows, Walks};
+ghost use Rattle.c_initializers.specs.Rows.{IsRowThere, row_scalars, type_steps, row_steps, AddsRows, Walks};
+ghost use Rattle.c_initializers.specs.Slots.{is_needed, needed};
 
+use crate::covering::{Cursor, Extent};
 use crate::members::{all_members, tag_count};
 use crate::places::Place;
 use crate::sizes::size_of;
@@ -28,23 +32,27 @@ pub(crate) struct Row {
     tags: usize,
 }
 
-/// The scalars of a type, in the order of their offsets; memory is wanting for more than `most`.
-pub(crate) fn scalars(work: &Work, of: u32, most: u64) -> Result<Vec<Place>, NoMemory>
+/// The scalars of a type that get a value, where some values have these bytes, in the order of their offsets; memory is
+/// wanting for more than `most`.
+pub(crate) fn scalars(
+    work: &Work,
+    of: u32,
+    most: u64,
+    extents: &[Extent],
+) -> Result<Vec<Place>, NoMemory>
     requires whole { IsWhole work.now.nodes }
     requires there { of < type_count work.now.nodes }
-    ensures { IfOk result (λ places. ArePartsOf work.now places.items (λ s. scalars s (type_in work.now.nodes of))) }
+    ensures { IfOk result (λ places. ArePartsOf work.now places.items
+        (λ s. needed extents.now (scalars s (type_in work.now.nodes of)))) }
 {
+    let mut cursor = Cursor::new(extents);
     let mut places = Vec::new(work.nodes.alloc);
     let mut rows = Vec::new(work.nodes.alloc);
     rows.push(single(of, 0, tag_count(work)))?;
-    // No walk has so many steps.
-    'steps: for _ in 0..u64::MAX {
-        match rows.pop() {
-            None => return Ok(places),
-            Some(row) => walk(work, row, most, &mut rows, &mut places)?,
-        }
+    'steps: while let Some(row) = rows.pop() {
+        walk(work, row, most, &mut cursor, &mut rows, &mut places)?;
     }
-    Err(NoMemory)
+    Ok(places)
 }
 
 pub(crate) fn moved(at: u64, by: u64) -> Result<u64, NoMemory>
@@ -77,7 +85,9 @@ fn push_row(rows: &mut Vec<Row>, row: Row) -> Result<(), NoMemory>
 }
 
 // So many parts more have a scalar each, at least.
-fn check_room(places: &[Place], most: u64, count: u64) -> Result<(), NoMemory> {
+fn check_room(places: &[Place], most: u64, count: u64) -> Result<(), NoMemory>
+    ensures { OnOk result (count ≤ most - length places.now) }
+{
     if count > most.saturating_sub(places.len() as u64) {
         Err(NoMemory)
     } else {
@@ -94,11 +104,30 @@ fn push_place(places: &mut Vec<Place>, most: u64, place: Place) -> Result<(), No
     Ok(())
 }
 
+// The same of one that gets a value.
+fn push_needed(
+    cursor: &mut Cursor<'_>,
+    places: &mut Vec<Place>,
+    most: u64,
+    place: Place,
+) -> Result<(), NoMemory>
+    requires { IsCursor cursor.old }
+    ensures cursor { OnOk result (StaysCursor cursor.old cursor.new) }
+    ensures places { OnOk result (places.new.items ≡ places.old.items
+        ++ (if is_needed cursor.old.extents.now place.at then place ∷ [] else [])) }
+{
+    if cursor.needs(place.at) {
+        push_place(places, most, place)?;
+    }
+    Ok(())
+}
+
 // What is behind the first part of a row.
 fn push_rest(work: &Work, row: Row, rows: &mut Vec<Row>) -> Result<(), NoMemory>
     requires some { 0 < row.count }
     requires there { IsRowThere work.now row }
     ensures { OnOk result (AddsRows work.now rows.old.items rows.new.items
+        (row.count * type_steps work.now row.tags (type_in work.now.nodes row.of))
         (λ s. repeat (row.count - 1) row.step (scalars_of s (tag_scalars row.tags s) (type_in work.now.nodes row.of))
         (row.at + row.step))) }
 {
@@ -119,7 +148,8 @@ fn push_members(
     rows: &mut Vec<Row>,
 ) -> Result<(), NoMemory>
     requires { IsWhole work.now.nodes }
-    ensures { OnOk result (AddsRows work.now rows.old.items rows.new.items (λ s. tag_scalars tags s tag at)) }
+    ensures { OnOk result (AddsRows work.now rows.old.items rows.new.items
+        (type_steps work.now tags (Tagged tag) - 1) (λ s. tag_scalars tags s tag at)) }
 {
     if tags == 0 {
         return Ok(());
@@ -141,13 +171,16 @@ fn push_parts(
     at: u64,
     tags: usize,
     most: u64,
+    cursor: &mut Cursor<'_>,
     rows: &mut Vec<Row>,
     places: &mut Vec<Place>,
 ) -> Result<(), NoMemory>
     requires whole { IsWhole work.now.nodes }
     requires there { of < type_count work.now.nodes }
-    ensures { OnOk result (Walks work.now rows.old.items places.old.items rows.new.items places.new.items
-        (λ s. scalars_of s (tag_scalars tags s) (type_in work.now.nodes of) at)) }
+    requires cursor { IsCursor cursor.old }
+    ensures cursor { OnOk result (StaysCursor cursor.old cursor.new) }
+    ensures walks { OnOk result (Walks work.now cursor.old.extents.now rows.old.items places.old.items rows.new.items places.new.items
+        (type_steps work.now tags (type_in work.now.nodes of)) (λ s. scalars_of s (tag_scalars tags s) (type_in work.now.nodes of) at)) }
 {
     match work.nodes.class(of) {
         Class::Array(element, count) => {
@@ -164,7 +197,7 @@ fn push_parts(
         }
         Class::Tagged(tag) => push_members(work, tag, at, tags, rows),
         Class::Const(inner) => push_row(rows, single(inner, at, tags)),
-        _ => push_place(places, most, Place { at, of }),
+        _ => push_needed(cursor, places, most, Place { at, of }),
     }
 }
 
@@ -173,17 +206,20 @@ fn walk(
     work: &Work,
     row: Row,
     most: u64,
+    cursor: &mut Cursor<'_>,
     rows: &mut Vec<Row>,
     places: &mut Vec<Place>,
 ) -> Result<(), NoMemory>
     requires whole { IsWhole work.now.nodes }
     requires there { IsRowThere work.now row }
-    ensures { OnOk result (Walks work.now rows.old.items places.old.items rows.new.items places.new.items
-        (λ s. row_scalars work.now s row)) }
+    requires cursor { IsCursor cursor.old }
+    ensures cursor { OnOk result (StaysCursor cursor.old cursor.new) }
+    ensures walks { OnOk result (Walks work.now cursor.old.extents.now rows.old.items places.old.items rows.new.items places.new.items
+        (row_steps work.now row) (λ s. row_scalars work.now s row)) }
 {
     if row.count == 0 {
         return Ok(());
     }
     push_rest(work, row, rows)?;
-    push_parts(work, row.of, row.at, row.tags, most, rows, places)
+    push_parts(work, row.of, row.at, row.tags, most, cursor, rows, places)
 }

@@ -15,7 +15,6 @@ ghost use Rattle.c_initializers.specs.Starts.{known_of};
 
 use crate::addresses::known_value;
 use crate::bytes::Placed;
-use crate::scalars::moved;
 use crate::sizes::size_of;
 use crate::slots::Slot;
 use crate::starts::{Known, Value};
@@ -170,12 +169,12 @@ fn start_known(work: &mut Work, slots: &[Slot], known: &[Known]) -> Result<Found
 }
 
 /// Where the last of some pointers ends in the object, in bytes; 0 where there is none.
-pub fn pointers_end(starts: &[Start]) -> Result<u64, NoMemory>
-    ensures { IfOk result (λ n. pointers_end (map aiming_of starts.now) ≡ n) }
+pub fn pointers_end(starts: &[Start]) -> u128
+    ensures { pointers_end (map aiming_of starts.now) ≡ result }
 {
-    let mut end: u64 = 0;
+    let mut end: u128 = 0;
     for x in starts {
-        end = end.max(moved(x.at, 16)?);
+        end = end.max(u128::from(x.at) + 16);
     }
-    Ok(end)
+    end
 }

@@ -2,12 +2,14 @@
 use Rattle.std.proofs.Common.{◌≡◌, ℕ, ◌+◌, ◌<◌, ◌≤◌, Bool, true, false, cond, eqb, List, [], ◌∷◌, ◌++◌, length, get_or}
 use Rattle.std.proofs.Common.{take, map, zero, suc, Option, Some, None, refl, sym, ap, subst, ◌∙◌, arith, append_assoc}
 use Rattle.std.proofs.Common.{length-append, eq-eqb}
+use Rattle.std.proofs.Math.Seq.{get_or-append_seam}
+use Rattle.std.proofs.Math.ListN.{get_or-append}
 use Rattle.std.specs.Prelude.{◌&&◌, ◌||◌, IfSome, Result, Ok, Err, IfOk, All}
 use Rattle.std.specs.Map.{lookup}
 use Rattle.std.specs.Option.{ok_or}
 use Rattle.std.proofs.lemmas.Bool.{eqb-true}
 use Rattle.std.proofs.lemmas.List.{append-nil, map-append, take_more}
-use Rattle.std.proofs.lemmas.List.Elements.{All-append}
+use Rattle.std.proofs.lemmas.List.Elements.{All-nil, All-append}
 use Rattle.c_tree.specs.declared.typed.CType.{CType}
 use Rattle.c_tree.specs.declared.typed.Typed.{Typed}
 use Rattle.c_tree.specs.Types.{Ty, agree, composite}
@@ -20,7 +22,7 @@ use Rattle.c_interner.specs.Heads.{built}
 use Rattle.c_interner.specs.Agreement.{lengths_of}
 use Rattle.c_interner.specs.Levels.{same_pair, parts_of, levels_agree, pairs_agree, pair_composite, AreBelow}
 use Rattle.c_interner.specs.Known.{type_in, IsComposite, AreComposites, NamesComposites}
-use Rattle.c_interner.specs.Numbers.{AddsTypes, IsNumberOf}
+use Rattle.c_interner.specs.Numbers.{IsPlain, AddsTypes, IsNumberOf}
 use Rattle.c_interner.proofs.Growing.{type_at-longer}
 use Rattle.c_interner.proofs.Pairing.{agree-built, composite_self, below_end}
 
@@ -76,12 +78,13 @@ judged lengths go x y h ps g qs l r a b c d =
 -- ---- more types
 
 pub adds_none : (p : Typed) → AddsTypes p p
-adds_none p = record { added = []; types = sym (append-nil p.types); rest = refl }
+adds_none p = record { added = []; types = sym (append-nil p.types); plain = All-nil IsPlain; rest = refl }
 
 pub adds_then : (p q r : Typed) → AddsTypes p q → AddsTypes q r → AddsTypes p r
 adds_then p q r a b = record {
   added = a.added ++ b.added;
   types = b.types ∙ ap (λ ts. ts ++ b.added) a.types ∙ append_assoc p.types a.added b.added;
+  plain = All-append IsPlain a.added b.added a.plain b.plain;
   rest = b.rest ∙ ap (λ (s : Typed). record s { types = r.types }) a.rest;
 }
 
@@ -115,6 +118,19 @@ composites_more p q c a h =
 
 pub below_more : (m n : ℕ) (qs : List (ℕ × ℕ)) → m ≤ n → AreBelow m qs → AreBelow n qs
 below_more m n qs l h k d lt = let i = h k d lt in (omega arith, omega arith)
+
+pub below_last : (n : ℕ) (qs ws : List (ℕ × ℕ)) (q : ℕ × ℕ) → ws ≡ qs ++ q ∷ [] → AreBelow n ws →
+    (q.0 < n) × (q.1 < n) × AreBelow n qs
+below_last n qs ws q e h =
+    let all : AreBelow n (qs ++ q ∷ []) = subst (λ (v : List (ℕ × ℕ)). AreBelow n v) e h in
+    let long = length-append qs (q ∷ []) in
+    let last = subst (λ (v : ℕ × ℕ). (v.0 < n) × (v.1 < n)) (get_or-append_seam qs q [] q)
+    (all (length qs) q (omega arith)) in (
+      last.0,
+      last.1,
+      λ k d lt. subst (λ (v : ℕ × ℕ). (v.0 < n) × (v.1 < n)) (get_or-append qs (q ∷ []) d k lt)
+          (all k d (omega arith)),
+    )
 
 -- ---- composites
 

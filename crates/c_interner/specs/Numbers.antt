@@ -1,6 +1,7 @@
 -- The types of a program by their numbers.
-use Rattle.std.specs.Prelude.{◌≡◌, ℕ, ◌<◌, ◌≤◌, List, ◌++◌, length}
+use Rattle.std.specs.Prelude.{◌≡◌, ℕ, ◌<◌, ◌≤◌, List, ◌++◌, length, All}
 use Rattle.c_tree.specs.declared.typed.CType.{CType}
+use Rattle.c_tree.specs.declared.typed.CType.TheVariants as ctypes
 use Rattle.c_tree.specs.declared.typed.Typed.{Typed}
 use Rattle.c_tree.specs.Types.{Ty, Void}
 use Rattle.c_tree.specs.Views.{type_from, type_at, types_of}
@@ -18,10 +19,18 @@ pub record IsAt (types : List CType) (k : ℕ) (c : CType) : Type 0 where
   pub there : k < length types
   pub is : type_at (types_of types) k ≡ type_after types c
 
--- Types may have been added at the end of the list, and nothing else has changed
+-- a type that is no struct or union
+abbrev pub IsPlain : CType → Type 0
+IsPlain (ctypes.Struct n ms) = ⊥
+IsPlain (ctypes.Union n ms) = ⊥
+IsPlain (ctypes.Incomplete n) = ⊥
+IsPlain c = Unit {0}
+
+-- Types that are no structs or unions may have been added at the end of the list, and nothing else has changed
 pub record AddsTypes (old new : Typed) : Type 0 where
   pub added : List CType
   pub types : new.types ≡ old.types ++ added
+  pub plain : All IsPlain added
   pub rest : new ≡ record old { types = new.types }
 
 -- a number of the new program names what the type is in the old one

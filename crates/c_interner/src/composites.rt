@@ -7,7 +7,7 @@ ghost use Rattle.c_tree.specs.Views.{type_from};
 ghost use Rattle.c_interner.specs.Heads.{built};
 ghost use Rattle.c_interner.specs.Known.{type_in, IsComposite, AreComposites, NamesComposites};
 ghost use Rattle.c_interner.specs.Levels.{parts_of, pair_composite, AreBelow};
-ghost use Rattle.c_interner.specs.Numbers.{AddsTypes, type_named};
+ghost use Rattle.c_interner.specs.Numbers.{IsPlain, AddsTypes, type_named};
 
 use crate::heads::Head;
 use crate::levels::{Level, level_at, parts_of};
@@ -40,7 +40,8 @@ fn composed_params(alloc: Global, made: &[u32], params: &[u32]) -> Result<Sequen
 
 /// The composite of two types, of the numbers of their parts' composites. None where it is the first type.
 fn composed(alloc: Global, c: &Level, d: &Level, made: &[u32]) -> Result<Option<CType>, NoMemory>
-    ensures { IfOk result (λ o. (go : ℕ → Ty) →
+    ensures plain { IfOk result (λ o. IfSome o IsPlain) }
+    ensures is { IfOk result (λ o. (go : ℕ → Ty) →
         map go made.now ≡ map (pair_composite go)
         (parts_of c.now.head c.now.params.items d.now.head d.now.params.items) →
         let t = composite (built c.now.head c.now.params.items go) (built d.now.head d.now.params.items go) in

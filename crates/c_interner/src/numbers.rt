@@ -1,10 +1,11 @@
 //! The types of a program by their numbers.
 
-ghost use Rattle.std.specs.Prelude.{◌≡◌, ℕ, ◌<◌, ◌++◌, [], ◌∷◌, length, slice_set, true, IfOk, OnOk, OnErr};
+ghost use Rattle.std.specs.Prelude.{◌≡◌, ℕ, ◌<◌, ◌++◌, [], ◌∷◌, length, slice_set, true, IfSome, IfOk, OnOk};
+ghost use Rattle.std.specs.Prelude.{OnErr};
 ghost use Rattle.c_tree.specs.Types.{Ty, composite};
 ghost use Rattle.c_tree.specs.Views.{type_from};
 ghost use Rattle.c_interner.specs.Heads.{built};
-ghost use Rattle.c_interner.specs.Numbers.{AddsTypes, IsAt, IsNumberOf, type_named};
+ghost use Rattle.c_interner.specs.Numbers.{IsPlain, AddsTypes, IsAt, IsNumberOf, type_named};
 
 use crate::composites::Composites;
 use crate::heads::{Head, head_of, params_of, stands_before};
@@ -125,25 +126,43 @@ impl Numbers {
         }
     }
 
-    /// The number of a type, which is added to the program if it has none. The numbers in it are those of types of the
-    /// program.
-    pub fn number_of(&mut self, p: &mut Typed, c: CType) -> Result<u32, NoMemory>
+    // The number that is known for a key, if it is that of the type.
+    fn look(&self, types: &[CType], key: &Key, c: &CType) -> Option<u32>
+        ensures { IfSome result (λ k. IsAt types.now k c.now) }
+    {
+        match self.known.get(key) {
+            Some(k) if is_at(types, *k, c) => Some(*k),
+            _ => None,
+        }
+    }
+
+    // Adds a type with this key to the program.
+    fn add(&mut self, p: &mut Typed, key: Key, c: CType) -> Result<u32, NoMemory>
+        requires { IsPlain c }
         ensures adds { AddsTypes p.old p.new }
         ensures ok { IfOk result (λ k. IsNumberOf p.old p.new k c) }
         ensures err { OnErr result (p.new ≡ p.old) }
     {
-        let key = key_of(self.alloc, head_of(&c), params_of(&c))?;
-        let known = self.known.get(&key).copied();
-        if let Some(k) = known {
-            if is_at(p.types.as_slice(), k, &c) {
-                return Ok(k);
-            }
-        }
         let k = next_number(p.types.as_slice())?;
         self.known.reserve(1)?;
         append(self.alloc, &mut p.types, c)?;
         self.known.insert(key, k)?;
         Ok(k)
+    }
+
+    /// The number of a type, which is added to the program if it has none. The numbers in it are those of types of the
+    /// program, and it is no struct or union.
+    pub fn number_of(&mut self, p: &mut Typed, c: CType) -> Result<u32, NoMemory>
+        requires { IsPlain c }
+        ensures adds { AddsTypes p.old p.new }
+        ensures ok { IfOk result (λ k. IsNumberOf p.old p.new k c) }
+        ensures err { OnErr result (p.new ≡ p.old) }
+    {
+        let key = key_of(self.alloc, head_of(&c), params_of(&c))?;
+        match self.look(p.types.as_slice(), &key, &c) {
+            Some(k) => Ok(k),
+            None => self.add(p, key, c),
+        }
     }
 
     /// The composite of two compatible types (C11 6.2.7p3). Types may have been added to the program, also for want of

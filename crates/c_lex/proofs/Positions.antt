@@ -144,3 +144,20 @@ place_moved file place moved n of_file within behind =
             ∙ ap (λ k. place_behind (take k file)) (sym long);
       },
     )
+
+-- what a small file has at a place
+pub place_part : (file : List ℕ) (place : Place) (n : ℕ) → length file ≤ 4_194_304 → IsPlaceOf file place →
+    n ≤ length (drop place.at file) →
+    (front : List ℕ) × (place ≡ place_behind front) ×
+    (length front + length (take n (drop place.at file)) ≤ 4_194_304)
+place_part file place n small of_file within = (
+  take place.at file,
+  of_file.is,
+  omega (
+    arith,
+    length-take-le place.at file of_file.within,
+    length-take-le n (drop place.at file) within,
+    length-drop place.at file,
+    of_file.within,
+  ),
+)

@@ -80,7 +80,7 @@ skipped_some (b ∷ bs) e =
     let hash : b ≡ 35 = eqb-true b 35 (and_true (b == 35) _ e).0 in
     subst (λ c. 1 ≤ line_length (c ∷ bs)) (sym hash) (line_some 35 bs refl)
 
-block_within : (bytes : List ℕ) (n : ℕ) → ClosesBehind (drop 2 bytes) n → n + 4 ≤ length bytes
+pub block_within : (bytes : List ℕ) (n : ℕ) → ClosesBehind (drop 2 bytes) n → n + 4 ≤ length bytes
 block_within bytes n closes =
     let two = two_long 42 47 (drop n (drop 2 bytes)) closes.here in
     omega (arith, length-drop n (drop 2 bytes), length-drop 2 bytes)

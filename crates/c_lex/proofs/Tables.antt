@@ -1,10 +1,15 @@
 -- What holds of a text in a table holds by a test of the table.
-use Rattle.std.proofs.Common.{◌≡◌, ℕ, ◌≤◌, Bool, true, false, ◌&&◌, ◌||◌, List, [], ◌∷◌, length, nat_le, refl, subst}
-use Rattle.std.proofs.Common.{◌⊎◌, inl, inr}
+use Rattle.std.proofs.Common.{◌≡◌, ℕ, ◌≤◌, Bool, true, false, ◌&&◌, ◌||◌, List, [], ◌∷◌, length, get_or, nat_le, refl}
+use Rattle.std.proofs.Common.{subst, ◌⊎◌, inl, inr}
 use Rattle.std.specs.List.{list_all}
 use Rattle.std.proofs.lemmas.Slice.Eq.{bytes_eq-Decides}
 use Rattle.std.proofs.lemmas.Bool.{leb-true}
-use Rattle.ck_base.specs.Tokens.{is_among, punctuators}
+use Rattle.ck_base.specs.Tokens.{is_among, punctuators, left_out}
+use Rattle.c_lex.specs.Fronts.{begins_left_out}
+
+pub never : (b : Bool) → b ≡ false → b ≡ true → ⊥
+never true e f = cc
+never false e f = cc
 
 pub or_true : (a b : Bool) → (a || b) ≡ true → (a ≡ true) ⊎ (b ≡ true)
 or_true true b e = inl refl
@@ -33,3 +38,14 @@ unfolding punctuators short
 punctuator_short text among =
     let fits = and_true (nat_le 1 (length text)) _ (among_passes short punctuators text refl among) in
     (leb-true 1 (length text) fits.0, leb-true (length text) 3 fits.1)
+
+-- what is left out has three bytes and more, and begins so
+fits_left_out : List ℕ → Bool
+fits_left_out text = nat_le 3 (length text) && begins_left_out (get_or text 0 0)
+
+pub left_out_fits : (text : List ℕ) → is_among left_out text ≡ true →
+    (3 ≤ length text) × (begins_left_out (get_or text 0 0) ≡ true)
+unfolding left_out fits_left_out begins_left_out
+left_out_fits text among =
+    let fits = and_true (nat_le 3 (length text)) _ (among_passes fits_left_out left_out text refl among) in
+    (leb-true 3 (length text) fits.0, fits.1)

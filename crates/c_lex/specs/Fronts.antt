@@ -1,6 +1,6 @@
 -- The tokens of one kind that some bytes begin with.
-use Rattle.std.specs.Prelude.{ℕ, ◌≤◌, if◌then◌else◌, ◌==◌, List, [], ◌∷◌, length, take, Option, MatchOption, IsTrue}
-use Rattle.std.specs.Prelude.{IsFalse}
+use Rattle.std.specs.Prelude.{ℕ, ◌≤◌, Bool, ◌||◌, if◌then◌else◌, ◌==◌, List, [], ◌∷◌, length, take, Option, MatchOption}
+use Rattle.std.specs.Prelude.{IsTrue, IsFalse}
 use Rattle.std.specs.Str.{byte}
 use Rattle.ck_base.specs.declared.tokens.TokenKind.{TokenKind}
 use Rattle.ck_base.specs.declared.tokens.TokenKind.TheVariants.{Word, Number, Char, Text, Punct}
@@ -35,3 +35,9 @@ MeasuresQuoted quote bytes found =
     MatchOption found
     ((n : ℕ) → n ≤ length bytes → IsFalse (is_quoted quote (take n bytes)))
     (λ n. (n ≤ length bytes) × IsTrue (is_quoted quote (take n bytes)))
+
+-- the bytes that begin a text which is left out
+unfoldable pub begins_left_out : ℕ → Bool
+begins_left_out b =
+    b == byte "." || (b == byte "_" || (b == byte "a" || (b == byte "d" || (b == byte "f" || (b == byte "g"
+    || b == byte "t")))))

@@ -8,6 +8,7 @@ ghost use Rattle.ck_base.specs.Tokens.{is_number_byte as number_byte, starts_num
 ghost use Rattle.ck_base.specs.Tokens.{punctuators, closes as closed, left_out, has_form};
 ghost use Rattle.ck_base.specs.Lexes.{IsLongest, BeginsNoToken};
 ghost use Rattle.c_lex.specs.Fronts.{beginning as kind_at, MeasuresFront, MeasuresQuoted};
+ghost use Rattle.c_lex.specs.Fronts.{begins_left_out as left_out_begins};
 
 use ck_base::TokenKind;
 
@@ -224,10 +225,21 @@ pub fn is_among(table: &[&[u8]], text: &[u8]) -> bool
     table.contains(&text)
 }
 
-// Whether the language leaves a word or punctuator out.
+// Whether a text of `LEFT_OUT` may begin with this byte.
+#[tactic(auto, unfolding(crate::specs::Fronts::begins_left_out))]
+fn begins_left_out(b: u8) -> bool
+    ensures { result ≡ left_out_begins b }
+{
+    b == b'.' || b == b'_' || b == b'a' || b == b'd' || b == b'f' || b == b'g' || b == b't'
+}
+
+// Whether the language leaves a word or punctuator out. Each of them has three bytes at least.
 #[tactic(auto, unfolding(ck_base::specs::Tokens::left_out))]
 pub fn is_left_out(text: &[u8]) -> bool
     ensures { result ≡ among left_out text.now }
 {
-    is_among(&LEFT_OUT, text)
+    match text {
+        [first, _, _, ..] if begins_left_out(*first) => is_among(&LEFT_OUT, text),
+        _ => false,
+    }
 }

@@ -264,7 +264,8 @@ pub fn is_string(text: &[u8]) -> bool
 /// it was.
 pub fn unescape(text: &[u8], into: &mut Vec<u8>) -> Result<(), NoMemory>
     requires { IsAccepted TokenKind.Text text.now }
-    ensures ok { OnOk result ((values : List ℕ) → IsString text.now values → into.new.items ≡ into.old.items ++ values) }
+    ensures ok { OnOk result
+        ((values : List ℕ) → IsString text.now values → into.new.items ≡ into.old.items ++ values) }
     ensures err { OnErr result (into.new.items ≡ into.old.items) }
 {
     let start = into.len();

@@ -12,7 +12,7 @@ use crate::separators::{Comment, Directive, comment_at, directive_at, is_blank, 
 use ck_base::TokenKind;
 
 // What stands at a place where no separator does.
-#[derive(Clone, Copy, Debug)]
+#[derive(Clone, Copy)]
 pub enum Found {
     // The end of the file.
     End,
@@ -23,7 +23,7 @@ pub enum Found {
 }
 
 // What stands at a place.
-#[derive(Clone, Copy, Debug)]
+#[derive(Clone, Copy)]
 pub enum Piece {
     // A blank, a comment or a directive line of this many bytes.
     Separator(usize),

@@ -7,7 +7,7 @@ use crate::separators::is_space;
 use ck_base::Pos;
 
 // How many bytes stand before it, its line and column, and whether only spaces and tabs stand before it on its line.
-#[derive(Clone, Copy, Debug)]
+#[derive(Clone, Copy)]
 pub struct Place {
     pub at: usize,
     pub pos: Pos,

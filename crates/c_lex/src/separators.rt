@@ -10,7 +10,7 @@ use crate::forms::word_length;
 use crate::literals::is_decimal;
 
 // What begins where a comment may.
-#[derive(Clone, Copy, Debug)]
+#[derive(Clone, Copy)]
 pub enum Comment {
     // A comment of this many bytes.
     Whole(usize),
@@ -21,7 +21,7 @@ pub enum Comment {
 }
 
 // What begins where a directive line may.
-#[derive(Clone, Copy, Debug)]
+#[derive(Clone, Copy)]
 pub enum Directive {
     // A line that is skipped.
     Skipped,

@@ -6,7 +6,7 @@ use ck_base::{Pos, Span, TokenKind};
 use std::marker::Model;
 
 /// A token, whose text is the file's slice of its span.
-#[derive(Clone, Copy, Debug)]
+#[derive(Clone, Copy)]
 pub struct Token<'a> {
     pub kind: TokenKind,
     pub span: Span,

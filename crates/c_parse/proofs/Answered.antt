@@ -12,9 +12,9 @@ use Rattle.c_parse.specs.declared.cursor.Stop.{Stop}
 use Rattle.c_parse.specs.declared.cursor.Stop.TheVariants.{NoMemory, NoTree}
 use Rattle.c_parse.specs.Reading
 use Rattle.c_parse.specs.Reading.{Names, Parsed, ParsedParts}
-use Rattle.c_parse.specs.Got.{Grows, Got, GotParts, Fails}
+use Rattle.c_parse.specs.Got.{Grows, Got, GotParts, Fails, Reads, rest_of}
 use Rattle.c_parse.specs.Runs.{grown}
-use Rattle.c_parse.proofs.Made.{grows_on}
+use Rattle.c_parse.proofs.Made.{grows_on, fails_same}
 use Rattle.c_parse.proofs.Productions.{grown_is, grown_none}
 
 pub got_same : {old new : Cursor} {read other : Parsed} {part : Part} → read ≡ other → Got old new other part →
@@ -65,6 +65,16 @@ pub read_at : (b h : ℕ) (goal : Goal) (types : Names) (ts : List Lexeme) → b
     Reading.read b goal types ts ≡ Reading.one_lower (Reading.read h) (suc h) goal types ts
 unfolding Reading.read
 read_at b h goal types ts e = ap (λ v. Reading.read v goal types ts) e
+
+-- what the function for a phrase answers, one lower
+pub reads_lower : (b h : ℕ) (goal other : Goal) (types : Names) (old new : Cursor) (result : Result Part Stop) →
+    goal ≡ other → b ≡ suc h →
+    Reads old new (Reading.one_lower (Reading.read h) (suc h) other types (rest_of old)) result →
+    Reads old new (Reading.read b goal types (rest_of old)) result
+reads_lower b h goal other types old new (Ok part) e f got =
+    got_same (ap (λ v. Reading.read b v types (rest_of old)) e ∙ read_at b h other types (rest_of old) f) got
+reads_lower b h goal other types old new (Err stop) e f fails =
+    fails_same stop (ap (λ v. Reading.read b v types (rest_of old)) e ∙ read_at b h other types (rest_of old) f) fails
 
 pub read_none : (b : ℕ) (goal : Goal) (types : Names) (ts : List Lexeme) → b ≡ 0 → Reading.read b goal types ts ≡ None
 unfolding Reading.read

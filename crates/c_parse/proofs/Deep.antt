@@ -83,7 +83,8 @@ deep_step now after t rest opened closed found on kept =
     turns now.opened now.closed (symbol t) ∙ ap (λ v. gap v (now.closed + closing (symbol t))) (sym opened)
     ∙ ap (λ v. gap after.opened v) (sym closed) in
     let later : Option Pos = excess_from (gap after.opened after.closed) rest in
-    let next : excess_from (gap now.opened now.closed) (t ∷ rest) ≡ (if int_eq (gap after.opened after.closed) (pos 201) then Some t.pos else later) =
+    let next : excess_from (gap now.opened now.closed) (t ∷ rest)
+    ≡ (if int_eq (gap after.opened after.closed) (pos 201) then Some t.pos else later) =
     ap (λ v. if int_eq v (pos 201) then Some t.pos else excess_from v rest) turned in
     by_deep now.deep after.deep (gap after.opened after.closed) t.pos later _ next
     (λ none e. found none (gap_is after.opened after.closed e))

@@ -1,6 +1,6 @@
 -- What steps pay for nodes, one behind the other.
-use Rattle.std.proofs.Common.{◌≡◌, ℕ, ◌+◌, ◌^◌, ◌≤◌, ◌<◌, true, List, ◌∷◌, length, Option}
-use Rattle.std.proofs.Common.{Some, None, ap, ◌∙◌, arith}
+use Rattle.std.proofs.Common.{◌≡◌, ℕ, ◌+◌, ◌^◌, ◌≤◌, ◌<◌, Bool, true, false, List, [], ◌∷◌, length, Option}
+use Rattle.std.proofs.Common.{Some, None, refl, ap, ◌∙◌, arith}
 use Rattle.std.specs.Prelude.{nat_le, IfSome}
 use Rattle.std.proofs.lemmas.Bool.{leb-true}
 use Rattle.ck_base.specs.Tokens.{Lexeme}
@@ -29,6 +29,20 @@ stayed a b n r = let m = ap length n in let k = ap length r in
 
 pub noded : (a b : Cursor) → length b.nodes.items ≡ length a.nodes.items + 1 → rest_of b ≡ rest_of a → Owed a b 1
 noded a b n r = let k = ap length r in record { room = omega arith; shorter = omega arith; grows = omega arith }
+
+pub took_maybe : (a b : Cursor) (r : Bool) → b.nodes.items ≡ a.nodes.items →
+    (r ≡ true → length (rest_of a) ≡ length (rest_of b) + 1) → (r ≡ false → rest_of b ≡ rest_of a) → Owed a b 0
+took_maybe a b true n s l =
+    let m = ap length n in let k = s refl in record { room = omega arith; shorter = omega arith; grows = omega arith }
+took_maybe a b false n s l = stayed a b n (l refl)
+
+shorter_past : (ts : List Lexeme) → length (past ts) ≤ length ts
+shorter_past [] = omega arith
+shorter_past (t ∷ ts) = omega arith
+
+pub passed : (a b : Cursor) → b.nodes.items ≡ a.nodes.items → rest_of b ≡ past (rest_of a) → Owed a b 0
+passed a b n r = let m = ap length n in let k = ap length r in let l = shorter_past (rest_of a) in
+    record { room = omega arith; shorter = omega arith; grows = omega arith }
 
 -- Two steps. The tests compute where the numbers are literals.
 

@@ -100,7 +100,9 @@ pieces_read [] = record { front = []; split = refl; derives = finished; low = om
 pieces_read {types} (t ∷ ts) = by (is_text (symbol t)) refl (pieces_read {types = types} ts)
   where
     by : (b : Bool) → is_text (symbol t) ≡ b → ReadsParts (Repeated types Piece) 1 ts (pieces ts).0 (pieces ts).1 →
-        let p : Syns × List Lexeme = (if b then (more (node Kinds.Text t nil) (pieces ts).0, (pieces ts).1) else (nil, t ∷ ts)) in ReadsParts (Repeated types Piece) 1 (t ∷ ts) p.0 p.1
+        let p : Syns × List Lexeme =
+        (if b then (more (node Kinds.Text t nil) (pieces ts).0, (pieces ts).1) else (nil, t ∷ ts)) in
+        ReadsParts (Repeated types Piece) 1 (t ∷ ts) p.0 p.1
     by true e inner =
         record {
           front = (t ∷ []) ++ inner.front;

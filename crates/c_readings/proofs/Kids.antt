@@ -14,7 +14,7 @@ use Rattle.c_tree.specs.Typing.{IsSpelled, AreSpelled, bytes_at}
 use Rattle.c_types.specs.Stands.{text_at}
 use Rattle.c_elaborator.specs.declared.work.Work.{Work}
 use Rattle.c_elaborator.specs.Answers.{Keeps}
-use Rattle.c_elaborator.specs.Parts.{TokenFits, IsWritten, AreWritten, IsPart, AreParts, HasPart}
+use Rattle.c_elaborator.specs.Parts.{TokenFits, PartsFit, IsWritten, AreWritten, IsPart, AreParts, HasPart}
 use Rattle.c_elaborator.specs.Parts.{HaveParts}
 use Rattle.c_readings.specs.Kids.{IsNode}
 
@@ -117,7 +117,7 @@ spelled_node : (f : List ℕ) (k : _) (t : Lexeme) (xs : Syns) → IsSpelled f (
 unfolding IsSpelled
 spelled_node f k t xs h = h
 
-written_node : (k : _) (t : Lexeme) (xs : Syns) → IsWritten (node k t xs) → TokenFits k t × AreWritten xs
+written_node : (k : _) (t : Lexeme) (xs : Syns) → IsWritten (node k t xs) → TokenFits k t × PartsFit k xs × AreWritten xs
 unfolding IsWritten
 written_node k t xs h = h
 
@@ -170,6 +170,7 @@ opened w k x n p g =
         span = m.4;
         text = s.0 ∙ text_is w.file.now m.0 ∙ ap (text_at w.file.now) m.4;
         fits = r.0;
-        parts = record { stand = m.5; spelled = s.1; written = r.1 };
+        kinds = r.1;
+        parts = record { stand = m.5; spelled = s.1; written = r.2 };
       };
     }

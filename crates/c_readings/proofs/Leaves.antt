@@ -15,7 +15,7 @@ use Rattle.c_tree.specs.declared.syntax.NodeKind.TheVariants as Kinds
 use Rattle.c_tree.specs.Syntax.{Syns}
 use Rattle.c_tree.specs.Expressions.{number, character, text}
 use Rattle.c_elaborator.specs.declared.work.Work.{Work}
-use Rattle.c_elaborator.specs.Parts.{TokenFits, token_of}
+use Rattle.c_elaborator.specs.Parts.{TokenFits, PartsFit, AreParts, HaveTexts, token_of}
 use Rattle.c_readings.specs.Kids.{HasNode, IsNode, name_of}
 
 -- the token, but for its kind
@@ -72,6 +72,13 @@ pub fits_text : (w : Work) (n : Node) (m : Name) → m ≡ name_of n → n.kind 
 fits_text w n m e k h = subst (λ (x : List ℕ). IsAccepted Text x)
     (h.is.text ∙ ap (λ (z : Name). text_at w.file.now z.span) (sym e))
     (subst (λ (d : NodeKind). TokenFits d h.token) k h.is.fits)
+
+pub texts_of : (w : Work) (n : Node) (ks : List ℕ) → n.kind ≡ Kinds.Text → ks ≡ n.kids → HasNode w n → HaveTexts w ks
+texts_of w n ks k e h = record {
+  syntax = h.syntax;
+  are = subst (λ (z : List ℕ). AreParts w z h.syntax) (sym e) h.is.parts;
+  texts = subst (λ (d : NodeKind). PartsFit d h.syntax) k h.is.kinds;
+}
 
 -- tokens of nodes that are words
 pub tag_is : (w : Work) (n : Node) (t : Lexeme) (xs : Syns) → IsNode w n t xs → n.kind ≡ Kinds.Tag →

@@ -1,6 +1,7 @@
 -- Structs, unions and enumerations, by the tag that stands first (C11 6.7.2.1 to 6.7.2.3).
 use Rattle.std.proofs.Common.{◌≡◌, ℕ, suc, List, [], ◌∷◌, length, Bool, true, Option, Some, None, Result, Ok, Err, refl}
 use Rattle.std.proofs.Common.{sym, ap, subst, ◌∙◌}
+use Rattle.std.proofs.lemmas.Option.{none-some}
 use Rattle.std.specs.Prelude.{slice_get, pos}
 use Rattle.ck_base.specs.declared.positions.Pos.{Pos}
 use Rattle.ck_base.specs.Tokens.{Lexeme}
@@ -95,7 +96,7 @@ record_tagged k alone t n p xs s e h = at xs h ∙ ap (λ (q : Pos). tagged_reco
 
     at : (xs : Syns) → tag_of xs ≡ Some n →
         record_specifier k alone t xs (readings xs) s ≡ tagged_record k alone n (readings (tail_of xs)) t.pos s
-    at nil h = absurd cc
+    at nil h = absurd (none-some n h)
     at (more (node Kinds.Tag m ys) nil) h =
         alone_is m ys (readings (more (node Kinds.Tag m ys) nil)) (readings nil) (same m n h) readings_nil
     at (more (node Kinds.Tag m ys) (more x xs)) h =
@@ -103,7 +104,7 @@ record_tagged k alone t n p xs s e h = at xs h ∙ ap (λ (q : Pos). tagged_reco
         (readings_more (node Kinds.Tag m ys) (more x xs))
         ∙ behind_is m ys x xs (reading (node Kinds.Tag m ys)) (reading x) (readings xs) (readings (more x xs))
         (same m n h) (readings_more x xs)
-    at (more (node j m ys) xs) h = absurd cc
+    at (more (node j m ys) xs) h = absurd (none-some n h)
 
 -- ---- enumerations
 
@@ -137,7 +138,7 @@ enum_tagged n xs s h = at xs h
 
     at : (xs : Syns) → tag_of xs ≡ Some n →
         enum_specifier xs (readings xs) s ≡ tagged_enumeration n (readings (tail_of xs)) s
-    at nil h = absurd cc
+    at nil h = absurd (none-some n h)
     at (more (node Kinds.Tag m ys) nil) h =
         alone_is m ys (readings (more (node Kinds.Tag m ys) nil)) (readings nil) (same m n h) readings_nil
     at (more (node Kinds.Tag m ys) (more x xs)) h =
@@ -145,7 +146,7 @@ enum_tagged n xs s h = at xs h
         (readings_more (node Kinds.Tag m ys) (more x xs))
         ∙ behind_is m ys x xs (reading (node Kinds.Tag m ys)) (reading x) (readings xs) (readings (more x xs))
         (same m n h) (readings_more x xs)
-    at (more (node j m ys) xs) h = absurd cc
+    at (more (node j m ys) xs) h = absurd (none-some n h)
 
 -- ---- a tag with parts behind it
 

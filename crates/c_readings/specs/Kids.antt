@@ -9,7 +9,7 @@ use Rattle.c_types.specs.Stands.{text_at}
 use Rattle.c_elaborator.specs.declared.work.Work.{Work}
 use Rattle.c_elaborator.specs.declared.work.Name.{Name}
 use Rattle.c_readings.specs.declared.tree.TagParts.{TagParts}
-use Rattle.c_elaborator.specs.Parts.{TokenFits, AreParts, token_of}
+use Rattle.c_elaborator.specs.Parts.{TokenFits, PartsFit, AreParts, token_of}
 
 abbrev pub name_of : Node → Name
 name_of n = record { span = n.text; pos = n.pos }
@@ -20,6 +20,7 @@ pub record IsNode (w : Work) (n : Node) (t : Lexeme) (xs : Syns) : Type 0 where
   pub span : t.span ≡ n.text
   pub text : t.text ≡ text_at w.file.now n.text
   pub fits : TokenFits n.kind t
+  pub kinds : PartsFit n.kind xs
   pub parts : AreParts w n.kids xs
 
 -- a node is some part's

@@ -28,6 +28,16 @@ pub record PartsWithin (w : Work) (limit : ℕ) (ks : List ℕ) : Type 0 where
   pub are : AreParts w ks syntax
   pub within : depths syntax ≤ limit
 
+-- of that part this holds
+pub record PartThat (Is : Syn → Type 0) (w : Work) (limit k : ℕ) : Type 0 where
+  pub part : PartWithin w limit k
+  pub has : Is part.syntax
+
+-- of those parts this holds
+pub record PartsThat (Are : Syns → Type 0) (w : Work) (limit : ℕ) (ks : List ℕ) : Type 0 where
+  pub parts : PartsWithin w limit ks
+  pub have : Are parts.syntax
+
 -- a node is some part's, whose own parts go at most so deep
 pub record NodeWithin (w : Work) (limit : ℕ) (n : Node) : Type 0 where
   pub token : Lexeme

@@ -20,12 +20,12 @@ ghost use Rattle.c_expressions.specs.Nodes.{IsWhole};
 ghost use Rattle.c_elaborator.specs.Answers.{Answers, quietly, OperandThere, IsOperand, TypeThere, IsType};
 ghost use Rattle.c_elaborator.specs.Answers.{NothingThere};
 ghost use Rattle.c_elaborator.specs.Answers.{IsNothing};
-ghost use Rattle.c_elaborator.specs.Parts.{IsPart, AreParts, token_of};
+ghost use Rattle.c_elaborator.specs.Parts.{IsPart, AreParts, token_of, IsOf, AreOf, AreEnumerators, HasParameters};
 ghost use Rattle.c_declarators.specs.Parts.{in_any, SpecifiedThere, IsSpecified, ConstantThere, IsConstant};
 ghost use Rattle.c_declarators.specs.Parts.{NumberThere, IsNumber, AreMembers, AllMembersThere, AreAllMembers};
 ghost use Rattle.c_declarators.specs.Parts.{ParamThere, IsParam, DerivedThere, ShowsDerived, CountThere, IsCount};
 ghost use Rattle.c_readings.specs.Kids.{HasNode, IsNode};
-ghost use Rattle.c_readings.specs.Within.{PartWithin, PartsWithin};
+ghost use Rattle.c_readings.specs.Within.{PartWithin, PartsWithin, PartThat, PartsThat, NodeWithin};
 ghost use Rattle.c_readings.specs.Gathered.{operand_of, type_of, one_operand, one_value, one_type, both, two_values};
 ghost use Rattle.c_readings.specs.Gathered.{place_and_value, three_values, type_and_value, assigning, two_in};
 ghost use Rattle.c_readings.specs.Gathered.{PairThere};
@@ -846,7 +846,7 @@ pub fn type_of(work: &mut Work<'_>, k: u32, alone: bool, depth: u32) -> Result<u
 #[cycle(parts)]
 fn type_of_node(work: &mut Work<'_>, node: &Node, alone: bool, depth: u32) -> Result<u32, Refusal>
     requires whole { IsWhole work.old.nodes }
-    requires parts { PartsWithin work.old depth node.now.kids }
+    requires node { NodeWithin work.old depth node.now }
     ensures { (t : Lexeme) (xs : Syns) → IsNode work.old node.now t xs →
         Answers quietly work.old work.new (type_of_kind node.now.kind t xs (readings xs) alone) TypeThere IsType
         result }
@@ -1080,7 +1080,7 @@ fn member_declarator<'a>(
 #[cycle(parts)]
 fn enum_specifier(work: &mut Work<'_>, kids: &[u32], depth: u32) -> Result<u32, Refusal>
     requires whole { IsWhole work.old.nodes }
-    requires parts { PartsWithin work.old depth kids.now }
+    requires parts { PartsThat AreEnumerators work.old depth kids.now }
     ensures { (xs : Syns) → AreParts work.old kids.now xs →
         Answers quietly work.old work.new (enum_specifier xs (readings xs)) TypeThere IsType result }
 {
@@ -1100,7 +1100,7 @@ fn tagged_enumeration(
     depth: u32,
 ) -> Result<u32, Refusal>
     requires whole { IsWhole work.old.nodes }
-    requires parts { PartsWithin work.old depth list.now }
+    requires parts { PartsThat (AreOf kinds.Enumerator) work.old depth list.now }
     ensures { (xs : Syns) → AreParts work.old list.now xs →
         Answers quietly work.old work.new (tagged_enumeration (token_of work.old name) (readings xs)) TypeThere IsType
         result }
@@ -1116,7 +1116,7 @@ fn tagged_enumeration(
 #[cycle(parts)]
 fn listed(work: &mut Work<'_>, kids: &[u32], depth: u32) -> Result<u32, Refusal>
     requires whole { IsWhole work.old.nodes }
-    requires parts { PartsWithin work.old depth kids.now }
+    requires parts { PartsThat (AreOf kinds.Enumerator) work.old depth kids.now }
     ensures { (xs : Syns) → AreParts work.old kids.now xs →
         Answers quietly work.old work.new (listed (readings xs)) TypeThere IsType result }
 {
@@ -1127,7 +1127,7 @@ fn listed(work: &mut Work<'_>, kids: &[u32], depth: u32) -> Result<u32, Refusal>
 #[cycle(parts)]
 fn enumerators(work: &mut Work<'_>, kids: &[u32], depth: u32) -> Result<(), Refusal>
     requires whole { IsWhole work.old.nodes }
-    requires parts { PartsWithin work.old depth kids.now }
+    requires parts { PartsThat (AreOf kinds.Enumerator) work.old depth kids.now }
     ensures { (xs : Syns) → AreParts work.old kids.now xs →
         Answers quietly work.old work.new (enumerators (readings xs) (pos 0)) NothingThere IsNothing result }
 {
@@ -1144,17 +1144,12 @@ fn enumerators(work: &mut Work<'_>, kids: &[u32], depth: u32) -> Result<(), Refu
 #[cycle(parts)]
 fn enumerator(work: &mut Work<'_>, k: u32, next: i128, depth: u32) -> Result<i128, Refusal>
     requires whole { IsWhole work.old.nodes }
-    requires part { PartWithin work.old depth k }
+    requires part { PartThat (IsOf kinds.Enumerator) work.old depth k }
     ensures { (x : Syn) → IsPart work.old k x →
         Answers quietly work.old work.new ((reading x).enumerator next) NumberThere (in_any IsNumber) result }
 {
     let node = node_at(work, k);
-    match node.kind {
-        NodeKind::Enumerator => {
-            valued(work, name_of(node), node.kids.as_slice(), next, depth - 1)
-        }
-        _ => Err(Refusal::NoMemory),
-    }
+    valued(work, name_of(node), node.kids.as_slice(), next, depth - 1)
 }
 
 #[cycle(parts)]
@@ -1198,7 +1193,7 @@ pub fn derived<'a>(work: &mut Work<'a>, k: u32, depth: u32) -> Result<Derived<'a
 #[cycle(parts)]
 fn declarator<'a>(work: &mut Work<'a>, node: &Node, depth: u32) -> Result<Derived<'a>, Refusal>
     requires whole { IsWhole work.old.nodes }
-    requires parts { PartsWithin work.old depth node.now.kids }
+    requires node { NodeWithin work.old depth node.now }
     ensures { (t : Lexeme) (xs : Syns) → IsNode work.old node.now t xs →
         Answers quietly work.old work.new (declarator_of node.now.kind t xs (readings xs)) DerivedThere ShowsDerived
         result }
@@ -1344,7 +1339,7 @@ fn function<'a>(
     depth: u32,
 ) -> Result<Derived<'a>, Refusal>
     requires whole { IsWhole work.old.nodes }
-    requires parts { PartsWithin work.old depth kids.now }
+    requires parts { PartsThat HasParameters work.old depth kids.now }
     ensures { (t : Lexeme) (xs : Syns) → t.pos ≡ pos → AreParts work.old kids.now xs →
         Answers quietly work.old work.new (declarator_of kinds.Function t xs (readings xs)) DerivedThere ShowsDerived
         result }
@@ -1365,7 +1360,7 @@ fn function_with<'a>(
 ) -> Result<Derived<'a>, Refusal>
     requires whole { IsWhole work.old.nodes }
     requires parts { PartsWithin work.old depth before.now }
-    requires parameters { PartWithin work.old depth parameters }
+    requires parameters { PartThat (IsOf kinds.Parameters) work.old depth parameters }
     ensures { (xs : Syns) (y : Syn) → AreParts work.old before.now xs → IsPart work.old parameters y →
         Answers quietly work.old work.new (function_of (readings xs) (reading y)) DerivedThere ShowsDerived result }
 {
@@ -1381,7 +1376,7 @@ fn function_with<'a>(
 #[cycle(parts)]
 fn prototype<'a>(work: &mut Work<'a>, k: u32, depth: u32) -> Result<Prototype<'a>, Refusal>
     requires whole { IsWhole work.old.nodes }
-    requires part { PartWithin work.old depth k }
+    requires part { PartThat (IsOf kinds.Parameters) work.old depth k }
     ensures { (x : Syn) → IsPart work.old k x →
         Answers quietly work.old work.new (reading x).prototype PrototypeThere ShowsPrototype result }
 {
@@ -1396,7 +1391,7 @@ fn prototype<'a>(work: &mut Work<'a>, k: u32, depth: u32) -> Result<Prototype<'a
 #[cycle(parts)]
 fn parameter_list(work: &mut Work<'_>, kids: &[u32], depth: u32) -> Result<Vec<Param>, Refusal>
     requires whole { IsWhole work.old.nodes }
-    requires parts { PartsWithin work.old depth kids.now }
+    requires parts { PartsThat (AreOf kinds.Parameter) work.old depth kids.now }
     ensures { (xs : Syns) → AreParts work.old kids.now xs →
         Answers quietly work.old work.new (parameter_list 0 (length (readings xs) == 1) (readings xs)) ParamsThere
         AreParams result }
@@ -1419,17 +1414,12 @@ fn parameter_list(work: &mut Work<'_>, kids: &[u32], depth: u32) -> Result<Vec<P
 #[cycle(parts)]
 fn parameter(work: &mut Work<'_>, k: u32, only: bool, depth: u32) -> Result<Param, Refusal>
     requires whole { IsWhole work.old.nodes }
-    requires part { PartWithin work.old depth k }
+    requires part { PartThat (IsOf kinds.Parameter) work.old depth k }
     ensures { (x : Syn) → IsPart work.old k x →
         Answers quietly work.old work.new ((reading x).parameter only) ParamThere (in_any IsParam) result }
 {
     let node = node_at(work, k);
-    match node.kind {
-        NodeKind::Parameter => {
-            parameter_at(work, name_of(node), node.kids.as_slice(), only, depth - 1)
-        }
-        _ => Err(Refusal::NoMemory),
-    }
+    parameter_at(work, name_of(node), node.kids.as_slice(), only, depth - 1)
 }
 
 #[cycle(parts)]

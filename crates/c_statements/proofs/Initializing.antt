@@ -29,7 +29,6 @@ use Rattle.c_elaborator.specs.Work.{Shows}
 use Rattle.c_elaborator.specs.Answers.{Keeps, freely, quietly, Done, Answers, action_in, action_count, NothingThere}
 use Rattle.c_elaborator.specs.Answers.{IsNothing}
 use Rattle.c_elaborator.specs.Parts.{IsPart, token_of}
-use Rattle.c_elaborator.specs.Rules.{IsObjectType}
 use Rattle.c_elaborator.proofs.Sequencing.{free_law, answers_at, then, also_then, failed, freed, gave, keeps_then}
 use Rattle.c_initializers.specs.declared.slots.Slot.{Slot}
 use Rattle.c_initializers.specs.declared.slots.Filled.{Filled}
@@ -224,16 +223,19 @@ starting u of r p = r.initializer is_start p (type_in u.nodes of) 0
 abbrev after_start : ℕ → Pos → meant.Filled → Doing meant.Items
 after_start k p f = static_filled k p f >> give no_items
 
-static_is : (u : Work) (k : ℕ) (name : Name) (of : ℕ) (r : Reading) (p : Pos) → IsObjectType u k of → (s : State) →
+-- the number names the type of an object, or void where there is none
+abbrev IsStatic : Work → ℕ → ℕ → Type 0
+IsStatic u k of = (s : State) → Shows u s → type_in u.nodes of ≡ static_of (slice_get s.statics k)
+
+static_is : (u : Work) (k : ℕ) (name : Name) (of : ℕ) (r : Reading) (p : Pos) → IsStatic u k of → (s : State) →
     Shows u s → fills_static k (token_of u name) r p s ≡ (starting u of r p >>= after_start k name.pos) s
 static_is u k name of r p i s h =
-    let g = i s h in
-    let e : static_of (slice_get s.statics k) ≡ type_in u.nodes of = ap static_of g.1 ∙ sym g.2 in
+    let e : static_of (slice_get s.statics k) ≡ type_in u.nodes of = sym (i s h) in
     ap (λ (t : Ty). ((r.initializer is_start p t 0 >>= static_filled k name.pos) >> give no_items) s) e
     ∙ then_there (starting u of r p) (static_filled k name.pos) (λ a. give no_items) s
 
 pub static_unfilled : (u v z : Work) (k : ℕ) (name : Name) (of : ℕ) (r : Reading) (p : Pos) (e : Refusal) →
-    IsObjectType u k of → Answers quietly u v (starting u of r p) FilledThere IsFilled (Err e) →
+    IsStatic u k of → Answers quietly u v (starting u of r p) FilledThere IsFilled (Err e) →
     Answers freely u z (fills_static k (token_of u name) r p) ItemsThere IsItems (Err e)
 static_unfilled u v z k name of r p e i a =
     let d = starting u of r p in
@@ -243,7 +245,7 @@ static_unfilled u v z k name of r p e i a =
     (freed u v d FilledThere IsFilled (Err e) a))
 
 pub static_incomplete : (u v w z : Work) (k : ℕ) (name : Name) (of : ℕ) (r : Reading) (p : Pos) (filled : Filled)
-    (e : Refusal) → IsObjectType u k of →
+    (e : Refusal) → IsStatic u k of →
     Done quietly u v (starting u of r p) (FilledThere v filled) (IsFilled v filled) →
     Answers freely v w (static_filled k name.pos (filled_in v.nodes filled)) NothingThere IsNothing (Err e) →
     Answers freely u z (fills_static k (token_of u name) r p) ItemsThere IsItems (Err e)
@@ -268,7 +270,7 @@ nothing_given w i h e f =
     (gave freely free_law w no_items (ItemsThere w i) h there)
 
 pub static_filled_so : (u v w : Work) (k : ℕ) (name : Name) (of : ℕ) (r : Reading) (p : Pos) (filled : Filled)
-    (i : Items) → IsObjectType u k of →
+    (i : Items) → IsStatic u k of →
     Done quietly u v (starting u of r p) (FilledThere v filled) (IsFilled v filled) →
     Done freely v w (static_filled k name.pos (filled_in v.nodes filled)) (Unit {0}) (λ s a. Unit {0}) →
     i.vars.items ≡ [] → i.actions.items ≡ [] →

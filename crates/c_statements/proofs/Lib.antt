@@ -11,6 +11,7 @@ pub mod Lifting
 pub mod Listing
 pub mod Meaning
 pub mod Named
+pub mod Only
 pub mod Parting
 pub mod Placing
 pub mod Plain

@@ -14,7 +14,7 @@ use Rattle.c_elaborator.specs.Work.{Shows}
 use Rattle.c_elaborator.specs.Answers.{Way, Answers, freely}
 use Rattle.c_elaborator.specs.Parts.{IsPart, AreParts}
 use Rattle.c_readings.specs.Kids.{HasNot}
-use Rattle.c_elaborator.specs.Items.{ItemsThere, IsItems}
+use Rattle.c_elaborator.specs.Items.{OnlyThere, IsItems}
 use Rattle.c_elaborator.specs.declared.items.Items.{Items}
 use Rattle.c_statements.specs.Statements.{for_in, for_with, switch_in, switch_with, case_of}
 use Rattle.c_readings.specs.Within.{PartWithin, PartsWithin}
@@ -44,9 +44,9 @@ for_refused w ks c p h xs a s t =
 pub for_answers : (u v : Work) (ks : List ℕ) (i j k l : ℕ) (c : meant.Context) (p : Pos) (r : Result Items Refusal) →
     ks ≡ i ∷ j ∷ k ∷ l ∷ [] →
     ((x1 x2 x3 x4 : Syn) → IsPart u i x1 → IsPart u j x2 → IsPart u k x3 → IsPart u l x4 →
-    Answers freely u v (for_with c p x1 x2 x3 (reading x1) (reading x2) (reading x3) (reading x4)) ItemsThere
+    Answers freely u v (for_with c p x1 x2 x3 (reading x1) (reading x2) (reading x3) (reading x4)) OnlyThere
     IsItems r) →
-    (xs : Syns) → AreParts u ks xs → Answers freely u v (for_in c p xs (readings xs)) ItemsThere IsItems r
+    (xs : Syns) → AreParts u ks xs → Answers freely u v (for_in c p xs (readings xs)) OnlyThere IsItems r
 for_answers u v ks i j k l c p r e h xs q =
     let m1 = cut u i (j ∷ k ∷ l ∷ []) xs (subst (λ (z : List ℕ). AreParts u z xs) e q) in
     let m2 = cut u j (k ∷ l ∷ []) m1.tail m1.others in
@@ -61,9 +61,9 @@ for_answers u v ks i j k l c p r e h xs q =
     ∙ ap (λ (z : List Reading). reading m2.head ∷ z) (readings_more m3.head (more m4.head nil)
     ∙ ap (λ (z : List Reading). reading m3.head ∷ z)
     (readings_more m4.head nil ∙ ap (λ (z : List Reading). reading m4.head ∷ z) readings_nil))) in
-    subst (λ (ys : Syns). Answers freely u v (for_in c p ys (readings ys)) ItemsThere IsItems r) (sym is)
+    subst (λ (ys : Syns). Answers freely u v (for_in c p ys (readings ys)) OnlyThere IsItems r) (sym is)
     (subst (λ (rs : List Reading). Answers freely u v
-    (for_in c p (more m1.head (more m2.head (more m3.head (more m4.head nil)))) rs) ItemsThere IsItems r)
+    (for_in c p (more m1.head (more m2.head (more m3.head (more m4.head nil)))) rs) OnlyThere IsItems r)
     (sym read)
     (h m1.head m2.head m3.head m4.head m1.first m2.first m3.first m4.first))
 
@@ -89,12 +89,12 @@ switch_refused w ks c p e xs a s t =
 pub switch_answers : (u v : Work) (ks : List ℕ) (k : ℕ) (others : List ℕ) (c : meant.Context) (p : Pos)
     (r : Result Items Refusal) → ks ≡ k ∷ others →
     ((x : Syn) (xs : Syns) → IsPart u k x → AreParts u others xs →
-    Answers freely u v (switch_with c p xs (reading x) (readings xs)) ItemsThere IsItems r) → (xs : Syns) →
-    AreParts u ks xs → Answers freely u v (switch_in c p xs (readings xs)) ItemsThere IsItems r
+    Answers freely u v (switch_with c p xs (reading x) (readings xs)) OnlyThere IsItems r) → (xs : Syns) →
+    AreParts u ks xs → Answers freely u v (switch_in c p xs (readings xs)) OnlyThere IsItems r
 switch_answers u v ks k others c p r e h xs q =
     let m = cut u k others xs (subst (λ (z : List ℕ). AreParts u z xs) e q) in
-    subst (λ (ys : Syns). Answers freely u v (switch_in c p ys (readings ys)) ItemsThere IsItems r) (sym m.is)
-    (subst (λ (rs : List Reading). Answers freely u v (switch_in c p (more m.head m.tail) rs) ItemsThere IsItems r)
+    subst (λ (ys : Syns). Answers freely u v (switch_in c p ys (readings ys)) OnlyThere IsItems r) (sym m.is)
+    (subst (λ (rs : List Reading). Answers freely u v (switch_in c p (more m.head m.tail) rs) OnlyThere IsItems r)
     (sym (readings_more m.head m.tail)) (h m.head m.tail m.first m.others))
 
 -- ---- the first part, if there is one

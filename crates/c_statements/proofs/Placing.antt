@@ -4,7 +4,6 @@ use Rattle.ck_base.specs.declared.positions.Pos.{Pos}
 use Rattle.ck_base.specs.declared.refusal.Refusal.{Refusal}
 use Rattle.ck_base.specs.Tokens.{Lexeme}
 use Rattle.c_tree.specs.Syntax.{Syns}
-use Rattle.c_tree.specs.declared.syntax.NodeKind.{NodeKind}
 use Rattle.c_tree.specs.declared.syntax.Node.{Node}
 use Rattle.c_tree.specs.Readings as meant
 use Rattle.c_tree.specs.Scopes.{State, Doing}
@@ -15,7 +14,7 @@ use Rattle.c_readings.specs.Kids.{IsNode}
 use Rattle.c_readings.specs.Within.{NodeWithin}
 use Rattle.c_readings.proofs.Kids.{parts_kept}
 use Rattle.c_elaborator.specs.declared.items.Items.{Items}
-use Rattle.c_elaborator.specs.Items.{ItemsThere, IsItems}
+use Rattle.c_elaborator.specs.Items.{IsItems}
 
 pub node_kept : (u v : Work) (n : Node) (t : Lexeme) (xs : Syns) → Keeps u v → IsNode u n t xs → IsNode v n t xs
 node_kept u v n t xs k h =
@@ -24,6 +23,7 @@ node_kept u v n t xs k h =
       span = h.span;
       text = subst (λ (f : List ℕ). t.text ≡ text_at f n.text) (sym k.file) h.text;
       fits = h.fits;
+      kinds = h.kinds;
       parts =
           parts_kept u v n.kids xs k h.parts;
     }
@@ -34,13 +34,10 @@ node_within_kept u v n k h =
 
 -- ---- a construct, by its kind and at its place
 
-pub of_kind : (u w : Work) (d : NodeKind → Doing meant.Items) (k j : NodeKind) (r : Result Items Refusal) → k ≡ j →
-    Answers freely u w (d j) ItemsThere IsItems r → Answers freely u w (d k) ItemsThere IsItems r
-of_kind u w d k j r e a = subst (λ (i : NodeKind). Answers freely u w (d i) ItemsThere IsItems r) (sym e) a
-
-pub at_place : (u w : Work) (d : Pos → Doing meant.Items) (q p : Pos) (r : Result Items Refusal) → q ≡ p →
-    Answers freely u w (d p) ItemsThere IsItems r → Answers freely u w (d q) ItemsThere IsItems r
-at_place u w d q p r e a = subst (λ (i : Pos). Answers freely u w (d i) ItemsThere IsItems r) (sym e) a
+pub at_place : (u w : Work) (d : Pos → Doing meant.Items) (There : Work → Items → Type 0) (q p : Pos)
+    (r : Result Items Refusal) → q ≡ p → Answers freely u w (d p) There IsItems r →
+    Answers freely u w (d q) There IsItems r
+at_place u w d There q p r e a = subst (λ (i : Pos). Answers freely u w (d i) There IsItems r) (sym e) a
 
 -- the same of what is the same
 pub at_same : {A E X : Type 0} (y : Way) (u v : Work) (f : E → Doing A) (There : Work → X → Type 0)

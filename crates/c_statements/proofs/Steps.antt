@@ -42,7 +42,7 @@ use Rattle.c_elaborator.specs.declared.items.Items.{Items}
 use Rattle.c_statements.specs.declared.heads.Head.{Head}
 use Rattle.c_statements.specs.declared.labels.Cases.{Cases}
 use Rattle.c_statements.specs.declared.labels.Controlling.{Controlling}
-use Rattle.c_elaborator.specs.Items.{ValuesThere, ActionThere, ActionsThere, IsOnlyAction, ItemsThere, IsItems}
+use Rattle.c_elaborator.specs.Items.{ValuesThere, ActionThere, ActionsThere, IsOnlyAction, ItemsThere, OnlyThere, IsItems}
 use Rattle.c_elaborator.specs.Items.{items_in}
 use Rattle.c_statements.specs.Statements.{evaluate_one, IsJump, jump_form, jumping, switched, return_one, MaybeThere}
 use Rattle.c_statements.specs.Statements.{IsMaybe, maybe_term, HeadThere, IsHead, head_in, ForHead, for_of, SwitchedOn}
@@ -52,15 +52,15 @@ use Rattle.c_elaborator.proofs.Going.{none_there, one_there, then_from, items_ke
 
 -- the statement of a kind is added to this work
 abbrev pub Adds : Work → Work → StmtKind → Pos → Result Items Refusal → Type 0
-Adds v w k p r = Answers freely v w (give (one_action (kind_action (terms_of v.nodes.p) k p (action_in v)))) ItemsThere
+Adds v w k p r = Answers freely v w (give (one_action (kind_action (terms_of v.nodes.p) k p (action_in v)))) OnlyThere
     IsItems r
 
 pub evaluates : (u v w : Work) (r : Reading) (p : Pos) (a : Operand) (z : Result Items Refusal) →
     Done quietly u v (read_value r) (OperandThere v a) (IsOperand v a) → Adds v w (stmts.Expr a.node) p z →
-    Answers freely u w (evaluate_one r p) ItemsThere IsItems z
+    Answers freely u w (evaluate_one r p) OnlyThere IsItems z
 evaluates u v w r p a z h k =
     and_then freely free_law u v w (read_value r) (λ x. does Evaluate (one_term x.is) no_actions p) (operand_in v a)
-    (OperandThere v a) ItemsThere IsItems z (freed u v (read_value r) OperandThere IsOperand (Ok a) h) k
+    (OperandThere v a) OnlyThere IsItems z (freed u v (read_value r) OperandThere IsOperand (Ok a) h) k
 
 pub same_block : (u w : Work) (xs ys fs gs : List ℕ) (p : Pos) (r : Result Items Refusal) → xs ≡ ys → fs ≡ gs →
     Adds u w (stmts.Block xs fs) p r → Adds u w (stmts.Block ys gs) p r
@@ -71,22 +71,22 @@ same_block u w xs ys fs gs p r e h a =
 pub blocks : (u v w : Work) (c : meant.Context) (rs : List Reading) (p : Pos) (i : Items) (z : Result Items Refusal) →
     Done freely u v (all_items c rs) (ItemsThere v i) (IsItems v i) →
     Adds v w (stmts.Block i.vars.items i.actions.items) p z →
-    Answers freely u w (all_items c rs >>= λ i. give (one_action (block_action i p))) ItemsThere IsItems z
+    Answers freely u w (all_items c rs >>= λ i. give (one_action (block_action i p))) OnlyThere IsItems z
 blocks u v w c rs p i z h k =
     and_then freely free_law u v w (all_items c rs) (λ i. give (one_action (block_action i p))) (items_in v i)
-    (ItemsThere v i) ItemsThere IsItems z h k
+    (ItemsThere v i) OnlyThere IsItems z h k
 
 pub ifs : (u v w x : Work) (c : meant.Context) (r q : Reading) (p : Pos) (a b : ℕ) (z : Result Items Refusal) →
     Done quietly u v (test r) (TermThere v a) (IsTerm v a) →
     Done freely v w (substatement c q) (ActionThere w b) (IsOnlyAction w b) → Adds w x (stmts.If a b None) p z →
-    Answers freely u x (test r >>= λ t. substatement c q >>= λ y. does If (one_term t) (actions y) p) ItemsThere IsItems
+    Answers freely u x (test r >>= λ t. substatement c q >>= λ y. does If (one_term t) (actions y) p) OnlyThere IsItems
     z
 ifs u v w x c r q p a b z h k d =
     and_then freely free_law u v x (test r) (λ t. substatement c q >>= λ y. does If (one_term t) (actions y) p)
-    (term_in v.nodes a) (TermThere v a) ItemsThere IsItems z (freed u v (test r) TermThere IsTerm (Ok a) h)
+    (term_in v.nodes a) (TermThere v a) OnlyThere IsItems z (freed u v (test r) TermThere IsTerm (Ok a) h)
     (then_by freely free_law v w x (substatement c q) (λ y. does If (one_term (term_in v.nodes a)) (actions y) p)
     (does If (one_term (term_in w.nodes a)) (actions (action_in w b ∷ [])) p) (ActionThere w b)
-    (IsOnlyAction w b) ItemsThere IsItems z k
+    (IsOnlyAction w b) OnlyThere IsItems z k
     (λ s y t e. ap (λ ys. does If (one_term (term_in v.nodes a)) (actions ys) p s) e
     ∙ ap (λ t. does If (one_term t) (actions (action_in w b ∷ [])) p s) (sym (k.grows.terms a h.there)))
     d)
@@ -94,14 +94,14 @@ ifs u v w x c r q p a b z h k d =
 pub whiles : (u v w x : Work) (c : meant.Context) (r q : Reading) (p : Pos) (a b : ℕ) (z : Result Items Refusal) →
     Done quietly u v (test r) (TermThere v a) (IsTerm v a) →
     Done freely v w (substatement c q) (ActionThere w b) (IsOnlyAction w b) → Adds w x (stmts.While a b) p z →
-    Answers freely u x (test r >>= λ t. substatement c q >>= λ y. does While (one_term t) (actions y) p) ItemsThere
+    Answers freely u x (test r >>= λ t. substatement c q >>= λ y. does While (one_term t) (actions y) p) OnlyThere
     IsItems z
 whiles u v w x c r q p a b z h k d =
     and_then freely free_law u v x (test r) (λ t. substatement c q >>= λ y. does While (one_term t) (actions y) p)
-    (term_in v.nodes a) (TermThere v a) ItemsThere IsItems z (freed u v (test r) TermThere IsTerm (Ok a) h)
+    (term_in v.nodes a) (TermThere v a) OnlyThere IsItems z (freed u v (test r) TermThere IsTerm (Ok a) h)
     (then_by freely free_law v w x (substatement c q) (λ y. does While (one_term (term_in v.nodes a)) (actions y) p)
     (does While (one_term (term_in w.nodes a)) (actions (action_in w b ∷ [])) p) (ActionThere w b)
-    (IsOnlyAction w b) ItemsThere IsItems z k
+    (IsOnlyAction w b) OnlyThere IsItems z k
     (λ s y t e. ap (λ ys. does While (one_term (term_in v.nodes a)) (actions ys) p s) e
     ∙ ap (λ t. does While (one_term t) (actions (action_in w b ∷ [])) p s) (sym (k.grows.terms a h.there)))
     d)
@@ -111,22 +111,22 @@ pub ifs_else : (u v w x y : Work) (c : meant.Context) (r q o : Reading) (p : Pos
     Done freely v w (substatement c q) (ActionThere w b) (IsOnlyAction w b) →
     Done freely w x (substatement c o) (ActionThere x e) (IsOnlyAction x e) → Adds x y (stmts.If a b (Some e)) p z →
     Answers freely u y (test r >>= λ t. substatement c q >>= λ fs. substatement c o
-    >>= λ bs. does If (one_term t) (actions (fs ++ bs)) p) ItemsThere IsItems z
+    >>= λ bs. does If (one_term t) (actions (fs ++ bs)) p) OnlyThere IsItems z
 ifs_else u v w x y c r q o p a b e z h k l d =
     let first : Term = term_in v.nodes a in
     let known : term_in x.nodes a ≡ first = l.grows.terms a (let m = k.grows.more_terms in let n = h.there in omega arith) ∙ k.grows.terms a h.there in
     and_then freely free_law u v y (test r) (λ t. substatement c q >>= λ fs. substatement c o
-    >>= λ bs. does If (one_term t) (actions (fs ++ bs)) p) first (TermThere v a) ItemsThere IsItems z
+    >>= λ bs. does If (one_term t) (actions (fs ++ bs)) p) first (TermThere v a) OnlyThere IsItems z
     (freed u v (test r) TermThere IsTerm (Ok a) h)
     (then_by freely free_law v w y (substatement c q)
     (λ fs. substatement c o >>= λ bs. does If (one_term first) (actions (fs ++ bs)) p)
     (substatement c o >>= λ bs. does If (one_term first) (actions (action_in w b ∷ bs)) p) (ActionThere w b)
-    (IsOnlyAction w b) ItemsThere IsItems z k
+    (IsOnlyAction w b) OnlyThere IsItems z k
     (λ s fs t g. ap (λ cs. (substatement c o >>= λ bs. does If (one_term first) (actions (cs ++ bs)) p) s) g)
     (then_from freely free_law w x y (substatement c o)
     (λ bs. does If (one_term first) (actions (action_in w b ∷ bs)) p)
     (does If (one_term (term_in x.nodes a)) (actions (action_in x b ∷ action_in x e ∷ [])) p) (ActionThere x e)
-    (IsOnlyAction x e) ItemsThere IsItems z l
+    (IsOnlyAction x e) OnlyThere IsItems z l
     (λ n s bs m t g.
     ap (λ cs. does If (one_term first) (actions (action_in w b ∷ cs)) p s) g
     ∙ ap (λ f. does If (one_term first) (actions (f ∷ action_in x e ∷ [])) p s)
@@ -137,16 +137,16 @@ ifs_else u v w x y c r q o p a b e z h k l d =
 pub dos : (u v w x : Work) (c : meant.Context) (r q : Reading) (p : Pos) (a b : ℕ) (z : Result Items Refusal) →
     Done freely u v (substatement c r) (ActionThere v b) (IsOnlyAction v b) →
     Done quietly v w (test q) (TermThere w a) (IsTerm w a) → Adds w x (stmts.Do b a) p z →
-    Answers freely u x (substatement c r >>= λ y. test q >>= λ t. does Do (one_term t) (actions y) p) ItemsThere IsItems
+    Answers freely u x (substatement c r >>= λ y. test q >>= λ t. does Do (one_term t) (actions y) p) OnlyThere IsItems
     z
 dos u v w x c r q p a b z k h d =
     then_by freely free_law u v x (substatement c r) (λ y. test q >>= λ t. does Do (one_term t) (actions y) p)
     (test q >>= λ t. does Do (one_term t) (actions (action_in v b ∷ [])) p) (ActionThere v b)
-    (IsOnlyAction v b) ItemsThere IsItems z k
+    (IsOnlyAction v b) OnlyThere IsItems z k
     (λ s y t e. ap (λ ys. (test q >>= λ t. does Do (one_term t) (actions ys) p) s) e)
     (then_from freely free_law v w x (test q) (λ t. does Do (one_term t) (actions (action_in v b ∷ [])) p)
     (does Do (one_term (term_in w.nodes a)) (actions (action_in w b ∷ [])) p) (TermThere w a)
-    (IsTerm w a) ItemsThere IsItems z (freed v w (test q) TermThere IsTerm (Ok a) h)
+    (IsTerm w a) OnlyThere IsItems z (freed v w (test q) TermThere IsTerm (Ok a) h)
     (λ n s t m g e.
     ap (λ t. does Do (one_term t) (actions (action_in v b ∷ [])) p s) e
     ∙ ap (λ f. does Do (one_term (term_in w.nodes a)) (actions (f ∷ [])) p s)
@@ -178,22 +178,22 @@ pub returns_value : (u v w x : Work) (c : meant.Context) (r : Reading) (p : Pos)
     (z : Result Items Refusal) → Done quietly u v (read_value r) (OperandThere v a) (IsOperand v a) →
     is_void c.gives ≡ false →
     Done quietly v w (assigned c.gives (operand_in v a)) (TermThere w k) (IsTerm w k) →
-    Adds w x (stmts.Return (Some k)) p z → Answers freely u x (return_one c p r) ItemsThere IsItems z
+    Adds w x (stmts.Return (Some k)) p z → Answers freely u x (return_one c p r) OnlyThere IsItems z
 returns_value u v w x c r p a k z h n g d =
     and_then freely free_law u v x (read_value r)
     (λ o. need (not (is_void c.gives)) 133 p >> assigned c.gives o >>= λ y. does Return (one_term y) no_actions p)
-    (operand_in v a) (OperandThere v a) ItemsThere IsItems z
+    (operand_in v a) (OperandThere v a) OnlyThere IsItems z
     (freed u v (read_value r) OperandThere IsOperand (Ok a) h)
     (ap_answers
     (and_then freely free_law v w x (assigned c.gives (operand_in v a)) (λ y. does Return (one_term y) no_actions p)
-    (term_in w.nodes k) (TermThere w k) ItemsThere IsItems z
+    (term_in w.nodes k) (TermThere w k) OnlyThere IsItems z
     (freed v w (assigned c.gives (operand_in v a)) TermThere IsTerm (Ok k) g) d))
   where
     ap_answers : Answers freely v x (assigned c.gives (operand_in v a) >>= λ y. does Return (one_term y) no_actions p)
-        ItemsThere IsItems z → Answers freely v x
+        OnlyThere IsItems z → Answers freely v x
         (need (not (is_void c.gives)) 133 p >> assigned c.gives (operand_in v a)
-        >>= λ y. does Return (one_term y) no_actions p) ItemsThere IsItems z
-    ap_answers q = answers_at freely v x _ _ ItemsThere IsItems z
+        >>= λ y. does Return (one_term y) no_actions p) OnlyThere IsItems z
+    ap_answers q = answers_at freely v x _ _ OnlyThere IsItems z
         (λ s t. ap (λ b. (need (not b) 133 p >> assigned c.gives (operand_in v a)
         >>= λ y. does Return (one_term y) no_actions p) s) n) q
 
@@ -205,17 +205,17 @@ pub switches : (u v w x : Work) (r : Reading) (d : Ty → Doing statements.Cases
     Adds w x (switch_of on.value cs) p z →
     Answers freely u x (switched r >>= λ o. d o.of
     >>= λ cases. does (Switch cases.items.vars cases.labels) (one_term o.value) (actions cases.items.actions) p)
-    ItemsThere IsItems z
+    OnlyThere IsItems z
 switches u v w x r d p on cs z h k a =
     and_then freely free_law u v x (switched r)
     (λ o. d o.of >>= λ cases. does (Switch cases.items.vars cases.labels) (one_term o.value)
-    (actions cases.items.actions) p) (switched_on v on) (SwitchedThere v on) ItemsThere IsItems z
+    (actions cases.items.actions) p) (switched_on v on) (SwitchedThere v on) OnlyThere IsItems z
     (freed u v (switched r) SwitchedThere IsSwitched (Ok on) h)
     (then_by freely free_law v w x (d (type_in v.nodes on.of))
     (λ cases. does (Switch cases.items.vars cases.labels) (one_term (term_in v.nodes on.value))
     (actions cases.items.actions) p)
     (does (Switch (cases_in w cs).items.vars (cases_in w cs).labels) (one_term (term_in w.nodes on.value))
-    (actions (cases_in w cs).items.actions) p) (CasesThere w cs) (IsCases w cs) ItemsThere IsItems z k
+    (actions (cases_in w cs).items.actions) p) (CasesThere w cs) (IsCases w cs) OnlyThere IsItems z k
     (λ s y t e.
     ap (λ (y : statements.Cases). does (Switch y.items.vars y.labels) (one_term (term_in v.nodes on.value))
     (actions y.items.actions) p s) e
@@ -269,16 +269,16 @@ pub fors : (u v w x : Work) (d : Doing ForHead) (c : meant.Context) (r : Reading
     (z : Result Items Refusal) → Done freely u v d (HeadThere v h) (IsHead v h) →
     Done freely v w (substatement c r) (ActionThere w b) (IsOnlyAction w b) → Adds w x (for_of h b) p z →
     Answers freely u x (d >>= λ o. substatement c r
-    >>= λ body. give (one_action (for_action o.items o.test o.step body p))) ItemsThere IsItems z
+    >>= λ body. give (one_action (for_action o.items o.test o.step body p))) OnlyThere IsItems z
 fors u v w x d c r p h b z e k a =
     and_then freely free_law u v x d (λ o. substatement c r
     >>= λ body. give (one_action (for_action o.items o.test o.step body p))) (head_in v h)
-    (HeadThere v h) ItemsThere IsItems z e
+    (HeadThere v h) OnlyThere IsItems z e
     (then_from freely free_law v w x (substatement c r)
     (λ body. give (one_action (for_action (items_in v h.items) (maybe_term v h.test)
     (maybe_term v h.step) body p)))
     (give (one_action (kind_action (terms_of w.nodes.p) (for_of h b) p (action_in w)))) (ActionThere w b)
-    (IsOnlyAction w b) ItemsThere IsItems z k
+    (IsOnlyAction w b) OnlyThere IsItems z k
     (λ n s body m t q.
     ap (λ (bs : List Action). give (one_action
     (for_action (items_in v h.items) (maybe_term v h.test) (maybe_term v h.step) bs p)) s) q
@@ -301,10 +301,10 @@ jump_is es stmts.Continue p go h = refl
 jump_is es k p go h = absurd h
 
 pub jumps : (u w : Work) (k : StmtKind) (allowed : Bool) (p : Pos) (z : Result Items Refusal) → IsJump k →
-    allowed ≡ true → Adds u w k p z → Answers freely u w (jumping k allowed p) ItemsThere IsItems z
+    allowed ≡ true → Adds u w k p z → Answers freely u w (jumping k allowed p) OnlyThere IsItems z
 jumps u w k allowed p z h e a =
     answers_at freely u w (jumping k allowed p)
-    (give (one_action (kind_action (terms_of u.nodes.p) k p (action_in u)))) ItemsThere IsItems z
+    (give (one_action (kind_action (terms_of u.nodes.p) k p (action_in u)))) OnlyThere IsItems z
     (λ s t. need_true allowed 133 p (does (jump_form k) no_terms no_actions p) s e
     ∙ ap (λ (f : Action). give (one_action f) s) (sym (jump_is (terms_of u.nodes.p) k p (action_in u) h))) a
 
@@ -433,11 +433,11 @@ step_failed u v x r e h k =
 -- a value where none is given
 pub returns_none : (u v : Work) (c : meant.Context) (r : Reading) (p : Pos) (a : Operand) →
     Done quietly u v (read_value r) (OperandThere v a) (IsOperand v a) → is_void c.gives ≡ true →
-    Answers freely u v (return_one c p r) ItemsThere IsItems (Err (Code 133 p))
+    Answers freely u v (return_one c p r) OnlyThere IsItems (Err (Code 133 p))
 returns_none u v c r p a h n =
     and_then freely free_law u v v (read_value r)
     (λ o. need (not (is_void c.gives)) 133 p >> assigned c.gives o >>= λ y. does Return (one_term y) no_actions p)
-    (operand_in v a) (OperandThere v a) ItemsThere IsItems (Err (Code 133 p))
+    (operand_in v a) (OperandThere v a) OnlyThere IsItems (Err (Code 133 p))
     (freed u v (read_value r) OperandThere IsOperand (Ok a) h)
     (λ s t. ap (λ b. (need (not b) 133 p >> assigned c.gives (operand_in v a)
     >>= λ y. does Return (one_term y) no_actions p) s) n)
@@ -445,17 +445,17 @@ returns_none u v c r p a h n =
 pub returns_failed : (u v w : Work) (c : meant.Context) (r : Reading) (p : Pos) (a : Operand) (e : Refusal) →
     Done quietly u v (read_value r) (OperandThere v a) (IsOperand v a) → is_void c.gives ≡ false →
     Answers quietly v w (assigned c.gives (operand_in v a)) TermThere IsTerm (Err e) →
-    Answers freely u w (return_one c p r) ItemsThere IsItems (Err e)
+    Answers freely u w (return_one c p r) OnlyThere IsItems (Err e)
 returns_failed u v w c r p a e h n k =
     let d : Doing Term = assigned c.gives (operand_in v a) in
     and_then freely free_law u v w (read_value r)
     (λ o. need (not (is_void c.gives)) 133 p >> assigned c.gives o >>= λ y. does Return (one_term y) no_actions p)
-    (operand_in v a) (OperandThere v a) ItemsThere IsItems (Err e)
+    (operand_in v a) (OperandThere v a) OnlyThere IsItems (Err e)
     (freed u v (read_value r) OperandThere IsOperand (Ok a) h)
     (answers_at freely v w (need (not (is_void c.gives)) 133 p >> d >>= λ y. does Return (one_term y) no_actions p)
-    (d >>= λ y. does Return (one_term y) no_actions p) ItemsThere IsItems (Err e)
+    (d >>= λ y. does Return (one_term y) no_actions p) OnlyThere IsItems (Err e)
     (λ s t. ap (λ b. (need (not b) 133 p >> d >>= λ y. does Return (one_term y) no_actions p) s) n)
-    (failed freely v w w d (λ y. does Return (one_term y) no_actions p) TermThere IsTerm ItemsThere IsItems e
+    (failed freely v w w d (λ y. does Return (one_term y) no_actions p) TermThere IsTerm OnlyThere IsItems e
     (freed v w d TermThere IsTerm (Err e) k)))
 
 -- ---- what a switch is on

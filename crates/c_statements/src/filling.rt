@@ -105,7 +105,7 @@ fn initialize_static(
         Answers freely work.old work.new (fills_static k (token_of work.old name) (reading x) b.first) ItemsThere
         IsItems result }
 {
-    let of = work.object_type(k)?;
+    let of = work.static_type(k);
     let goal = Goal {
         asked: Asked::Start,
         whole: b.first,

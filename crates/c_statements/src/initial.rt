@@ -9,7 +9,7 @@ ghost use Rattle.c_tree.specs.Programs.{reading, readings, is_text};
 ghost use Rattle.c_types.specs.Stands.{text_at};
 ghost use Rattle.c_expressions.specs.Nodes.{IsWhole, type_in, type_count};
 ghost use Rattle.c_elaborator.specs.Answers.{Answers, quietly, NothingThere, IsNothing};
-ghost use Rattle.c_elaborator.specs.Parts.{IsPart, AreParts, HaveParts, token_of};
+ghost use Rattle.c_elaborator.specs.Parts.{IsPart, AreParts, HaveTexts, token_of};
 ghost use Rattle.c_readings.specs.Within.{PartWithin, PartsWithin};
 ghost use Rattle.c_initializers.specs.Places.{ArePlaces};
 ghost use Rattle.c_initializers.specs.Slots.{SlotThere, slot_in, FilledThere, IsFilled};
@@ -77,7 +77,7 @@ fn text_value(work: &mut Work<'_>, name: Name, kids: &[u32], goal: Goal) -> Resu
     requires whole { IsWhole work.old.nodes }
     requires there { goal.of < type_count work.old.nodes }
     requires accepted { IsAccepted TokenKind.Text (text_at work.old.file.now name.span) }
-    requires parts { HaveParts work.old kids.now }
+    requires parts { HaveTexts work.old kids.now }
     ensures { (xs : Syns) → AreParts work.old kids.now xs →
         Answers quietly work.old work.new (string_initializer (token_of work.old name) xs goal.whole
         (type_in work.old.nodes goal.of) goal.at) FilledThere IsFilled result }
@@ -104,7 +104,7 @@ pub fn initializer(work: &mut Work<'_>, k: u32, goal: Goal, depth: u32) -> Resul
         Answers quietly work.old work.new ((reading x).initializer (asked_by goal.asked) goal.whole
         (type_in work.old.nodes goal.of) goal.at) FilledThere IsFilled result }
 {
-    let part = work.part(k)?;
+    let part = work.part(k);
     match part.kind {
         NodeKind::BracedInitializer => braced(work, part.kids, part.name.pos, goal, depth - 1),
         NodeKind::Text => {
@@ -134,7 +134,7 @@ fn braced(
         Answers quietly work.old work.new (braced_initializer t (is_text xs) (readings xs)
         (asked_by goal.asked) goal.whole (type_in work.old.nodes goal.of) goal.at) FilledThere IsFilled result }
 {
-    match lone_text(work, kids, goal.of)? {
+    match lone_text(work, kids, goal.of) {
         Some(k) => initializer(work, k, goal, depth),
         None => list(work, kids, brace, goal, depth),
     }

@@ -13,33 +13,35 @@ use ck_base::{NoMemory, Pos, Refusal};
 use std::alloc::Global;
 
 // The string literal in braces that initialises an array of characters, if nothing else stands there.
-pub(crate) fn lone_text(work: &Work<'_>, kids: &[u32], of: u32) -> Result<Option<u32>, NoMemory>
+pub(crate) fn lone_text(work: &Work<'_>, kids: &[u32], of: u32) -> Option<u32>
     requires whole { IsWhole work.now.nodes }
     requires there { of < type_count work.now.nodes }
     requires parts { HaveParts work.now kids.now }
-    ensures { IfOk result (λ o. IsLone work.now of kids.now o) }
+    ensures { IsLone work.now of kids.now result }
 {
     match kids {
         [k] => lone(work, *k, of),
-        _ => Ok(None),
+        _ => None,
     }
 }
 
 // The same of the only part.
-fn lone(work: &Work<'_>, k: u32, of: u32) -> Result<Option<u32>, NoMemory>
+fn lone(work: &Work<'_>, k: u32, of: u32) -> Option<u32>
     requires whole { IsWhole work.now.nodes }
     requires there { of < type_count work.now.nodes }
     requires part { HasPart work.now k }
-    ensures { IfOk result (λ o. IsLone work.now of (k ∷ []) o) }
+    ensures { IsLone work.now of (k ∷ []) result }
 {
-    let part = work.part(k)?;
+    let part = work.part(k);
     match part.kind {
-        NodeKind::Text => Ok(if takes_string(work, of) {
-            Some(k)
-        } else {
-            None
-        }),
-        _ => Ok(None),
+        NodeKind::Text => {
+            if takes_string(work, of) {
+                Some(k)
+            } else {
+                None
+            }
+        }
+        _ => None,
     }
 }
 
@@ -52,7 +54,7 @@ pub(crate) fn next_part(
 ) -> Result<Goal, Refusal>
     ensures { IsNext places.now number goal brace result }
 {
-    match places.get(number)? {
+    match places.get(number) {
         None => Err(Refusal::Code(133, brace)),
         Some(place) => match goal.at.checked_add(place.at) {
             None => Err(Refusal::NoMemory),

@@ -8,7 +8,7 @@ ghost use Rattle.c_expressions.specs.Nodes.{IsWhole};
 ghost use Rattle.c_elaborator.specs.Answers.{Answers, quietly, freely, TermThere, IsTerm};
 ghost use Rattle.c_elaborator.specs.Parts.{IsPart, AreParts};
 ghost use Rattle.c_readings.specs.Within.{PartWithin, PartsWithin};
-ghost use Rattle.c_elaborator.specs.Items.{ContextThere, context_in, ItemsThere, IsItems};
+ghost use Rattle.c_elaborator.specs.Items.{ContextThere, context_in, OnlyThere, IsItems};
 ghost use Rattle.c_statements.specs.Statements.{evaluate_one, evaluated, IsJump, jumping, return_of, return_one};
 
 use c_elaborator::{Context, Items, Work, does};
@@ -37,7 +37,7 @@ pub(crate) fn evaluate_one(
     requires whole { IsWhole work.old.nodes }
     requires part { PartWithin work.old depth k }
     ensures { (x : Syn) → IsPart work.old k x →
-        Answers freely work.old work.new (evaluate_one (reading x) pos) ItemsThere IsItems result }
+        Answers freely work.old work.new (evaluate_one (reading x) pos) OnlyThere IsItems result }
 {
     let a = value_of(work, k, depth)?;
     does(work, StmtKind::Expr(a.node), pos)
@@ -53,7 +53,7 @@ pub(crate) fn evaluate(
     requires whole { IsWhole work.old.nodes }
     requires parts { PartsWithin work.old depth kids.now }
     ensures { (xs : Syns) → AreParts work.old kids.now xs →
-        Answers freely work.old work.new (evaluated pos (readings xs)) ItemsThere IsItems result }
+        Answers freely work.old work.new (evaluated pos (readings xs)) OnlyThere IsItems result }
 {
     match only(kids) {
         None => Err(Refusal::Code(120, pos)),
@@ -72,7 +72,7 @@ pub(crate) fn jump(
 ) -> Result<Items, Refusal>
     requires whole { IsWhole work.old.nodes }
     requires jumps { IsJump kind }
-    ensures { Answers freely work.old work.new (jumping kind allowed pos) ItemsThere IsItems result }
+    ensures { Answers freely work.old work.new (jumping kind allowed pos) OnlyThere IsItems result }
 {
     if allowed {
         does(work, kind, pos)
@@ -86,7 +86,7 @@ fn return_nothing(work: &mut Work<'_>, context: Context, pos: Pos) -> Result<Ite
     requires whole { IsWhole work.old.nodes }
     requires context { ContextThere work.old context }
     ensures { Answers freely work.old work.new
-        (return_of (context_in work.old context) pos []) ItemsThere IsItems result }
+        (return_of (context_in work.old context) pos []) OnlyThere IsItems result }
 {
     if work.nodes.is_void(context.gives) {
         does(work, StmtKind::Return(None), pos)
@@ -107,7 +107,7 @@ fn return_value(
     requires context { ContextThere work.old context }
     requires part { PartWithin work.old depth k }
     ensures { (x : Syn) → IsPart work.old k x →
-        Answers freely work.old work.new (return_one (context_in work.old context) pos (reading x)) ItemsThere IsItems
+        Answers freely work.old work.new (return_one (context_in work.old context) pos (reading x)) OnlyThere IsItems
         result }
 {
     let a = value_of(work, k, depth)?;
@@ -130,7 +130,7 @@ pub(crate) fn return_at(
     requires context { ContextThere work.old context }
     requires parts { PartsWithin work.old depth kids.now }
     ensures { (xs : Syns) → AreParts work.old kids.now xs →
-        Answers freely work.old work.new (return_of (context_in work.old context) pos (readings xs)) ItemsThere
+        Answers freely work.old work.new (return_of (context_in work.old context) pos (readings xs)) OnlyThere
         IsItems result }
 {
     match first_of(kids) {

@@ -1,17 +1,20 @@
 //! Statements (C11 6.8). `depth` bounds how deep they go.
 
-ghost use Rattle.std.specs.Prelude.{◌≡◌, ◌<◌, ◌∷◌, [], IfOk};
+ghost use Rattle.std.specs.Prelude.{◌≡◌, ◌<◌, ◌∷◌, [], length};
 ghost use Rattle.ck_base.specs.Tokens.{Lexeme};
-ghost use Rattle.c_tree.specs.Syntax.{Syn, Syns};
+ghost use Rattle.c_tree.specs.declared.syntax.NodeKind.TheVariants as kinds;
+ghost use Rattle.c_tree.specs.Syntax.{Syn, Syns, node as syntax};
 ghost use Rattle.c_tree.specs.Scopes.{in_scope};
 ghost use Rattle.c_tree.specs.Programs.{reading, readings};
 ghost use Rattle.c_tree.specs.Statements.{all_items, substatement, statement_of, switch_item, switch_items, no_cases};
 ghost use Rattle.c_expressions.specs.Nodes.{IsWhole, type_in, type_count};
 ghost use Rattle.c_elaborator.specs.Answers.{Answers, freely};
-ghost use Rattle.c_elaborator.specs.Parts.{IsPart, AreParts};
-ghost use Rattle.c_readings.specs.Within.{PartWithin, PartsWithin, NodeWithin};
+ghost use Rattle.c_elaborator.specs.Parts.{IsPart, AreParts, IsStatement, PartsFit};
+ghost use Rattle.c_readings.specs.Within.{PartWithin, PartsWithin, PartThat, PartsThat, NodeWithin};
 ghost use Rattle.c_readings.specs.Kids.{IsNode};
-ghost use Rattle.c_elaborator.specs.Items.{ContextThere, context_in, ItemsThere, IsItems, ActionThere, IsOnlyAction};
+ghost use Rattle.c_elaborator.specs.Items.{ContextThere, context_in, ItemsThere, OnlyThere, IsItems, ActionThere};
+ghost use Rattle.c_elaborator.specs.Items.{IsOnlyAction};
+ghost use Rattle.c_statements.specs.Only.{ItemThere};
 ghost use Rattle.c_statements.specs.Statements.{CasesThere, IsCases, cases_in, block_of, if_of, if_with, if_else_of};
 ghost use Rattle.c_statements.specs.Statements.{if_else_with, while_of, while_with, do_of, do_with, for_in, for_with};
 ghost use Rattle.c_statements.specs.Statements.{switch_in, switch_with, inside_of, further};
@@ -25,16 +28,17 @@ use crate::simple::{evaluate, jump, return_at, test};
 use c_elaborator::{Context, Items, Work, does, enter, join, leave, no_items};
 use c_readings::{first_of, node_at, only, three, two};
 use c_tree::{Node, NodeKind, StmtKind};
-use ck_base::{NoMemory, Pos, Refusal, Sequence};
+use ck_base::{Pos, Refusal, Sequence};
 use indexmap::IndexMap;
 
 // The statement that is given alone.
-fn alone(actions: &[u32]) -> Result<u32, NoMemory>
-    ensures { IfOk result (λ k. actions.now ≡ k ∷ []) }
+fn alone(actions: &[u32]) -> u32
+    requires { length actions.now ≡ 1 }
+    ensures { actions.now ≡ result ∷ [] }
 {
     match only(actions) {
-        None => Err(NoMemory),
-        Some(k) => Ok(k),
+        None => unreachable!(),
+        Some(k) => k,
     }
 }
 
@@ -45,7 +49,7 @@ pub fn item(work: &mut Work<'_>, context: Context, k: u32, depth: u32) -> Result
     requires context { ContextThere work.old context }
     requires part { PartWithin work.old depth k }
     ensures { (x : Syn) → IsPart work.old k x →
-        Answers freely work.old work.new ((reading x).item (context_in work.old context)) ItemsThere IsItems result }
+        Answers freely work.old work.new ((reading x).item (context_in work.old context)) (ItemThere x) IsItems result }
 {
     let node = node_at(work, k);
     statement(work, context, node, depth - 1)
@@ -64,7 +68,7 @@ fn statement(
     requires node { NodeWithin work.old depth node.now }
     ensures { (t : Lexeme) (xs : Syns) → IsNode work.old node.now t xs →
         Answers freely work.old work.new (statement_of node.now.kind t xs (readings xs) (context_in work.old context))
-        ItemsThere IsItems result }
+        (ItemThere (syntax node.now.kind t xs)) IsItems result }
 {
     let kids = node.kids.as_slice();
     match node.kind {
@@ -86,7 +90,7 @@ fn scoped(work: &mut Work<'_>, context: Context, node: &Node, depth: u32) -> Res
     requires node { NodeWithin work.old depth node.now }
     ensures { (t : Lexeme) (xs : Syns) → IsNode work.old node.now t xs →
         Answers freely work.old work.new (in_scope
-        (inside_of node.now.kind t xs (readings xs) (context_in work.old context))) ItemsThere IsItems result }
+        (inside_of node.now.kind t xs (readings xs) (context_in work.old context))) OnlyThere IsItems result }
 {
     enter(work)?;
     let items = inside(work, context, node, depth)?;
@@ -102,7 +106,7 @@ fn inside(work: &mut Work<'_>, context: Context, node: &Node, depth: u32) -> Res
     requires node { NodeWithin work.old depth node.now }
     ensures { (t : Lexeme) (xs : Syns) → IsNode work.old node.now t xs →
         Answers freely work.old work.new (inside_of node.now.kind t xs (readings xs) (context_in work.old context))
-        ItemsThere IsItems result }
+        OnlyThere IsItems result }
 {
     let kids = node.kids.as_slice();
     match node.kind {
@@ -155,7 +159,7 @@ fn block(
     requires context { ContextThere work.old context }
     requires parts { PartsWithin work.old depth kids.now }
     ensures { (xs : Syns) → AreParts work.old kids.now xs →
-        Answers freely work.old work.new (block_of (context_in work.old context) pos (readings xs)) ItemsThere IsItems
+        Answers freely work.old work.new (block_of (context_in work.old context) pos (readings xs)) OnlyThere IsItems
         result }
 {
     let items = all_items(work, context, kids, depth)?;
@@ -174,7 +178,7 @@ fn block(
 fn substatement(work: &mut Work<'_>, context: Context, k: u32, depth: u32) -> Result<u32, Refusal>
     requires whole { IsWhole work.old.nodes }
     requires context { ContextThere work.old context }
-    requires part { PartWithin work.old depth k }
+    requires part { PartThat IsStatement work.old depth k }
     ensures { (x : Syn) → IsPart work.old k x →
         Answers freely work.old work.new (substatement (context_in work.old context) (reading x)) ActionThere
         IsOnlyAction result }
@@ -182,8 +186,7 @@ fn substatement(work: &mut Work<'_>, context: Context, k: u32, depth: u32) -> Re
     enter(work)?;
     let items = item(work, context, k, depth)?;
     leave(work);
-    let action = alone(items.actions.as_slice())?;
-    Ok(action)
+    Ok(alone(items.actions.as_slice()))
 }
 
 // An `if` without an `else` (C11 6.8.4.1).
@@ -197,9 +200,9 @@ fn if_one(
 ) -> Result<Items, Refusal>
     requires whole { IsWhole work.old.nodes }
     requires context { ContextThere work.old context }
-    requires parts { PartsWithin work.old depth kids.now }
+    requires parts { PartsThat (PartsFit kinds.If) work.old depth kids.now }
     ensures { (xs : Syns) → AreParts work.old kids.now xs →
-        Answers freely work.old work.new (if_of (context_in work.old context) pos (readings xs)) ItemsThere IsItems
+        Answers freely work.old work.new (if_of (context_in work.old context) pos (readings xs)) OnlyThere IsItems
         result }
 {
     match two(kids) {
@@ -220,10 +223,10 @@ fn if_with(
     requires whole { IsWhole work.old.nodes }
     requires context { ContextThere work.old context }
     requires first { PartWithin work.old depth a }
-    requires second { PartWithin work.old depth b }
+    requires second { PartThat IsStatement work.old depth b }
     ensures { (x y : Syn) → IsPart work.old a x → IsPart work.old b y →
         Answers freely work.old work.new (if_with (context_in work.old context) pos (reading x) (reading y))
-        ItemsThere IsItems result }
+        OnlyThere IsItems result }
 {
     let on = test(work, a, depth)?;
     let body = substatement(work, context, b, depth)?;
@@ -241,9 +244,9 @@ fn if_else(
 ) -> Result<Items, Refusal>
     requires whole { IsWhole work.old.nodes }
     requires context { ContextThere work.old context }
-    requires parts { PartsWithin work.old depth kids.now }
+    requires parts { PartsThat (PartsFit kinds.IfElse) work.old depth kids.now }
     ensures { (xs : Syns) → AreParts work.old kids.now xs →
-        Answers freely work.old work.new (if_else_of (context_in work.old context) pos (readings xs)) ItemsThere
+        Answers freely work.old work.new (if_else_of (context_in work.old context) pos (readings xs)) OnlyThere
         IsItems result }
 {
     match three(kids) {
@@ -265,11 +268,11 @@ fn if_else_with(
     requires whole { IsWhole work.old.nodes }
     requires context { ContextThere work.old context }
     requires first { PartWithin work.old depth a }
-    requires second { PartWithin work.old depth b }
-    requires third { PartWithin work.old depth c }
+    requires second { PartThat IsStatement work.old depth b }
+    requires third { PartThat IsStatement work.old depth c }
     ensures { (x y z : Syn) → IsPart work.old a x → IsPart work.old b y → IsPart work.old c z →
         Answers freely work.old work.new (if_else_with (context_in work.old context) pos (reading x) (reading y)
-        (reading z)) ItemsThere IsItems result }
+        (reading z)) OnlyThere IsItems result }
 {
     let on = test(work, a, depth)?;
     let body = substatement(work, context, b, depth)?;
@@ -288,9 +291,9 @@ fn while_loop(
 ) -> Result<Items, Refusal>
     requires whole { IsWhole work.old.nodes }
     requires context { ContextThere work.old context }
-    requires parts { PartsWithin work.old depth kids.now }
+    requires parts { PartsThat (PartsFit kinds.While) work.old depth kids.now }
     ensures { (xs : Syns) → AreParts work.old kids.now xs →
-        Answers freely work.old work.new (while_of (context_in work.old context) pos (readings xs)) ItemsThere IsItems
+        Answers freely work.old work.new (while_of (context_in work.old context) pos (readings xs)) OnlyThere IsItems
         result }
 {
     match two(kids) {
@@ -311,10 +314,10 @@ fn while_with(
     requires whole { IsWhole work.old.nodes }
     requires context { ContextThere work.old context }
     requires first { PartWithin work.old depth a }
-    requires second { PartWithin work.old depth b }
+    requires second { PartThat IsStatement work.old depth b }
     ensures { (x y : Syn) → IsPart work.old a x → IsPart work.old b y →
         Answers freely work.old work.new (while_with (context_in work.old context) pos (reading x) (reading y))
-        ItemsThere IsItems result }
+        OnlyThere IsItems result }
 {
     let on = test(work, a, depth)?;
     let body = substatement(work, in_a_loop(context), b, depth)?;
@@ -332,9 +335,9 @@ fn do_loop(
 ) -> Result<Items, Refusal>
     requires whole { IsWhole work.old.nodes }
     requires context { ContextThere work.old context }
-    requires parts { PartsWithin work.old depth kids.now }
+    requires parts { PartsThat (PartsFit kinds.Do) work.old depth kids.now }
     ensures { (xs : Syns) → AreParts work.old kids.now xs →
-        Answers freely work.old work.new (do_of (context_in work.old context) pos (readings xs)) ItemsThere IsItems
+        Answers freely work.old work.new (do_of (context_in work.old context) pos (readings xs)) OnlyThere IsItems
         result }
 {
     match two(kids) {
@@ -354,11 +357,11 @@ fn do_with(
 ) -> Result<Items, Refusal>
     requires whole { IsWhole work.old.nodes }
     requires context { ContextThere work.old context }
-    requires first { PartWithin work.old depth a }
+    requires first { PartThat IsStatement work.old depth a }
     requires second { PartWithin work.old depth b }
     ensures { (x y : Syn) → IsPart work.old a x → IsPart work.old b y →
         Answers freely work.old work.new (do_with (context_in work.old context) pos (reading x) (reading y))
-        ItemsThere IsItems result }
+        OnlyThere IsItems result }
 {
     let body = substatement(work, in_a_loop(context), a, depth)?;
     let on = test(work, b, depth)?;
@@ -376,9 +379,9 @@ fn for_loop(
 ) -> Result<Items, Refusal>
     requires whole { IsWhole work.old.nodes }
     requires context { ContextThere work.old context }
-    requires parts { PartsWithin work.old depth kids.now }
+    requires parts { PartsThat (PartsFit kinds.For) work.old depth kids.now }
     ensures { (xs : Syns) → AreParts work.old kids.now xs →
-        Answers freely work.old work.new (for_in (context_in work.old context) pos xs (readings xs)) ItemsThere
+        Answers freely work.old work.new (for_in (context_in work.old context) pos xs (readings xs)) OnlyThere
         IsItems result }
 {
     match four(kids) {
@@ -398,11 +401,11 @@ fn for_with(
     requires whole { IsWhole work.old.nodes }
     requires context { ContextThere work.old context }
     requires head { PartWithin work.old depth x.head.first × PartWithin work.old depth x.head.second × PartWithin work.old depth x.head.third }
-    requires body { PartWithin work.old depth x.last }
+    requires body { PartThat IsStatement work.old depth x.last }
     ensures { (x1 x2 x3 x4 : Syn) → IsPart work.old x.head.first x1 → IsPart work.old x.head.second x2 →
         IsPart work.old x.head.third x3 → IsPart work.old x.last x4 →
         Answers freely work.old work.new (for_with (context_in work.old context) pos x1 x2 x3 (reading x1)
-        (reading x2) (reading x3) (reading x4)) ItemsThere IsItems result }
+        (reading x2) (reading x3) (reading x4)) OnlyThere IsItems result }
 {
     let head = for_head(work, context, x.head, depth)?;
     let body = substatement(work, in_a_loop(context), x.last, depth)?;
@@ -525,7 +528,7 @@ fn switch(
     requires context { ContextThere work.old context }
     requires parts { PartsWithin work.old depth kids.now }
     ensures { (xs : Syns) → AreParts work.old kids.now xs →
-        Answers freely work.old work.new (switch_in (context_in work.old context) pos xs (readings xs)) ItemsThere
+        Answers freely work.old work.new (switch_in (context_in work.old context) pos xs (readings xs)) OnlyThere
         IsItems result }
 {
     match first_of(kids) {
@@ -549,7 +552,7 @@ fn switch_with(
     requires parts { PartsWithin work.old depth kids.now }
     ensures { (x : Syn) (xs : Syns) → IsPart work.old k x → AreParts work.old kids.now xs →
         Answers freely work.old work.new (switch_with (context_in work.old context) pos xs (reading x) (readings xs))
-        ItemsThere IsItems result }
+        OnlyThere IsItems result }
 {
     let on = switched(work, k, depth)?;
     let cases = switch_body(work, context, on.of, kids, depth)?;

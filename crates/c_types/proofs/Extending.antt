@@ -1,11 +1,11 @@
 -- What stays of a program as it goes on.
-use Rattle.std.proofs.Common.{◌≡◌, ℕ, zero, suc, List, [], ◌∷◌, ◌++◌, set, Some, refl, sym, ap, subst, ◌∙◌, arith}
+use Rattle.std.proofs.Common.{◌≡◌, ℕ, zero, suc, true, List, [], ◌∷◌, ◌++◌, set, Some, refl, sym, ap, subst, ◌∙◌, arith}
 use Rattle.std.proofs.Common.{length-append}
 use Rattle.std.specs.Prelude.{slice_get}
 use Rattle.std.proofs.lemmas.List.{length-set}
 use Rattle.std.proofs.lemmas.Option.{same_Some, none-some}
 use Rattle.c_tree.specs.declared.syntax.RecordKind.{RecordKind}
-use Rattle.c_tree.specs.declared.typed.CType.TheVariants.{Incomplete}
+use Rattle.c_tree.specs.declared.typed.CType.{CType}
 use Rattle.c_tree.specs.declared.typed.Typed.{Typed}
 use Rattle.c_tree.specs.declared.typed.GlobalDef.{GlobalDef}
 use Rattle.c_tree.specs.declared.typed.FunDef.{FunDef}
@@ -14,10 +14,10 @@ use Rattle.c_tree.specs.declared.typed.Member.{Member}
 use Rattle.c_tree.specs.Scopes.{changed_at}
 use Rattle.c_interner.specs.Numbers.{AddsTypes}
 use Rattle.c_interner.proofs.Growing.{type_at-longer}
-use Rattle.c_types.specs.Sizes.{completed_type}
+use Rattle.c_types.specs.Sizes.{has_tag, completed_type}
 use Rattle.c_types.specs.Calls.{EachKept, IsSameGlobal, IsSameFun, Extends}
 use Rattle.c_types.proofs.Growth.{slice_get-longer}
-use Rattle.c_types.proofs.Records.{types_of-opened}
+use Rattle.c_types.proofs.Records.{types_of-completed}
 use Rattle.c_types.proofs.Changing.{changed_cons}
 
 -- ---- lists
@@ -81,19 +81,23 @@ extends_after p q r a b = record {
   funs = each_after IsSameFun p.funs q.funs r.funs fun_after a.funs b.funs;
 }
 
-pub extends_types : (p q : Typed) → AddsTypes p q → Extends p q
-extends_types p q a = record {
-  exprs = ap (λ (x : Typed). x.exprs) a.rest;
-  stmts = ap (λ (x : Typed). x.stmts) a.rest;
-  literals = ap (λ (x : Typed). x.literals) a.rest;
-  main = ap (λ (x : Typed). x.main) a.rest;
-  count = rw a.types (omega (arith, length-append p.types a.added));
-  types = λ k lt. ap (λ ts. type_at (types_of ts) k) a.types ∙ type_at-longer p.types a.added k lt;
-  globals = subst (λ gs. EachKept IsSameGlobal p.globals gs) (sym (ap (λ (x : Typed). x.globals) a.rest))
+pub extends_longer : (p q : Typed) (added : List CType) → q.types ≡ p.types ++ added →
+    q ≡ record p { types = q.types } → Extends p q
+extends_longer p q added e r = record {
+  exprs = ap (λ (x : Typed). x.exprs) r;
+  stmts = ap (λ (x : Typed). x.stmts) r;
+  literals = ap (λ (x : Typed). x.literals) r;
+  main = ap (λ (x : Typed). x.main) r;
+  count = rw e (omega (arith, length-append p.types added));
+  types = λ k lt. ap (λ ts. type_at (types_of ts) k) e ∙ type_at-longer p.types added k lt;
+  globals = subst (λ gs. EachKept IsSameGlobal p.globals gs) (sym (ap (λ (x : Typed). x.globals) r))
       (each_same IsSameGlobal p.globals same_global);
-  funs = subst (λ fs. EachKept IsSameFun p.funs fs) (sym (ap (λ (x : Typed). x.funs) a.rest))
+  funs = subst (λ fs. EachKept IsSameFun p.funs fs) (sym (ap (λ (x : Typed). x.funs) r))
       (each_same IsSameFun p.funs same_fun);
 }
+
+pub extends_types : (p q : Typed) → AddsTypes p q → Extends p q
+extends_types p q a = extends_longer p q a.added a.types a.rest
 
 extends_lists : (p : Typed) (gs : List GlobalDef) (fs : List FunDef) → EachKept IsSameGlobal p.globals gs →
     EachKept IsSameFun p.funs fs → Extends p (record p { globals = gs; funs = fs })
@@ -136,16 +140,16 @@ fun_changed p fs f k e h =
     extends_funs p fs (subst (λ xs. EachKept IsSameFun p.funs xs) (sym e)
     (each_changed IsSameFun f p.funs k same_fun h))
 
--- a struct or union that is not complete gets its members
+-- a struct or union gets its members
 pub completed_extends : (p : Typed) (of n : ℕ) (k : RecordKind) (ms : List Member) →
-    slice_get p.types of ≡ Some (Incomplete n) → Extends p (record p { types = set p.types of (completed_type k n ms) })
+    has_tag (slice_get p.types of) n ≡ true → Extends p (record p { types = set p.types of (completed_type k n ms) })
 completed_extends p of n k ms e = record {
   exprs = refl;
   stmts = refl;
   literals = refl;
   main = refl;
   count = omega (arith, length-set p.types of (completed_type k n ms));
-  types = λ j lt. ap (λ ts. type_at ts j) (types_of-opened p.types of n k ms e);
+  types = λ j lt. ap (λ ts. type_at ts j) (types_of-completed p.types of n k ms e);
   globals = each_same IsSameGlobal p.globals same_global;
   funs = each_same IsSameFun p.funs same_fun;
 }

@@ -10,7 +10,7 @@ use Rattle.c_tree.specs.declared.typed.CType.{CType}
 use Rattle.c_tree.specs.declared.typed.CType.TheVariants as ctypes
 use Rattle.c_tree.specs.declared.typed.Member.{Member}
 use Rattle.c_tree.specs.declared.typed.Typed.{Typed}
-use Rattle.c_tree.specs.Types.{Ty}
+use Rattle.c_tree.specs.Types.{Ty, Tagged}
 use Rattle.c_tree.specs.Views.{types_of}
 use Rattle.c_tree.specs.Scopes as meant
 use Rattle.c_tree.specs.Scopes.{Part, State, TagState, StaticState, RoutineState, LocalState, find_in}
@@ -21,11 +21,14 @@ use Rattle.c_types.specs.declared.scopes.TagInfo.{TagInfo}
 use Rattle.c_types.specs.declared.scopes.Scopes.{Scopes}
 use Rattle.c_interner.specs.declared.numbers.Numbers.{Numbers}
 use Rattle.c_interner.specs.Numbers.{AddsTypes}
-use Rattle.c_types.specs.Stands.{Stands, Seen, local, static, routine, alias, enumerator, library, entity_kept}
+use Rattle.c_types.specs.Stands.{Stands, AreTagged, AreOfKinds, ShowsMembers, Seen, local, static, routine, alias}
+use Rattle.c_types.specs.Stands.{enumerator, library, entity_kept}
 use Rattle.c_types.specs.Stands.{entity_seen, ShowsScope, ShowScopes, name_in, SeenTag, part_seen, member_kept}
 use Rattle.c_types.specs.Stands.{members_kept, tag_seen, tag_kept, Declared, declared_as, declared_at, static_seen}
 use Rattle.c_types.specs.Stands.{global_kept, routine_seen, fun_kept, local_seen, var_kept, named}
 use Rattle.c_interner.proofs.Growing.{length-types_of, types_longer}
+use Rattle.std.specs.Global.{Vec}
+use Rattle.c_types.proofs.Plain.{slice_get-front, added_tagged}
 
 -- ---- lists that are longer at the end
 
@@ -34,11 +37,6 @@ pub slice_get-longer : {A : Type 0} (xs ys : List A) (k : ℕ) (x : A) → slice
 slice_get-longer [] ys k x e = absurd cc
 slice_get-longer (a ∷ xs) ys zero x e = e
 slice_get-longer (a ∷ xs) ys (suc k) x e = slice_get-longer xs ys k x e
-
-pub slice_get-front : {A : Type 0} (xs ys : List A) (k : ℕ) → k < length xs → slice_get (xs ++ ys) k ≡ slice_get xs k
-slice_get-front [] ys k lt = absurd (omega arith)
-slice_get-front (a ∷ xs) ys zero lt = refl
-slice_get-front (a ∷ xs) ys (suc k) lt = slice_get-front xs ys k (omega arith)
 
 -- what is seen alike in each item is so in the lists
 pub map_more : {A B C : Type 0} (f g : A → C) (h : B → C) (xs : List A) (ys : List B) →
@@ -169,7 +167,7 @@ tag_more types new ts more i t lt h =
     ∙ members_more ts more (slice_get types i.of) t.members a ∙ sym a in
     ap (λ o. record (tag_kept types ts i) { members = o }) b ∙ h
 
-tags_more : (types new : List CType) (ts more : List Ty) (is : List TagInfo) (tags : List TagState) →
+pub tags_more : (types new : List CType) (ts more : List Ty) (is : List TagInfo) (tags : List TagState) →
     ((n : ℕ) (i : TagInfo) → slice_get is n ≡ Some i → i.of < length types) →
     map (tag_kept types ts) is ≡ map tag_seen tags → map (tag_kept (types ++ new) (ts ++ more)) is ≡ map tag_seen tags
 tags_more types new ts more [] tags k h = h
@@ -183,19 +181,29 @@ tags_more types new ts more (i ∷ is) (t ∷ tags) k h =
 
 -- ---- all of it
 
-stands_longer : (sc : Scopes) (p : Typed) (s : State) (new : List CType) (more : List Ty) →
-    types_of (p.types ++ new) ≡ types_of p.types ++ more → Stands sc p s →
-    Stands sc (record p { types = p.types ++ new }) s
-stands_longer sc p s new more e h =
+-- the tags of a list have the types with their numbers
+abbrev pub HaveTypes : List Ty → List TagInfo → Type 0
+HaveTypes ts is = (n : ℕ) (i : TagInfo) → slice_get is n ≡ Some i → named ts i.of ≡ Some (Tagged n)
+
+-- more types, and perhaps other tags
+pub stands_grown : (sc : Scopes) (v : Vec TagInfo) (p : Typed) (s : State) (ms : List TagState) (new : List CType)
+    (more : List Ty) → Stands sc p s → types_of (p.types ++ new) ≡ types_of p.types ++ more →
+    length sc.tags.items ≤ length v.items →
+    map (tag_kept (p.types ++ new) (types_of p.types ++ more)) v.items ≡ map tag_seen ms →
+    HaveTypes (types_of p.types ++ more) v.items → AreOfKinds (p.types ++ new) v.items →
+    AreTagged (types_of p.types ++ more) v.items → ShowsMembers sc.file.now sc.stale sc.named.entries ms →
+    Stands (record sc { tags = v }) (record p { types = p.types ++ new }) (record s { tags = ms })
+stands_grown sc v p s ms new more h e le t have kinds are m =
     let file = sc.file.now in
     let ts = types_of p.types in
     record {
-      scopes = rw e (scopes_more ts more (length sc.tags.items) (length sc.tags.items)
-          (reverse sc.scopes.items) s.scopes (omega arith) h.scopes);
-      tags = rw e (tags_more p.types new ts more sc.tags.items s.tags
-          (λ n i g. omega (arith, slice_get_within ts i.of _ (h.tag_types n i g), length-types_of p.types)) h.tags);
-      tag_types = λ n i g. rw e (slice_get-longer ts more i.of _ (h.tag_types n i g));
-      members = h.members;
+      scopes = rw e (scopes_more ts more (length sc.tags.items) (length v.items)
+          (reverse sc.scopes.items) s.scopes le h.scopes);
+      tags = rw e t;
+      tag_types = rw e have;
+      kinds = kinds;
+      tagged = rw e are;
+      members = m;
       objects = h.objects;
       globals = rw e (map_more (global_kept file ts) (global_kept file (ts ++ more)) static_seen p.globals s.statics
           (λ a b g. declared_more file ts more a.name a.pos a.of b.name b.of g) h.globals);
@@ -208,11 +216,29 @@ stands_longer sc p s new more e h =
       linked = h.linked;
     }
 
+pub tags_longer : (sc : Scopes) (p : Typed) (s : State) (new : List CType) (more : List Ty) → Stands sc p s →
+    map (tag_kept (p.types ++ new) (types_of p.types ++ more)) sc.tags.items ≡ map tag_seen s.tags
+tags_longer sc p s new more h =
+    let ts = types_of p.types in
+    tags_more p.types new ts more sc.tags.items s.tags
+    (λ n i g. omega (arith, slice_get_within ts i.of _ (h.tag_types n i g), length-types_of p.types)) h.tags
+
+pub kinds_longer : (sc : Scopes) (p : Typed) (s : State) (new : List CType) → Stands sc p s →
+    AreOfKinds (p.types ++ new) sc.tags.items
+kinds_longer sc p s new h n i e =
+    rw (slice_get-front p.types new i.of
+    (omega (arith, slice_get_within (types_of p.types) i.of _ (h.tag_types n i e), length-types_of p.types)))
+    (h.kinds n i e)
+
 -- types may be added at any time
 pub stands_more : (sc : Scopes) (p q : Typed) (s : State) → AddsTypes p q → Stands sc p s → Stands sc q s
 stands_more sc p q s a h =
     let l = types_longer p.types a.added in
-    let r : Stands sc (record p { types = p.types ++ a.added }) s = stands_longer sc p s a.added l.0 l.1 h in
+    let ts = types_of p.types in
+    let r : Stands sc (record p { types = p.types ++ a.added }) s =
+    stands_grown sc sc.tags p s s.tags a.added l.0 h l.1 (omega arith) (tags_longer sc p s a.added l.0 h)
+    (λ n i g. slice_get-longer ts l.0 i.of _ (h.tag_types n i g)) (kinds_longer sc p s a.added h)
+    (added_tagged p.types a.added l.0 sc.tags.items l.1 a.plain h.tagged) h.members in
     let e : record p { types = p.types ++ a.added } ≡ q =
     ap (λ ts. record p { types = ts }) (sym a.types) ∙ sym a.rest in
     subst (λ x. Stands sc x s) e r
@@ -225,6 +251,8 @@ stands_numbers sc n p s h =
       scopes = h.scopes;
       tags = h.tags;
       tag_types = h.tag_types;
+      kinds = h.kinds;
+      tagged = h.tagged;
       members = h.members;
       objects = h.objects;
       globals = h.globals;

@@ -1,6 +1,7 @@
 pub mod Looking
 pub mod Membered
 pub mod Sizing
+pub mod Plain
 pub mod Growth
 pub mod Records
 pub mod Binding

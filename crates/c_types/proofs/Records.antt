@@ -2,7 +2,7 @@
 use Rattle.std.proofs.Common.{◌≡◌, ℕ, zero, suc, ◌<◌, ◌≤◌, List, [], ◌∷◌, ◌++◌, length, set, take, map, Option, Some}
 use Rattle.std.proofs.Common.{None, Ok, Err, Bool, true, false, refl, sym, ap, subst, ◌∙◌, arith, inl, inr}
 use Rattle.std.proofs.Common.{length-append}
-use Rattle.std.specs.Prelude.{◌⊎◌, slice_get, option_map, reverse, nat_le, nat_eq, if◌then◌else◌}
+use Rattle.std.specs.Prelude.{◌⊎◌, ◌||◌, is_some, slice_get, option_map, reverse, nat_le, nat_eq, if◌then◌else◌}
 use Rattle.std.specs.Global.{Vec}
 use Rattle.std.proofs.lemmas.List.{map_push, map-set, length-set, append-nil}
 use Rattle.std.proofs.lemmas.Option.{slice_get_within, same_Some, none-some, get_or_from_slice_get}
@@ -19,7 +19,7 @@ use Rattle.cap_layout.specs.Walks.{placing}
 use Rattle.cap_layout.proofs.Steps.{whole_fault, fault_at}
 use Rattle.cap_layout.proofs.Rows.{layout_at}
 use Rattle.std.proofs.lemmas.Bool.{false≢true, le-leb, leb-true, eqb-true, eq-eqb}
-use Rattle.c_types.specs.Sizes.{is_union, completed_type, numbered_extent, room_extent, AreStarts}
+use Rattle.c_types.specs.Sizes.{is_union, has_tag, completed_type, numbered_extent, room_extent, AreStarts}
 use Rattle.c_tree.specs.declared.typed.CType.{CType}
 use Rattle.c_tree.specs.declared.typed.CType.TheVariants as ctypes
 use Rattle.c_tree.specs.declared.typed.Member.{Member}
@@ -36,13 +36,15 @@ use Rattle.c_types.specs.declared.scopes.MemberTable.{MemberTable}
 use Rattle.c_tree.specs.Initializers.{or_none, struct_places, record_places, known_places}
 use Rattle.std.specs.Map.{lookup}
 use Rattle.c_types.specs.declared.scopes.Scopes.{Scopes}
-use Rattle.c_interner.specs.Numbers.{AddsTypes}
-use Rattle.c_types.specs.Stands.{Stands, SeenTag, ShowScopes, tag_seen, tag_kept, part_seen, member_kept, members_kept}
+use Rattle.c_types.specs.Stands.{Stands, IsOfKind, AreOfKinds, AreTagged, SeenTag, ShowScopes, tag_seen, tag_kept}
+use Rattle.c_types.specs.Stands.{part_seen, member_kept, members_kept}
 use Rattle.c_types.specs.Stands.{named, first_named, first_part, number_among, offset_among, starts_in, ShowsMembers}
 use Rattle.c_types.specs.Members.{parts_of}
 use Rattle.c_types.specs.Calls.{Given, Fails, HasParts}
 use Rattle.c_interner.proofs.Growing.{types_of-push, length-types_of, type_at-level}
-use Rattle.c_types.proofs.Growth.{scopes_more, stands_more, slice_get-longer}
+use Rattle.c_types.proofs.Plain.{there_is}
+use Rattle.c_types.proofs.Growth.{scopes_more, HaveTypes, stands_grown, tags_longer, kinds_longer}
+use Rattle.c_types.proofs.Growth.{slice_get-longer}
 use Rattle.c_types.proofs.Looking.{seen_at}
 
 -- ---- lists
@@ -81,6 +83,20 @@ set_cases (a ∷ xs) (suc n) x y (suc k) e =
       | inl h ↦ inl h
       | inr h ↦ inr (ap suc h.0, h.1)
     ]
+
+pub slice_get-slice_set : {A : Type 0} (xs : List A) (k : ℕ) (x y : A) → slice_get xs k ≡ Some x →
+    slice_get (set xs k y) k ≡ Some y
+slice_get-slice_set [] k x y e = absurd cc
+slice_get-slice_set (a ∷ xs) zero x y e = refl
+slice_get-slice_set (a ∷ xs) (suc k) x y e = slice_get-slice_set xs k x y e
+
+pub slice_get-set_apart : {A : Type 0} (xs : List A) (k j : ℕ) (y : A) → (j ≡ k → ⊥) →
+    slice_get (set xs k y) j ≡ slice_get xs j
+slice_get-set_apart [] k j y h = refl
+slice_get-set_apart (a ∷ xs) zero zero y h = absurd (h refl)
+slice_get-set_apart (a ∷ xs) zero (suc j) y h = refl
+slice_get-set_apart (a ∷ xs) (suc k) zero y h = refl
+slice_get-set_apart (a ∷ xs) (suc k) (suc j) y h = slice_get-set_apart xs k j y (λ e. h (ap suc e))
 
 -- ---- sizes and offsets stay
 
@@ -172,11 +188,11 @@ extents_stay ts us g n x e = by_tag (slice_get ts n) refl e
     by_tag None f i = absurd (none-some x i)
     by_tag (Some t) f i = let u = g.old n t f in rw u.1 (u.2.extent ∙ i)
 
-members_stay : (file : List ℕ) (tables : List (ℕ × MemberTable)) (ts us : List TagState) → TagsStay ts us →
-    ShowsMembers file tables ts → ShowsMembers file tables us
-members_stay file tables ts us g h = record {
+members_stay : (file : List ℕ) (stale : Bool) (tables : List (ℕ × MemberTable)) (ts us : List TagState) →
+    TagsStay ts us → ShowsMembers file stale tables ts → ShowsMembers file stale tables us
+members_stay file stale tables ts us g h = record {
   numbers = λ n name. h.numbers n name ∙ ap (λ o. first_part file o name) (by_parts n (slice_get ts n) refl);
-  offsets = λ n k z e. by_starts n k z (slice_get ts n) refl (h.offsets n k z e);
+  offsets = λ f n k z e. by_starts n k z (slice_get ts n) refl (h.offsets f n k z e);
   sizes = λ n u e m. by_open n u (slice_get ts n) refl e m;
 }
   where
@@ -237,21 +253,37 @@ tags_set ts n t u e q = record { old = λ m w f. old ts n m w e f; new = λ m w 
       | inr g ↦ absurd (none-some t (sym f ∙ ap (slice_get ts) g.0 ∙ e))
     ]
 
--- the tags of a list have the types with their numbers
-abbrev pub HaveTypes : List Ty → List TagInfo → Type 0
-HaveTypes ts is = (n : ℕ) (i : TagInfo) → slice_get is n ≡ Some i → named ts i.of ≡ Some (Tagged n)
+-- another tag in the place of one, with the same type
+tagged_set : (ts : List Ty) (is : List TagInfo) (n : ℕ) (i j : TagInfo) → slice_get is n ≡ Some i → j.of ≡ i.of →
+    AreTagged ts is → AreTagged ts (set is n j)
+tagged_set ts is n i j e o h k m f = let x = h k m f in by_number x.0 x.1 x.2 (nat_eq n m) refl
+  where
+    by_number : (x : TagInfo) → slice_get is m ≡ Some x → x.of ≡ k → (b : Bool) → nat_eq n m ≡ b →
+        (y : TagInfo) × (slice_get (set is n j) m ≡ Some y) × (y.of ≡ k)
+    by_number x at of true g =
+        let q : n ≡ m = eqb-true n m g in
+        let same : i ≡ x = same_Some i x (sym e ∙ ap (slice_get is) q ∙ at) in (
+          j,
+          ap (slice_get (set is n j)) (sym q) ∙ slice_get-slice_set is n i j e,
+          o ∙ ap (λ (y : TagInfo). y.of) same ∙ of,
+        )
+    by_number x at of false g =
+        (x, slice_get-set_apart is n m j (λ z. false≢true (sym g ∙ eq-eqb n m (sym z))) ∙ at, of)
 
 pub stands_tags : (sc : Scopes) (v : Vec TagInfo) (p : Typed) (s : State) (ms : List TagState) → Stands sc p s →
     length sc.tags.items ≤ length v.items → map (tag_kept p.types (types_of p.types)) v.items ≡ map tag_seen ms →
-    HaveTypes (types_of p.types) v.items → TagsStay s.tags ms →
+    HaveTypes (types_of p.types) v.items → AreOfKinds p.types v.items → AreTagged (types_of p.types) v.items →
+    TagsStay s.tags ms →
     Stands (record sc { tags = v }) p (record s { tags = ms })
-stands_tags sc v p s ms h le e t m = record {
+stands_tags sc v p s ms h le e t kinds are m = record {
   scopes = subst (λ x. ShowScopes x (length v.items) (reverse sc.scopes.items) s.scopes) (append-nil (types_of p.types))
       (scopes_more (types_of p.types) [] (length sc.tags.items) (length v.items)
       (reverse sc.scopes.items) s.scopes le h.scopes);
   tags = e;
   tag_types = t;
-  members = members_stay sc.file.now sc.named.entries s.tags ms m h.members;
+  kinds = kinds;
+  tagged = are;
+  members = members_stay sc.file.now sc.stale sc.named.entries s.tags ms m h.members;
   objects = h.objects;
   globals = h.globals;
   begun = h.begun;
@@ -264,31 +296,52 @@ stands_tags sc v p s ms h le e t m = record {
 -- ---- a new one
 
 pub stands_new_tag : (sc : Scopes) (v : Vec TagInfo) (p q : Typed) (s : State) (k : RecordKind) (n of : ℕ) →
-    Stands sc p s → AddsTypes p q → q.types ≡ p.types ++ ctypes.Incomplete n ∷ [] → of ≡ length p.types →
-    n ≡ length sc.tags.items →
+    Stands sc p s → q.types ≡ p.types ++ ctypes.Incomplete n ∷ [] → q ≡ record p { types = q.types } →
+    of ≡ length p.types → n ≡ length sc.tags.items →
     v.items ≡ sc.tags.items ++ record { kind = k; begun = false; of = of; room = None } ∷ [] →
     Stands (record sc { tags = v }) q (record s { tags = s.tags ++ no_tag k ∷ [] })
-stands_new_tag sc v p q s k n of h a e o m g =
+stands_new_tag sc v p q s k n of h e r o m g =
     let i : TagInfo = record { kind = k; begun = false; of = of; room = None } in
-    let h1 = stands_more sc p q s a h in
-    let c : slice_get q.types of ≡ Some (ctypes.Incomplete n) =
-    rw (e, o) (slice_get-push p.types (ctypes.Incomplete n)) in
-    let t : named (types_of q.types) of ≡ Some (Tagged n) =
-    rw (e, o, types_of-push p.types (ctypes.Incomplete n), ← length-types_of p.types)
-    (slice_get-push (types_of p.types) (Tagged n)) in
+    let new : List CType = ctypes.Incomplete n ∷ [] in
+    let ts = types_of p.types in
+    let more : List Ty = Tagged n ∷ [] in
+    let c : slice_get (p.types ++ new) of ≡ Some (ctypes.Incomplete n) =
+    rw o (slice_get-push p.types (ctypes.Incomplete n)) in
+    let is : of ≡ length ts = o ∙ sym (length-types_of p.types) in
+    let t : named (ts ++ more) of ≡ Some (Tagged n) = rw is (slice_get-push ts (Tagged n)) in
     let le : length sc.tags.items ≤ length v.items = rw g (omega (arith, length-append sc.tags.items (i ∷ []))) in
-    let kept : tag_kept q.types (types_of q.types) i ≡ tag_seen (no_tag k) =
-    ap (λ x. tag_kept_with k (members_kept (types_of q.types) x)) c in
-    stands_tags sc v q s (s.tags ++ no_tag k ∷ []) h1 le
-    (rw g (map_push (tag_kept q.types (types_of q.types)) sc.tags.items i ∙ pushed _ _ _ _ h1.tags kept
-    ∙ sym (map_push tag_seen s.tags (no_tag k))))
+    let kept : tag_kept (p.types ++ new) (ts ++ more) i ≡ tag_seen (no_tag k) =
+    ap (λ x. tag_kept_with k (members_kept (ts ++ more) x)) c in
+    let all : Stands (record sc { tags = v }) (record p { types = p.types ++ new })
+    (record s { tags = s.tags ++ no_tag k ∷ [] }) =
+    stands_grown sc v p s (s.tags ++ no_tag k ∷ []) new more h (types_of-push p.types (ctypes.Incomplete n)) le
+    (rw g (map_push (tag_kept (p.types ++ new) (ts ++ more)) sc.tags.items i
+    ∙ pushed _ _ _ _ (tags_longer sc p s new more h) kept ∙ sym (map_push tag_seen s.tags (no_tag k))))
     (λ j x f. let w : slice_get (sc.tags.items ++ i ∷ []) j ≡ Some x = rw (← g) f in
-    elim (push_cases sc.tags.items i x j w) as (λ _. named (types_of q.types) x.of ≡ Some (Tagged j)) [
-      | inl y ↦ h1.tag_types j x y
+    elim (push_cases sc.tags.items i x j w) as (λ _. named (ts ++ more) x.of ≡ Some (Tagged j)) [
+      | inl y ↦ slice_get-longer ts more x.of _ (h.tag_types j x y)
       | inr y ↦ rw (← y.1, y.0, ← m) t
     ])
-    (tags_pushed s.tags k)
+    (λ j x f. let w : slice_get (sc.tags.items ++ i ∷ []) j ≡ Some x = rw (← g) f in
+    elim (push_cases sc.tags.items i x j w) as (λ _. IsOfKind x.kind (slice_get (p.types ++ new) x.of)) [
+      | inl y ↦ kinds_longer sc p s new h j x y
+      | inr y ↦ rw (← y.1, c) tt
+    ])
+    (λ j b f. elim (push_cases ts (Tagged n) (Tagged b) j f) as
+    (λ _. (x : TagInfo) × (slice_get v.items b ≡ Some x) × (x.of ≡ j)) [
+      | inl y ↦ (let x = h.tagged j b y in
+          (x.0, rw g (slice_get-longer sc.tags.items (i ∷ []) b x.0 x.1), x.2))
+      | inr y ↦ (i, rw (g, ← numbers_same n b y.1, m) (slice_get-push sc.tags.items i), is ∙ sym y.0)
+    ])
+    (members_stay sc.file.now sc.stale sc.named.entries s.tags (s.tags ++ no_tag k ∷ []) (tags_pushed s.tags k)
+    h.members)
+    in
+    subst (λ z. Stands (record sc { tags = v }) z (record s { tags = s.tags ++ no_tag k ∷ [] }))
+    (ap (λ cs. record p { types = cs }) (sym e) ∙ sym r) all
   where
+    numbers_same : (j n : ℕ) → Tagged j ≡ Tagged n → j ≡ n
+    numbers_same j n e = cc
+
     tag_kept_with : RecordKind → Option (List (Span × Option Ty)) → SeenTag
     tag_kept_with k ms = record { kind = k; begun = false; members = ms; extent = None }
 
@@ -323,19 +376,26 @@ begun_nothing sc p s n place h e =
     opened t = record t { begun = true }
 
 pub with_tag : (sc : Scopes) (p : Typed) (s : State) (n : ℕ) (i j : TagInfo) (u t : TagState) (v : Vec TagInfo) →
-    Stands sc p s → slice_get sc.tags.items n ≡ Some i → j.of ≡ i.of → v.items ≡ set sc.tags.items n j →
-    tag_kept p.types (types_of p.types) j ≡ tag_seen t → slice_get s.tags n ≡ Some u → IsSameTag u t →
+    Stands sc p s → slice_get sc.tags.items n ≡ Some i → j ≡ record i { begun = j.begun } →
+    v.items ≡ set sc.tags.items n j → tag_kept p.types (types_of p.types) j ≡ tag_seen t →
+    slice_get s.tags n ≡ Some u → IsSameTag u t →
     Stands (record sc { tags = v }) p (record s { tags = set s.tags n t })
 with_tag sc p s n i j u t v h e o g k l q =
     let le : length sc.tags.items ≤ length v.items = rw g (omega (arith, length-set sc.tags.items n j)) in
     let kept = tag_kept p.types (types_of p.types) in
+    let of : j.of ≡ i.of = ap (λ (x : TagInfo). x.of) o in
     stands_tags sc v p s (set s.tags n t) h le
     (rw g (map-set kept sc.tags.items n j ∙ same_set _ _ n _ _ h.tags k ∙ sym (map-set tag_seen s.tags n t)))
     (λ m x f. let w : slice_get (set sc.tags.items n j) m ≡ Some x = rw (← g) f in
     elim (set_cases sc.tags.items n j x m w) as (λ _. named (types_of p.types) x.of ≡ Some (Tagged m)) [
       | inl y ↦ h.tag_types m x y
-      | inr y ↦ rw (← y.1, y.0, o) (h.tag_types n i e)
+      | inr y ↦ rw (← y.1, y.0, of) (h.tag_types n i e)
     ])
+    (rw g (λ m x f. elim (set_cases sc.tags.items n j x m f) as (λ _. IsOfKind x.kind (slice_get p.types x.of)) [
+      | inl y ↦ h.kinds m x y
+      | inr y ↦ subst (λ (z : TagInfo). IsOfKind z.kind (slice_get p.types z.of)) (sym o ∙ y.1) (h.kinds n i e)
+    ]))
+    (rw g (tagged_set (types_of p.types) sc.tags.items n i j e of h.tagged))
     (tags_set s.tags n u t l q)
   where
     same_set : (xs ys : List SeenTag) (n : ℕ) (x y : SeenTag) → xs ≡ ys → x ≡ y → set xs n x ≡ set ys n y
@@ -394,18 +454,6 @@ record_is tags cs records.Union parts ms h = parts_extent tags cs true parts ms 
 
 -- ---- a struct or union with its members in the list of types
 
-tagged_form : (c : CType) (go : ℕ → Ty) (n : ℕ) → type_from c go ≡ Tagged n → (f : ℕ → Ty) → type_from c f ≡ Tagged n
-tagged_form ctypes.Void go n e f = absurd cc
-tagged_form (ctypes.Int k m) go n e f = absurd cc
-tagged_form (ctypes.Cap s) go n e f = absurd cc
-tagged_form (ctypes.Pointer t) go n e f = absurd cc
-tagged_form (ctypes.Array t m) go n e f = absurd cc
-tagged_form (ctypes.Struct m ms) go n e f = e
-tagged_form (ctypes.Union m ms) go n e f = e
-tagged_form (ctypes.Function t ps) go n e f = absurd cc
-tagged_form (ctypes.Const t) go n e f = absurd cc
-tagged_form (ctypes.Incomplete m) go n e f = e
-
 completed_form : (k : RecordKind) (n : ℕ) (ms : List Member) (f : ℕ → Ty) →
     type_from (completed_type k n ms) f ≡ Tagged n
 completed_form records.Struct n ms f = refl
@@ -421,39 +469,40 @@ grow-set (c ∷ cs) ts zero old new e h =
     ap (λ t. grow type_from types.Void cs (ts ++ t ∷ [])) (h (type_at ts) ∙ ap (λ x. type_from x (type_at ts)) (sym i))
 grow-set (c ∷ cs) ts (suc k) old new e h = grow-set cs (ts ++ type_from c (type_at ts) ∷ []) k old new e h
 
-pub slice_get-slice_set : {A : Type 0} (xs : List A) (k : ℕ) (x y : A) → slice_get xs k ≡ Some x →
-    slice_get (set xs k y) k ≡ Some y
-slice_get-slice_set [] k x y e = absurd cc
-slice_get-slice_set (a ∷ xs) zero x y e = refl
-slice_get-slice_set (a ∷ xs) (suc k) x y e = slice_get-slice_set xs k x y e
+tag_form : (o : Option CType) (n : ℕ) → has_tag o n ≡ true →
+    (c : CType) × (o ≡ Some c) × ((f : ℕ → Ty) → type_from c f ≡ Tagged n)
+tag_form (Some (ctypes.Struct m ms)) n e = (ctypes.Struct m ms, refl, λ f. ap Tagged (eqb-true m n e))
+tag_form (Some (ctypes.Union m ms)) n e = (ctypes.Union m ms, refl, λ f. ap Tagged (eqb-true m n e))
+tag_form (Some (ctypes.Incomplete m)) n e = (ctypes.Incomplete m, refl, λ f. ap Tagged (eqb-true m n e))
+tag_form o n e = absurd (false≢true e)
 
-pub slice_get-set_apart : {A : Type 0} (xs : List A) (k j : ℕ) (y : A) → (j ≡ k → ⊥) →
-    slice_get (set xs k y) j ≡ slice_get xs j
-slice_get-set_apart [] k j y h = refl
-slice_get-set_apart (a ∷ xs) zero zero y h = absurd (h refl)
-slice_get-set_apart (a ∷ xs) zero (suc j) y h = refl
-slice_get-set_apart (a ∷ xs) (suc k) zero y h = refl
-slice_get-set_apart (a ∷ xs) (suc k) (suc j) y h = slice_get-set_apart xs k j y (λ e. h (ap suc e))
+form_tag : (c : CType) (go : ℕ → Ty) (n : ℕ) → type_from c go ≡ Tagged n → has_tag (Some c) n ≡ true
+form_tag ctypes.Void go n e = absurd cc
+form_tag (ctypes.Int k m) go n e = absurd cc
+form_tag (ctypes.Cap s) go n e = absurd cc
+form_tag (ctypes.Pointer t) go n e = absurd cc
+form_tag (ctypes.Array t m) go n e = absurd cc
+form_tag (ctypes.Struct m ms) go n e = eq-eqb m n cc
+form_tag (ctypes.Union m ms) go n e = eq-eqb m n cc
+form_tag (ctypes.Function t ps) go n e = absurd cc
+form_tag (ctypes.Const t) go n e = absurd cc
+form_tag (ctypes.Incomplete m) go n e = eq-eqb m n cc
 
-there_is : {A : Type 0} (xs : List A) (k : ℕ) → k < length xs → (x : A) × (slice_get xs k ≡ Some x)
-there_is [] k lt = absurd (omega arith)
-there_is (a ∷ xs) zero lt = (a, refl)
-there_is (a ∷ xs) (suc k) lt = there_is xs k (omega arith)
+-- the type of a tag is there
+pub tag_there : (sc : Scopes) (p : Typed) (s : State) (n : ℕ) (i : TagInfo) → Stands sc p s →
+    slice_get sc.tags.items n ≡ Some i → has_tag (slice_get p.types i.of) n ≡ true
+tag_there sc p s n i h e =
+    let ts = types_of p.types in
+    let t = h.tag_types n i e in
+    let c = there_is p.types i.of (omega (arith, slice_get_within ts i.of (Tagged n) t, length-types_of p.types)) in
+    let is : type_at ts i.of ≡ Tagged n = get_or_from_slice_get ts i.of (Tagged n) types.Void t in
+    rw c.1 (form_tag c.0 (type_at (types_of (take i.of p.types))) n (sym (type_at-level p.types i.of c.0 c.1) ∙ is))
 
 pub types_of-completed : (cs : List CType) (of n : ℕ) (k : RecordKind) (ms : List Member) →
-    named (types_of cs) of ≡ Some (Tagged n) → types_of (set cs of (completed_type k n ms)) ≡ types_of cs
+    has_tag (slice_get cs of) n ≡ true → types_of (set cs of (completed_type k n ms)) ≡ types_of cs
 types_of-completed cs of n k ms e =
-    let lt : of < length cs = omega (arith, slice_get_within (types_of cs) of (Tagged n) e, length-types_of cs) in
-    let c = there_is cs of lt in
-    let i : type_at (types_of cs) of ≡ Tagged n = get_or_from_slice_get (types_of cs) of (Tagged n) types.Void e in
-    let f = tagged_form c.0 (type_at (types_of (take of cs))) n (sym (type_at-level cs of c.0 c.1) ∙ i) in
-    grow-set cs [] of c.0 (completed_type k n ms) c.1 (λ g. completed_form k n ms g ∙ sym (f g))
-
--- a struct or union that is not complete gets its members
-pub types_of-opened : (cs : List CType) (of n : ℕ) (k : RecordKind) (ms : List Member) →
-    slice_get cs of ≡ Some (ctypes.Incomplete n) → types_of (set cs of (completed_type k n ms)) ≡ types_of cs
-types_of-opened cs of n k ms e =
-    grow-set cs [] of (ctypes.Incomplete n) (completed_type k n ms) e (completed_form k n ms)
+    let c = tag_form (slice_get cs of) n e in
+    grow-set cs [] of c.0 (completed_type k n ms) c.1 (λ f. completed_form k n ms f ∙ sym (c.2 f))
 
 pub record_fault : (tags : List TagState) (cs : List CType) (k : RecordKind) (parts : List Part) (ms : List Member)
     (shared : Bool) (f g : LayoutFault) → shared ≡ is_union k → HasParts (types_of cs) parts ms → f ≡ g →
@@ -475,6 +524,33 @@ record_fits tags cs k parts ms shared end l u h f w =
     record_is tags cs k parts ms h ∙ ap (λ o. with_extent o whole) e ∙ w
 
 -- ---- completion
+
+-- a table of members that could not be kept
+pub named_same : (sc sd : Scopes) (p : Typed) (s : State) → sd ≡ record sc { named = sd.named } →
+    sd.named.entries ≡ sc.named.entries → Stands sc p s → Stands sd p s
+named_same sc sd p s same g h =
+    let r : Stands (record sc { named = sd.named }) p s = record {
+      scopes = h.scopes;
+      tags = h.tags;
+      tag_types = h.tag_types;
+      kinds = h.kinds;
+      tagged = h.tagged;
+      members = rw g h.members;
+      objects = h.objects;
+      globals = h.globals;
+      begun = h.begun;
+      routines = h.routines;
+      locals = h.locals;
+      int = h.int;
+      linked = h.linked;
+    } in
+    subst (λ z. Stands z p s) (sym same) r
+
+pub none_there : (sc : Scopes) (p : Typed) (s : State) (n : ℕ) (k : RecordKind) → Stands sc p s →
+    slice_get sc.tags.items n ≡ None → kind_at s n k ≡ true → ⊥
+none_there sc p s n k h e f =
+    let none = seen_none (tag_kept p.types (types_of p.types)) tag_seen sc.tags.items s.tags n h.tags e in
+    false≢true (sym (ap (λ o. has_kind o k) none) ∙ f)
 
 same_record_is : (j k : RecordKind) → same_record j k ≡ true → j ≡ k
 same_record_is records.Struct records.Struct e = refl
@@ -551,25 +627,29 @@ same_places ts (r ∷ rs) (m ∷ ms) e =
     let i = same_places ts rs ms b in
     cc
 
-extents_completed : (file : List ℕ) (tables : List (ℕ × MemberTable)) (tags : List TagState) (n : ℕ) (u t : TagState) →
-    ShowsMembers file tables tags → slice_get tags n ≡ Some u → u.members ≡ None → ExtentsStay tags (set tags n t)
-extents_completed file tables tags n u t h e o m x f = by_number (nat_eq n m) refl
+extents_completed : (tags : List TagState) (n : ℕ) (u t : TagState) → slice_get tags n ≡ Some u → u.extent ≡ None →
+    ExtentsStay tags (set tags n t)
+extents_completed tags n u t e o m x f = by_number (nat_eq n m) refl
   where
     by_number : (b : Bool) → nat_eq n m ≡ b → tag_extent (slice_get (set tags n t) m) ≡ Some x
     by_number true g =
-        let i : n ≡ m = eqb-true n m g in
-        let none : tag_extent (slice_get tags m) ≡ None = rw (← i, e) (h.sizes n u e o) in
+        let none : tag_extent (slice_get tags m) ≡ None = rw (← eqb-true n m g, e) o in
         absurd (none-some x (sym none ∙ f))
     by_number false g =
         rw (slice_get-set_apart tags n m t (λ z. false≢true (sym g ∙ eq-eqb n m (sym z)))) f
 
-members_noted : (file : List ℕ) (before after : List (ℕ × MemberTable)) (ts : List Ty) (tags : List TagState) (n : ℕ)
-    (b : MemberTable) (ms : List Member) (parts : List Part) (u t : TagState) → ShowsMembers file before tags →
-    Notes before after n b → slice_get tags n ≡ Some u → u.members ≡ None → HasParts ts parts ms →
-    t.members ≡ Some parts → IsTable file tags t.kind ms parts b → ShowsMembers file after (set tags n t)
-members_noted file before after ts tags n b ms parts u t h d e o has m is = record {
+-- where another state of the tables than before may be stale only if the size of the tag was known
+abbrev pub IsFresh : Bool → Bool → TagState → Type 0
+IsFresh before after u = after ≡ false → (before ≡ false) × (u.extent ≡ None)
+
+members_noted : (file : List ℕ) (old stale : Bool) (before after : List (ℕ × MemberTable)) (ts : List Ty)
+    (tags : List TagState) (n : ℕ) (b : MemberTable) (ms : List Member) (parts : List Part) (u t : TagState) →
+    ShowsMembers file old before tags → Notes before after n b → slice_get tags n ≡ Some u → IsFresh old stale u →
+    HasParts ts parts ms → t.members ≡ Some parts → IsTable file tags t.kind ms parts b →
+    ShowsMembers file stale after (set tags n t)
+members_noted file old stale before after ts tags n b ms parts u t h d e fresh has m is = record {
   numbers = λ j name. rw (d j) (numbers j name (nat_eq n j) refl);
-  offsets = λ j k z f. offsets j k z (nat_eq n j) refl (rw (d j) at f);
+  offsets = λ q j k z f. offsets q j k z (nat_eq n j) refl (rw (d j) at f);
   sizes = λ j w f g. elim (set_cases tags n t w j f) as (λ _. w.extent ≡ None) [
     | inl x ↦ h.sizes j w x g
     | inr x ↦ absurd (none-some parts (sym g ∙ ap (λ (y : TagState). y.members) (sym x.1) ∙ m))
@@ -589,37 +669,62 @@ members_noted file before after ts tags n b ms parts u t h d e o has m is = reco
         rw (this j f, m) (is.numbers name ∙ ap (λ xs. first_named file 0 xs name) (same_places ts parts ms has))
     numbers j name false f = rw (others j f) (h.numbers j name)
 
-    stay : ExtentsStay tags (set tags n t)
-    stay = extents_completed file before tags n u t h e o
+    stay : stale ≡ false → ExtentsStay tags (set tags n t)
+    stay q = extents_completed tags n u t e (fresh q).1
 
-    by_tag : (j k z : ℕ) (v : Option TagState) → slice_get tags j ≡ v → slice_get (starts_in tags v) k ≡ Some z →
-        slice_get (starts_in (set tags n t) v) k ≡ Some z
-    by_tag j k z None f g = absurd (none-some z g)
-    by_tag j k z (Some v) f g = known_stays tags (set tags n t) stay v.kind v.members k z g
+    by_tag : (q : stale ≡ false) (j k z : ℕ) (v : Option TagState) → slice_get tags j ≡ v →
+        slice_get (starts_in tags v) k ≡ Some z → slice_get (starts_in (set tags n t) v) k ≡ Some z
+    by_tag q j k z None f g = absurd (none-some z g)
+    by_tag q j k z (Some v) f g = known_stays tags (set tags n t) (stay q) v.kind v.members k z g
 
-    offsets : (j k z : ℕ) (c : Bool) → nat_eq n j ≡ c →
+    offsets : (q : stale ≡ false) (j k z : ℕ) (c : Bool) → nat_eq n j ≡ c →
         offset_among (if c then Some b else lookup (nat_eq j) before) k ≡ Some z →
         slice_get (starts_in (set tags n t) (slice_get (set tags n t) j)) k ≡ Some z
-    offsets j k z true f g =
+    offsets q j k z true f g =
         rw (this j f)
         (subst (λ o. slice_get (map (λ (x : ℕ × Ty). x.0) (known_places (set tags n t) t.kind o)) k ≡ Some z) (sym m)
-        (record_stays tags (set tags n t) stay t.kind parts k z (is.starts k z g)))
-    offsets j k z false f g = rw (others j f) (by_tag j k z (slice_get tags j) refl (h.offsets j k z g))
+        (record_stays tags (set tags n t) (stay q) t.kind parts k z (is.starts k z g)))
+    offsets q j k z false f g =
+        rw (others j f) (by_tag q j k z (slice_get tags j) refl (h.offsets (fresh q).0 j k z g))
+
+completed_kind : (k : RecordKind) (n : ℕ) (ms : List Member) → IsOfKind k (Some (completed_type k n ms))
+completed_kind records.Struct n ms = refl
+completed_kind records.Union n ms = refl
+
+kinds_completed : (cs : List CType) (is : List TagInfo) (n : ℕ) (i j : TagInfo) (ms : List Member) →
+    slice_get is n ≡ Some i → j.kind ≡ i.kind → j.of ≡ i.of →
+    slice_get (set cs i.of (completed_type i.kind n ms)) i.of ≡ Some (completed_type i.kind n ms) →
+    ((m : ℕ) (y : TagInfo) → slice_get is m ≡ Some y → (m ≡ n → ⊥) → y.of ≡ i.of → ⊥) → AreOfKinds cs is →
+    AreOfKinds (set cs i.of (completed_type i.kind n ms)) (set is n j)
+kinds_completed cs is n i j ms e k o at other h m x f = by_number (nat_eq n m) refl
+  where
+    ds : List CType
+    ds = set cs i.of (completed_type i.kind n ms)
+
+    by_number : (b : Bool) → nat_eq n m ≡ b → IsOfKind x.kind (slice_get ds x.of)
+    by_number true q =
+        let z : j ≡ x =
+        same_Some j x (sym (slice_get-slice_set is n i j e) ∙ ap (slice_get (set is n j)) (eqb-true n m q) ∙ f) in
+        subst (λ (w : TagInfo). IsOfKind w.kind (slice_get ds w.of)) z (rw (k, o, at) (completed_kind i.kind n ms))
+    by_number false q =
+        let d : m ≡ n → ⊥ = λ z. false≢true (sym q ∙ eq-eqb n m (sym z)) in
+        let y = sym (slice_get-set_apart is n m j d) ∙ f in
+        rw (slice_get-set_apart cs i.of x.of (completed_type i.kind n ms) (other m x y d)) (h m x y)
 
 pub stands_completed : (sc sd : Scopes) (v : Vec TagInfo) (p : Typed) (s : State) (n : ℕ) (i : TagInfo)
-    (r : Option Room) (b : MemberTable) (ms : List Member) (parts : List Part) (u t : TagState) → Stands sc p s →
-    slice_get sc.tags.items n ≡ Some i →
+    (r : Option Room) (b : MemberTable) (ms : List Member) (parts : List Part) (u t : TagState) (stale : Bool) →
+    Stands sc p s → slice_get sc.tags.items n ≡ Some i →
     sd ≡ record sc { named = sd.named } → Notes sc.named.entries sd.named.entries n b → slice_get s.tags n ≡ Some u →
-    u.members ≡ None → IsTable sc.file.now s.tags t.kind ms parts b →
+    IsFresh sc.stale stale u → IsTable sc.file.now s.tags t.kind ms parts b →
     v.items ≡ set sc.tags.items n (record i { room = r }) → HasParts (types_of p.types) parts ms → t.kind ≡ i.kind →
     t.begun ≡ i.begun → t.members ≡ Some parts → t.extent ≡ option_map room_extent r →
-    Stands (record sd { tags = v }) (record p { types = set p.types i.of (completed_type i.kind n ms) })
-    (record s { tags = set s.tags n t })
-stands_completed sc sd v p s n i r b ms parts u t h e o d w q y g has k l m x =
+    Stands (record sd { tags = v; stale = stale })
+    (record p { types = set p.types i.of (completed_type i.kind n ms) }) (record s { tags = set s.tags n t })
+stands_completed sc sd v p s n i r b ms parts u t stale h e o d w q y g has k l m x =
     let cs = p.types in
     let ds = set cs i.of (completed_type i.kind n ms) in
     let ts = types_of cs in
-    let same : types_of ds ≡ ts = types_of-completed cs i.of n i.kind ms (h.tag_types n i e) in
+    let same : types_of ds ≡ ts = types_of-completed cs i.of n i.kind ms (tag_there sc p s n i h e) in
     let at : slice_get ds i.of ≡ Some (completed_type i.kind n ms) =
     let c = there_is cs i.of (omega (
       arith,
@@ -627,11 +732,11 @@ stands_completed sc sd v p s n i r b ms parts u t h e o d w q y g has k l m x =
       length-types_of cs,
     )) in
     slice_get-slice_set cs i.of c.0 (completed_type i.kind n ms) c.1 in
+    let other = λ (j : ℕ) (y : TagInfo) (f : slice_get sc.tags.items j ≡ Some y) (d : j ≡ n → ⊥) (z : y.of ≡ i.of).
+    d (numbers_same j n (same_Some _ _ (sym (h.tag_types j y f) ∙ ap (named ts) z ∙ h.tag_types n i e))) in
     let apart = λ (j : ℕ) (y : TagInfo) (f : slice_get sc.tags.items j ≡ Some y) (d : j ≡ n → ⊥).
-    let other : y.of ≡ i.of → ⊥ =
-    λ z. d (numbers_same j n (same_Some _ _ (sym (h.tag_types j y f) ∙ ap (named ts) z ∙ h.tag_types n i e))) in
     ap (λ o. record (tag_kept cs ts y) { members = members_kept ts o })
-    (slice_get-set_apart cs i.of y.of (completed_type i.kind n ms) other) in
+    (slice_get-set_apart cs i.of y.of (completed_type i.kind n ms) (other j y f d)) in
     let seen : tag_kept ds ts (record i { room = r }) ≡ tag_seen t =
     let a : members_kept ts (slice_get ds i.of) ≡ option_map (map part_seen) t.members =
     ap (members_kept ts) at ∙ members_of_completed ts i.kind n ms ∙ ap (λ y. Some y) (sym has)
@@ -639,7 +744,7 @@ stands_completed sc sd v p s n i r b ms parts u t h e o d w q y g has k l m x =
     tag_parts i.kind t.kind i.begun t.begun _ _ _ _ (sym k) (sym l) a (sym x) in
     let le : length sc.tags.items ≤ length v.items =
     rw g (omega (arith, length-set sc.tags.items n (record i { room = r }))) in
-    let all : Stands (record sc { named = sd.named; tags = v }) (record p { types = ds })
+    let all : Stands (record sc { named = sd.named; tags = v; stale = stale }) (record p { types = ds })
     (record s { tags = set s.tags n t }) = record {
       scopes = rw same (subst (λ y. ShowScopes y (length v.items) (reverse sc.scopes.items) s.scopes) (append-nil ts)
           (scopes_more ts [] (length sc.tags.items) (length v.items) (reverse sc.scopes.items) s.scopes le h.scopes));
@@ -655,8 +760,10 @@ stands_completed sc sd v p s n i r b ms parts u t h e o d w q y g has k l m x =
             | inl z ↦ h.tag_types j y z
             | inr z ↦ rw (← z.1, z.0) (h.tag_types n i e)
           ]);
-      members = members_noted sc.file.now sc.named.entries sd.named.entries ts s.tags n b ms parts u t h.members d w q
-          has m y;
+      kinds = rw g (kinds_completed cs sc.tags.items n i (record i { room = r }) ms e refl refl at other h.kinds);
+      tagged = rw (same, g) (tagged_set ts sc.tags.items n i (record i { room = r }) e refl h.tagged);
+      members = members_noted sc.file.now sc.stale stale sc.named.entries sd.named.entries ts s.tags n b ms parts u t
+          h.members d w q has m y;
       objects = h.objects;
       globals = rw same h.globals;
       begun = h.begun;
@@ -665,8 +772,8 @@ stands_completed sc sd v p s n i r b ms parts u t h e o d w q y g has k l m x =
       int = rw same h.int;
       linked = h.linked;
     } in
-    subst (λ z. Stands (record z { tags = v }) (record p { types = ds }) (record s { tags = set s.tags n t }))
-    (sym o) all
+    subst (λ z. Stands (record z { tags = v; stale = stale }) (record p { types = ds })
+    (record s { tags = set s.tags n t })) (sym o) all
   where
     numbers_same : (j n : ℕ) → Tagged j ≡ Tagged n → j ≡ n
     numbers_same j n e = cc
@@ -682,15 +789,16 @@ stands_completed sc sd v p s n i r b ms parts u t h e o d w q y g has k l m x =
     tag_parts j k b c ms ns x y d e f g = cc
 
 pub completed_now : (sc sd : Scopes) (v : Vec TagInfo) (p : Typed) (s : State) (k : RecordKind) (n : ℕ) (i : TagInfo)
-    (r : Option Room) (b : MemberTable) (ms : List Member) (parts : List Part) (place : Pos) → Stands sc p s →
-    slice_get sc.tags.items n ≡ Some i → slice_get p.types i.of ≡ Some (ctypes.Incomplete n) →
+    (r : Option Room) (b : MemberTable) (ms : List Member) (parts : List Part) (place : Pos) (stale : Bool) →
+    Stands sc p s → slice_get sc.tags.items n ≡ Some i → stale ≡ (sc.stale || is_some i.room) →
     sd ≡ record sc { named = sd.named } → Notes sc.named.entries sd.named.entries n b →
     IsTable sc.file.now s.tags i.kind ms parts b → kind_at s n k ≡ true →
     v.items ≡ set sc.tags.items n (record i { room = r }) →
     HasParts (types_of p.types) parts ms → record_extent s.tags i.kind parts ≡ option_map room_extent r →
-    Given (record sd { tags = v }) (record p { types = set p.types i.of (completed_type i.kind n ms) })
+    Given (record sd { tags = v; stale = stale })
+    (record p { types = set p.types i.of (completed_type i.kind n ms) })
     (complete_tag k n parts place s) (λ t a. Unit {0})
-completed_now sc sd v p s k n i r b ms parts place h e q o d is kk g has x =
+completed_now sc sd v p s k n i r b ms parts place stale h e q o d is kk g has x =
     let t = seen_at (tag_kept p.types (types_of p.types)) tag_seen sc.tags.items s.tags n i h.tags e in
     let j : i.kind ≡ k = kind_is sc p s n i k h e kk in
     let y : record_extent s.tags k parts ≡ option_map room_extent r =
@@ -703,14 +811,16 @@ completed_now sc sd v p s k n i r b ms parts place h e q o d is kk g has x =
       value = tt;
       state = record s { tags = set s.tags n u };
       is = rw f (ap (λ ts. Ok (tt, record s { tags = ts })) c);
-      stands = stands_completed sc sd v p s n i r b ms parts t.0 u h e o d t.1
-          (none_seen t.0.members (ap (members_kept (types_of p.types)) (sym q) ∙ ap (λ (z : SeenTag). z.members) t.2))
+      stands = stands_completed sc sd v p s n i r b ms parts t.0 u stale h e o d t.1
+          (λ f. fresh sc.stale i.room (sym q ∙ f) (ap (λ (z : SeenTag). z.extent) t.2))
           (subst (λ z. IsTable sc.file.now s.tags z ms parts b) (ap (λ (z : SeenTag). z.kind) t.2) is) g has
           (sym (ap (λ (z : SeenTag). z.kind) t.2))
           (sym (ap (λ (z : SeenTag). z.begun) t.2)) refl y;
       fits = tt;
     }
   where
-    none_seen : (o : Option (List Part)) → None ≡ option_map (map part_seen) o → o ≡ None
-    none_seen None e = refl
-    none_seen (Some ms) e = absurd cc
+    fresh : (b : Bool) (r : Option Room) {x : Option Extent} → (b || is_some r) ≡ false → option_map room_extent r ≡ x →
+        (b ≡ false) × (x ≡ None)
+    fresh false None e f = (refl, sym f)
+    fresh false (Some r) e f = absurd (false≢true (sym e))
+    fresh true r e f = absurd (false≢true (sym e))

@@ -1,11 +1,11 @@
 -- The types and the names before a file.
 use Rattle.std.proofs.Common.{◌≡◌, ℕ, zero, suc, ◌+◌, ◌<◌, ◌≤◌, Bool, true, false, ◌&&◌, List, [], ◌∷◌, ◌++◌, length}
-use Rattle.std.proofs.Common.{get_or, take, map, Some, refl, sym, ap, subst, ◌∙◌, arith, length-append, append_assoc}
+use Rattle.std.proofs.Common.{get_or, take, map, Some, refl, sym, ap, subst, ◌∙◌, arith, length-append}
 use Rattle.std.proofs.Common.{inl, inr}
 use Rattle.std.specs.Prelude.{slice_get, slice_index, nat_lt, bytes_eq, if◌then◌else◌}
 use Rattle.std.proofs.lemmas.Bool.{ltb-true, false≢true, cases_lt}
 use Rattle.std.specs.Prelude.{◌⊎◌, reverse}
-use Rattle.std.proofs.lemmas.List.{append-nil, take_more, reverse-append}
+use Rattle.std.proofs.lemmas.List.{take_more, reverse-append}
 use Rattle.c_types.specs.declared.scopes.Scope.{Scope}
 use Rattle.c_types.specs.declared.scopes.Scopes.{Scopes}
 use Rattle.c_types.proofs.Binding.{scope_bound}
@@ -28,10 +28,12 @@ use Rattle.c_types.specs.declared.beginning.Known.{Known}
 use Rattle.c_types.specs.declared.beginning.Known.TheVariants as knowns
 use Rattle.c_types.specs.declared.beginning.TheConstants.{RECIPES, NAMES}
 use Rattle.c_interner.specs.Numbers.{AddsTypes, IsNumberOf}
-use Rattle.c_types.specs.Stands.{Stands, named, ShowsScope, name_in, tag_in, entity_kept, entity_seen, alias, library}
+use Rattle.c_types.specs.Stands.{Stands, AreTagged, named, ShowsScope, name_in, tag_in, entity_kept, entity_seen}
+use Rattle.c_types.specs.Stands.{alias, library}
 use Rattle.c_types.specs.Beginning.{Row, recipe_type, recipe_entity, known, KnowsTypes, meaning, row_name, names_scope}
 use Rattle.c_types.specs.Beginning.{refers_within, all_refer_within}
 use Rattle.c_interner.proofs.Growing.{types_longer, length-types_of}
+use Rattle.c_types.proofs.Plain.{added_tagged}
 use Rattle.c_types.proofs.Growth.{slice_get-longer}
 
 -- ---- types
@@ -128,16 +130,6 @@ knows_more p q ns r c k i l e a n m h = record { types = at }
             rw (s, get_or-append_seam ns k [] 0) (slice_get-get_or (types_of q.types) k types.Void there
             ∙ ap (λ y. Some y) (now ∙ ap (type_at known) l))
 
-pub adds_none : (p : Typed) → AddsTypes p p
-adds_none p = record { added = []; types = sym (append-nil p.types); rest = refl }
-
-pub adds_both : (p q r : Typed) → AddsTypes p q → AddsTypes q r → AddsTypes p r
-adds_both p q r a b = record {
-  added = a.added ++ b.added;
-  types = b.types ∙ ap (λ x. x ++ b.added) a.types ∙ append_assoc p.types a.added b.added;
-  rest = b.rest ∙ ap (λ (x : Typed). record x { types = r.types }) a.rest;
-}
-
 -- ---- names
 
 pub entity_is : (ts : List Ty) (ns : List ℕ) (k : Known) → KnowsTypes ts ns → refers_within k ≡ true →
@@ -196,18 +188,28 @@ int_is = refl
 pub first_is_int : (ts : List Ty) (ns : List ℕ) → KnowsTypes ts ns → named ts (slice_index ns 0) ≡ Some types.int
 first_is_int ts ns h = h.types 0 (omega (arith, h.count)) ∙ ap (λ x. Some x) int_is
 
+-- no struct or union is among the types that are added first
+pub none_tagged : (p q : Typed) → p.types ≡ [] → AddsTypes p q → AreTagged (types_of q.types) []
+unfolding grow
+none_tagged p q e a =
+    let l = types_longer [] a.added in
+    let t : q.types ≡ a.added = a.types ∙ ap (λ cs. cs ++ a.added) e in
+    rw (t, l.1) (added_tagged [] a.added l.0 [] l.1 a.plain (λ k n f. absurd (none-some (types.Tagged n) f)))
+
 pub stands_beginning : (sc : Scopes) (p : Typed) (c : Scope) → sc.scopes.items ≡ c ∷ [] → sc.tags.items ≡ [] →
     sc.named.entries ≡ [] →
     sc.objects.items ≡ [] → sc.begun.items ≡ [] → sc.linked.entries ≡ [] → sc.locals.items ≡ [] → p.globals ≡ [] →
     p.funs ≡ [] → ShowsScope (types_of p.types) 0 c file_scope → named (types_of p.types) sc.int ≡ Some types.int →
-    Stands sc p beginning
-stands_beginning sc p c s t m o b l f g u h i = record {
+    AreTagged (types_of p.types) [] → Stands sc p beginning
+stands_beginning sc p c s t m o b l f g u h i are = record {
   scopes = rw (t, s) (h, tt);
   tags = rw t refl;
   tag_types = λ n x e. absurd (none-some x (rw t at e));
+  kinds = λ n x e. absurd (none-some x (rw t at e));
+  tagged = rw t are;
   members = rw m (record {
     numbers = λ n name. refl;
-    offsets = λ n k z e. absurd (none-some z e);
+    offsets = λ f n k z e. absurd (none-some z e);
     sizes = λ n u e. absurd (none-some u e);
   });
   objects = rw o refl;

@@ -14,7 +14,7 @@ use Rattle.c_types.specs.Calls.{HasParts}
 use Rattle.c_types.specs.Sizes.{numbered_extent}
 use Rattle.c_types.specs.Stands.{part_seen, member_kept}
 use Rattle.ck_base.specs.declared.positions.Span.{Span}
-use Rattle.std.specs.Prelude.{Option, None, IfSome, nat_eq}
+use Rattle.std.specs.Prelude.{Bool, false, Option, None, IfSome, nat_eq}
 use Rattle.std.specs.Map.{lookup}
 use Rattle.c_types.specs.declared.scopes.MemberTable.{MemberTable}
 use Rattle.c_types.specs.Stands.{ShowsMembers, offset_among, starts_in}
@@ -50,8 +50,9 @@ starts_turn tags cs parts ms i m before l after found more z has e x f g n h =
     ∙ sym (append_assoc found (member_offset l before ∷ []) (starts tags (drop (suc i) parts) (behind l before))))
 
 -- what a table has of a member is its offset
-pub offset_seen : (file : List ℕ) (tables : List (ℕ × MemberTable)) (tags : List TagState) (n k : ℕ) (o : Option ℕ) →
-    ShowsMembers file tables tags → o ≡ offset_among (lookup (nat_eq n) tables) k →
+pub offset_seen : (file : List ℕ) (stale : Bool) (tables : List (ℕ × MemberTable)) (tags : List TagState) (n k : ℕ)
+    (o : Option ℕ) → stale ≡ false → ShowsMembers file stale tables tags →
+    o ≡ offset_among (lookup (nat_eq n) tables) k →
     IfSome o (λ z. slice_get (starts_in tags (slice_get tags n)) k ≡ Some z)
-offset_seen file tables tags n k None h e = tt
-offset_seen file tables tags n k (Some z) h e = h.offsets n k z (sym e)
+offset_seen file stale tables tags n k None f h e = tt
+offset_seen file stale tables tags n k (Some z) f h e = h.offsets f n k z (sym e)

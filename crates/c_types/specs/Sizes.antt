@@ -1,6 +1,6 @@
 -- The size of a type, level by level.
 use Rattle.std.specs.Prelude.{◌≡◌, ℕ, ◌<◌, ◌≤◌, List, Bool, true, false, Option, Some, None, Result, Ok, Err}
-use Rattle.std.specs.Prelude.{option_map, slice_get, map}
+use Rattle.std.specs.Prelude.{option_map, slice_get, map, nat_eq}
 use Rattle.c_tree.specs.declared.typed.CType.{CType}
 use Rattle.cap_layout.specs.Answers.{greatest_align, Exceeds}
 use Rattle.cap_layout.specs.declared.answers.Layout.{Layout}
@@ -67,6 +67,13 @@ is_union records.Union = true
 abbrev pub completed_type : RecordKind → ℕ → List Member → CType
 completed_type records.Struct tag ms = ctypes.Struct tag ms
 completed_type records.Union tag ms = ctypes.Union tag ms
+
+-- whether a type of the list is that of a tag
+abbrev pub has_tag : Option CType → ℕ → Bool
+has_tag (Some (ctypes.Struct n ms)) tag = nat_eq n tag
+has_tag (Some (ctypes.Union n ms)) tag = nat_eq n tag
+has_tag (Some (ctypes.Incomplete n)) tag = nat_eq n tag
+has_tag c tag = false
 
 -- a struct or union has this size, it is not complete, or it is over the limit
 abbrev pub IsRecordRoom : Option Extent → Result (Option Room) LayoutFault → Type 0

@@ -1,11 +1,12 @@
 -- What the scopes and the lists of a program stand for: the state of the typing of a file.
-use Rattle.std.specs.Prelude.{◌≡◌, ℕ, ℤ, ◌<◌, Bool, List, [], ◌∷◌, length, min, map, reverse, Option, Some, None}
+use Rattle.std.specs.Prelude.{◌≡◌, ℕ, ℤ, ◌<◌, Bool, false, List, [], ◌∷◌, length, min, map, reverse, Option, Some, None}
 use Rattle.std.specs.Prelude.{◌+◌, if◌then◌else◌, option_map, slice_get, slice_range, bytes_eq, nat_eq}
 use Rattle.std.specs.Map.{lookup}
 use Rattle.ck_base.specs.declared.positions.Pos.{Pos}
 use Rattle.ck_base.specs.declared.positions.Span.{Span}
 use Rattle.ck_base.specs.Tokens.{Lexeme}
 use Rattle.c_tree.specs.declared.syntax.RecordKind.{RecordKind}
+use Rattle.c_tree.specs.declared.syntax.RecordKind.TheVariants as records
 use Rattle.c_tree.specs.declared.typed.CType.{CType}
 use Rattle.c_tree.specs.declared.typed.CType.TheVariants as ctypes
 use Rattle.c_tree.specs.declared.typed.Member.{Member}
@@ -125,6 +126,20 @@ tag_kept types ts i = record {
   extent = option_map room_extent i.room;
 }
 
+-- a struct or union that is complete is of this kind
+abbrev pub IsOfKind : RecordKind → Option CType → Type 0
+IsOfKind k (Some (ctypes.Struct n ms)) = k ≡ records.Struct
+IsOfKind k (Some (ctypes.Union n ms)) = k ≡ records.Union
+IsOfKind k c = Unit {0}
+
+-- the types of tags are of their kinds
+abbrev pub AreOfKinds : List CType → List TagInfo → Type 0
+AreOfKinds types is = (n : ℕ) (i : TagInfo) → slice_get is n ≡ Some i → IsOfKind i.kind (slice_get types i.of)
+
+-- each struct or union among the types is that of a tag
+abbrev pub AreTagged : List Ty → List TagInfo → Type 0
+AreTagged ts is = (k n : ℕ) → named ts k ≡ Some (Tagged n) → (i : TagInfo) × (slice_get is n ≡ Some i) × (i.of ≡ k)
+
 -- ---- members by their names
 
 -- the number of the first of the places whose text in a file is a name
@@ -151,11 +166,13 @@ offset_among (Some t) k = slice_get t.offsets.items k
 abbrev pub starts_in : List TagState → Option TagState → List ℕ
 starts_in tags t = map (λ (x : ℕ × Ty). x.0) (tag_places tags t)
 
--- The tables of the structs and unions by the numbers of their tags. What has no members has no size
-pub record ShowsMembers (file : List ℕ) (tables : List (ℕ × MemberTable)) (tags : List TagState) : Type 0 where
+-- The tables of the structs and unions by the numbers of their tags, whose offsets hold unless they are stale. What has
+-- no members has no size
+pub record ShowsMembers (file : List ℕ) (stale : Bool) (tables : List (ℕ × MemberTable)) (tags : List TagState) :
+    Type 0 where
   pub numbers : (n : ℕ) (name : List ℕ) →
       number_among (lookup (nat_eq n) tables) name ≡ first_part file (parts_of (slice_get tags n)) name
-  pub offsets : (n k z : ℕ) → offset_among (lookup (nat_eq n) tables) k ≡ Some z →
+  pub offsets : stale ≡ false → (n k z : ℕ) → offset_among (lookup (nat_eq n) tables) k ≡ Some z →
       slice_get (starts_in tags (slice_get tags n)) k ≡ Some z
   pub sizes : (n : ℕ) (t : TagState) → slice_get tags n ≡ Some t → t.members ≡ None → t.extent ≡ None
 
@@ -204,7 +221,9 @@ pub record Stands (sc : Scopes) (p : Typed) (s : State) : Type 0 where
   pub tags : map (tag_kept p.types (types_of p.types)) sc.tags.items ≡ map tag_seen s.tags
   pub tag_types : (n : ℕ) (i : TagInfo) → slice_get sc.tags.items n ≡ Some i →
       named (types_of p.types) i.of ≡ Some (Tagged n)
-  pub members : ShowsMembers sc.file.now sc.named.entries s.tags
+  pub kinds : AreOfKinds p.types sc.tags.items
+  pub tagged : AreTagged (types_of p.types) sc.tags.items
+  pub members : ShowsMembers sc.file.now sc.stale sc.named.entries s.tags
   pub objects : sc.objects.items ≡ map object_of s.statics
   pub globals : map (global_kept sc.file.now (types_of p.types)) p.globals ≡ map static_seen s.statics
   pub begun : sc.begun.items ≡ map (λ (f : RoutineState). f.begun) s.routines

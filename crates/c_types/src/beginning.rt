@@ -4,7 +4,7 @@ ghost use Rattle.std.specs.Prelude.{◌≡◌, ℕ, ◌<◌, ◌≤◌, List, le
 ghost use Rattle.c_tree.specs.Types.{Ty};
 ghost use Rattle.c_tree.specs.Views.{type_from, types_of};
 ghost use Rattle.c_tree.specs.Programs.{file_scope, beginning};
-ghost use Rattle.c_interner.specs.Numbers.{AddsTypes};
+ghost use Rattle.c_interner.specs.Numbers.{IsPlain, AddsTypes};
 ghost use Rattle.c_types.specs.Stands.{Stands, ShowsScope, entity_kept, entity_seen};
 ghost use Rattle.c_types.specs.Beginning.{recipe_type, recipe_entity, KnowsTypes, all_refer_within, names_scope};
 
@@ -125,7 +125,8 @@ fn number_at(numbers: &[u32], k: usize) -> u32
 
 // The type of a recipe.
 fn made(alloc: Global, recipe: Recipe, numbers: &[u32]) -> Result<CType, NoMemory>
-    ensures { IfOk result (λ c. (go : ℕ → Ty) →
+    ensures plain { IfOk result IsPlain }
+    ensures is { IfOk result (λ c. (go : ℕ → Ty) →
         type_from c go ≡ recipe_type recipe (λ k. go (slice_index numbers.now k))) }
 {
     match recipe {
@@ -194,11 +195,12 @@ fn known_names<'a>(alloc: Global, numbers: &[u32]) -> Result<Scope<'a>, NoMemory
 
 impl<'a> Scopes<'a> {
     /// The scopes before a file: that of the file alone, with the typedef names, the library functions and the
-    /// intrinsics that are declared before it, whose types are added to the program. The program has no objects and no
+    /// intrinsics that are declared before it, whose types are added to the program. The program has no types, objects and
     /// functions yet.
     pub fn new(alloc: Global, p: &mut Typed, file: &'a [u8]) -> Result<Scopes<'a>, NoMemory>
         ensures adds { AddsTypes p.old p.new }
-        ensures ok { IfOk result (λ sc. p.old.globals ≡ [] → p.old.funs ≡ [] → Stands sc p.new beginning) }
+        ensures ok { IfOk result (λ sc. p.old.types ≡ [] → p.old.globals ≡ [] → p.old.funs ≡ [] →
+            Stands sc p.new beginning) }
         ensures file { IfOk result (λ sc. sc.file.now ≡ file.entry.now) }
     {
         let mut known = Numbers::new(alloc);
@@ -212,6 +214,7 @@ impl<'a> Scopes<'a> {
             scopes,
             tags: Vec::new(alloc),
             named: IndexMap::new(alloc),
+            stale: false,
             objects: Vec::new(alloc),
             begun: Vec::new(alloc),
             linked: IndexMap::new(alloc),

@@ -67,6 +67,9 @@ impl<'a> Scopes<'a> {
         ensures { (p : Typed) (s : State) → Stands self.now p s →
             IfSome result (λ z. slice_get (starts_in s.tags (slice_get s.tags tag)) k ≡ Some z) }
     {
+        if self.stale {
+            return None;
+        }
         match self.named.get(&tag) {
             None => None,
             Some(table) => offset_in(table, k),

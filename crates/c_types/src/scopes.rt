@@ -7,7 +7,7 @@ ghost use Rattle.c_tree.specs.Scopes.{State, enter, leave, find_name, find_tag, 
 ghost use Rattle.c_tree.specs.Scopes.{Scope as MeantScope};
 ghost use Rattle.c_tree.specs.Views.{types_of};
 ghost use Rattle.c_types.specs.Stands.{Stands, ShowsScope, name_in, tag_in, entity_kept, entity_seen, tagging_of};
-ghost use Rattle.c_interner.specs.Numbers.{AddsTypes, IsNumberOf};
+ghost use Rattle.c_interner.specs.Numbers.{IsPlain, AddsTypes, IsNumberOf};
 ghost use Rattle.c_types.specs.Calls.{Does, Keeps, Found, IsEntity, IsTag, Extends};
 ghost use Rattle.c_types.specs.Looks.{ShowsInnermost, IsThere, name_among, tag_among, entry_of, tag_kind_of};
 
@@ -66,6 +66,8 @@ pub struct Scopes<'a> {
     pub(crate) tags: Vec<TagInfo>,
     /// The members of each complete struct or union, by the number of its tag.
     pub(crate) named: IndexMap<u32, MemberTable<'a>>,
+    /// The offsets in the tables may be wrong, since a struct or union got members again.
+    pub(crate) stale: bool,
     pub(crate) objects: Vec<ObjectInfo>,
     /// Of each function, whether its definition was begun.
     pub(crate) begun: Vec<bool>,
@@ -79,7 +81,8 @@ pub struct Scopes<'a> {
 }
 
 impl<'a> Scope<'a> {
-    pub(crate) fn new(alloc: Global) -> Self
+    /// A scope without names.
+    pub fn new(alloc: Global) -> Self
         ensures names { (n : List ℕ) → name_in result n ≡ None }
         ensures tags { (n : List ℕ) → tag_in result n ≡ None }
     {
@@ -148,8 +151,9 @@ impl<'a> Scope<'a> {
 
 impl<'a> Scopes<'a> {
     /// The number of a type, which is added to the program if it has none. The numbers in it are those of types of the
-    /// program. Equal types get one number. For want of memory the program is as it was.
+    /// program, and it is no struct or union. Equal types get one number. For want of memory the program is as it was.
     pub fn number_of(&mut self, p: &mut Typed, c: CType) -> Result<u32, NoMemory>
+        requires { IsPlain c }
         ensures adds { AddsTypes p.old p.new }
         ensures ok { IfOk result (λ k. IsNumberOf p.old p.new k c) }
         ensures err { OnErr result (p.new ≡ p.old) }

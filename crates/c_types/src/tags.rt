@@ -1,13 +1,13 @@
 // The tags of structs and unions: their declaration, and their members.
 ghost use Rattle.ck_base.specs.declared.positions.Pos.{Pos};
 ghost use Rattle.std.specs.Prelude.{false, true, Some, ◌≡◌, ℕ, List, Bool, ◌<◌, map, length, IfOk, OnErr, MatchResult};
-ghost use Rattle.std.specs.Prelude.{slice_get, OnOk, nat_eq, bytes_eq, if◌then◌else◌};
+ghost use Rattle.std.specs.Prelude.{slice_get, OnOk, nat_eq, bytes_eq, is_some, ◌||◌, if◌then◌else◌};
 ghost use Rattle.c_tree.specs.Layout.{size_limit};
 ghost use Rattle.c_tree.specs.Scopes.{State, Part};
 ghost use Rattle.c_tree.specs.Declarators.{new_tag, begin_tag, complete_tag, is_begun, record_extent};
 ghost use Rattle.c_types.specs.Calls.{Given, Does, Keeps, Answers, HasParts, Completes, Extends};
 ghost use Rattle.c_tree.specs.Views.{types_of};
-ghost use Rattle.c_types.specs.Sizes.{AreStarts, IsRecordRoom, is_union, completed_type};
+ghost use Rattle.c_types.specs.Sizes.{AreStarts, IsRecordRoom, is_union, has_tag, completed_type};
 ghost use Rattle.c_types.specs.Stands.{Stands, part_seen, member_kept};
 ghost use Rattle.c_types.specs.Stands.{number_among, first_named};
 ghost use Rattle.std.specs.Map.{lookup};
@@ -39,24 +39,34 @@ fn completed(kind: RecordKind, tag: u32, members: Vec<Member>) -> CType
     }
 }
 
-// Whether a number names the type of a struct or union that is not complete.
-fn is_open(p: &Typed, of: u32, tag: u32) -> bool
-    ensures { result ≡ true → slice_get p.now.types of ≡ Some (CType.Incomplete tag) }
+// Whether a number names the type of a struct or union.
+fn is_type_of(p: &Typed, of: u32, tag: u32) -> bool
+    ensures { result ≡ has_tag (slice_get p.now.types of) tag }
 {
     match p.types.as_slice().get(of as usize) {
-        Some(CType::Incomplete(found)) => *found == tag,
+        Some(CType::Struct(found, _) | CType::Union(found, _) | CType::Incomplete(found)) => {
+            *found == tag
+        }
         Some(
             CType::Void
             | CType::Int(_, _)
             | CType::Cap(_)
             | CType::Pointer(_)
             | CType::Array(_, _)
-            | CType::Struct(_, _)
-            | CType::Union(_, _)
             | CType::Function(_, _)
             | CType::Const(_),
         )
         | None => false,
+    }
+}
+
+// Whether offsets may be wrong once a struct or union gets members, where it had this size.
+fn is_stale(stale: bool, before: Option<Room>) -> bool
+    ensures { result ≡ (stale || is_some before) }
+{
+    match before {
+        None => stale,
+        Some(_) => true,
     }
 }
 
@@ -235,8 +245,8 @@ impl<'a> Scopes<'a> {
             Some(info) => match self.record_room(p, info.kind, members.as_slice()) {
                 Err(_) => Err(Refusal::Code(140, pos)),
                 Ok(room) => {
-                    if !is_open(p, info.of, tag) {
-                        return Err(Refusal::NoMemory);
+                    if !is_type_of(p, info.of, tag) {
+                        return Ok(());
                     }
                     let table = self.table_of(p, info.kind, members.as_slice())?;
                     self.note_members(tag, table)?;
@@ -252,6 +262,7 @@ impl<'a> Scopes<'a> {
                         of: info.of,
                         room,
                     };
+                    self.stale = is_stale(self.stale, info.room);
                     Ok(())
                 }
             },

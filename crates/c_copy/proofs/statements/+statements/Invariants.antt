@@ -4,10 +4,13 @@ use Rattle.c_copy.specs.Order.{PartsBefore}
 use Rattle.c_copy.proofs.statements.+statements.Given as goal
 
 abbrev pub decreases-statement : goal.decreases-statement
-decreases-statement l = 2 * l.k + 1
+decreases-statement l = 3 * l.k + 2
 
 abbrev pub decreases-statements : goal.decreases-statements
-decreases-statements l = 2 * l.limit
+decreases-statements l = 3 * l.limit + 1
+
+abbrev pub decreases-part : goal.decreases-part
+decreases-part l = 3 * l.limit
 
 abbrev pub invariant-statements-loop-k : goal.invariant-statements-loop-k
 invariant-statements-loop-k l = record {
@@ -16,6 +19,6 @@ invariant-statements-loop-k l = record {
   stmts : Extends l.initial.into.stmts.items l.into.stmts.items;
   before : PartsBefore l.initial.into.stmts.items → PartsBefore l.into.stmts.items;
   there : AllBelow (length l.into.stmts.items) l.js.items;
-  copies : AreActionCopies l.source.numbers.now l.source.exprs.now l.source.stmts.now l.into.exprs.items
-      l.into.stmts.items (take l.k-index l.ks) l.js.items;
+  copies : AreActionCopies l.source.numbers.now l.source.exprs.now (take l.limit l.source.stmts.now)
+      l.into.exprs.items l.into.stmts.items (take l.k-index l.ks) l.js.items;
 }

@@ -5,20 +5,32 @@ use Rattle.std.proofs.Common.{w32}
 use mir.Syntax.{w128}
 use mir.Val.{to_z, of_z}
 use Rattle.ck_base.specs.Tokens.{Lexeme}
-use Rattle.ck_base.specs.declared.tokens.TokenKind.TheVariants.{Word}
 use Rattle.c_tree.specs.Scopes.{State, Enumerator, bind_name}
 use Rattle.c_tree.specs.Declarators.{is_new, in_int, enumerate}
 use Rattle.c_types.specs.declared.scopes.Scopes.{Scopes}
 use Rattle.c_types.specs.Calls.{Given, IsDenoted}
 use Rattle.c_types.specs.Declares.{denoted, declares_constant, name_of}
-use Rattle.c_types.specs.Stands.{text_at}
 use Rattle.c_elaborator.specs.declared.work.Work.{Work}
 use Rattle.c_elaborator.specs.Work.{Shows}
 use Rattle.c_elaborator.specs.Parts.{token_of}
-use Rattle.c_declarators.proofs.Denoting.{constant_stands, enumerated}
-use Rattle.c_declarators.proofs.Lifting.{declared, scopes_declared}
-use Rattle.c_declarators.proofs.Tagging.{enumerate_declares}
+use Rattle.c_declarators.specs.Parts.{NumberThere, IsNumber, in_any}
+use Rattle.c_declarators.proofs.Denoting.{constant_stands, constant_not_refused, enumerated}
+use Rattle.c_declarators.proofs.Lifting.{declared, scopes_declared, refused}
+use Rattle.c_declarators.proofs.Tagging.{enumerate_declares, name_is}
 use Rattle.c_declarators.proofs.naming.enumerate.Goals as goal
+
+pub returns-in-Err : goal.returns-in-Err
+returns-in-Err c =
+    let w : Work = c.args.work.now in
+    let t : Lexeme = token_of w c.args.name in
+    let u : Lexeme = name_of w.nodes.scopes.file.now c.constant_of-d.result in
+    let v : ℤ = to_z w32 (of_z w32 c.in-Some.value) in
+    refused w w (record w.nodes { scopes = c.declare_constant.new.self }) (denoted u (declares_constant u v))
+    (enumerate t c.args.number c.args.at) (IsDenoted w.nodes.p) NumberThere (in_any IsNumber) c.in-Err.refusal
+    (λ s z h e. absurd (constant_not_refused u v s z
+    (ap (λ (x : Lexeme). is_new s x.text)
+    (name_is w c.args.name c.constant_of-d.result s c.constant_of-d.ensures.name c.constant_of-d.ensures.pos h)
+    ∙ sym (c.is_new.ensures s h) ∙ c.if-not-is_new.false) e)) (c.in-Err.ensures.is w.nodes.p)
 
 pub returns-in-Ok : goal.returns-in-Ok
 returns-in-Ok c =
@@ -27,12 +39,7 @@ returns-in-Ok c =
     let sc : Scopes = c.declare_constant.new.self in
     let z : ℤ = c.args.number in
     let n : (s : State) → Shows w s → name_of w.nodes.scopes.file.now c.constant_of-d.result ≡ t =
-    λ s h. λ i. record {
-      kind = Word;
-      text = text_at (h.closed.file i) (c.constant_of-d.ensures.name i);
-      span = c.constant_of-d.ensures.name i;
-      pos = c.constant_of-d.ensures.pos i;
-    } in
+    λ s h. name_is w c.args.name c.constant_of-d.result s c.constant_of-d.ensures.name c.constant_of-d.ensures.pos h in
     let new : (s : State) → Shows w s → is_new s t.text ≡ true =
     λ s h. sym (c.is_new.ensures s h) ∙ c.if-not-is_new.false in
     let b : in_int z ≡ true = first_of (search rules, grind arith) in

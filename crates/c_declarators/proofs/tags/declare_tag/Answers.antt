@@ -3,12 +3,13 @@ use Rattle.ck_base.specs.Tokens.{Lexeme}
 use Rattle.c_tree.specs.Scopes.{State}
 use Rattle.c_tree.specs.Declarators.{declare_tag}
 use Rattle.c_types.specs.Calls.{IsTag}
-use Rattle.c_types.specs.Declares.{name_of}
+use Rattle.c_types.specs.Declares.{declares_tag, name_of}
 use Rattle.c_expressions.specs.declared.nodes.Nodes.{Nodes}
 use Rattle.c_elaborator.specs.declared.work.Work.{Work}
 use Rattle.c_elaborator.specs.Parts.{token_of}
-use Rattle.c_declarators.proofs.Lifting.{declared}
-use Rattle.c_declarators.proofs.Tagging.{declare_tag_declares, tag_declared, name_is}
+use Rattle.c_declarators.specs.Parts.{CountThere, IsCount, in_any}
+use Rattle.c_declarators.proofs.Lifting.{declared, refused}
+use Rattle.c_declarators.proofs.Tagging.{declare_tag_declares, tag_declared, tag_not_refused, name_is}
 use Rattle.c_declarators.proofs.tags.declare_tag.Goals as goal
 
 pub returns-in-Ok-bind_tag : goal.returns-in-Ok-bind_tag
@@ -28,3 +29,15 @@ returns-in-Ok-bind_tag c =
     c.tag_of-d.ensures.defines (c.requires.new s h) (e ∙ c.tag_count.ensures w.nodes.p s h.stands)
     (c.in-Ok-bind_tag.ensures.is s h.stands))
     (λ s n f. f)
+
+pub returns-in-Err : goal.returns-in-Err
+returns-in-Err c =
+    let w : Work = c.args.work.now in
+    let m : Nodes = c.bind_tag.new.nodes in
+    let t : Lexeme = token_of w c.args.name in
+    let u : Lexeme = name_of w.nodes.scopes.file.now c.tag_of-d.result in
+    refused w w m (declares_tag c.tag_kind-k.result u c.tag_of-d.result.defines) (declare_tag c.args.kind t) (IsTag m.p)
+    CountThere (in_any IsCount) c.in-Err.refusal
+    (λ s z h e. absurd (tag_not_refused c.args.kind c.tag_kind-k.result t u c.tag_of-d.result.defines s z
+    c.tag_kind-k.ensures (name_is w c.args.name c.tag_of-d.result s c.tag_of-d.ensures.name c.tag_of-d.ensures.pos h)
+    c.tag_of-d.ensures.defines (c.requires.new s h) e)) c.in-Err.ensures.is

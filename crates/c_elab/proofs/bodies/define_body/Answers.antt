@@ -13,7 +13,7 @@ type_body-requires c =
     let o = c.in_ok-open_body.ensures in
     record {
       whole = o.whole;
-      context = context_there u v c.in_ok-context.context o.keeps c.in_ok-context.ensures.there;
+      context = context_there u v c.context_of-context.result o.keeps c.context_of-context.ensures.there;
       part = still_within u v c.args.block o.keeps c.requires.part;
     }
 
@@ -28,9 +28,9 @@ returns c = λ z p.
     let u : Work = c.args.work.now in
     let v : Work = c.open_body.new.work in
     let o = c.in_ok-open_body.ensures in
-    body_defined u v c.type_body.new.work c.args.p c.args.k c.in_ok-count.count c.in_ok-context.context z
+    body_defined u v c.type_body.new.work c.args.p c.args.k c.in_ok-count.count c.context_of-context.result z
     c.type_body.result c.requires.there (λ s h. sym c.in_default.is
-    ∙ (rw c.as_slice-2.ensures.value at c.first_incomplete.ensures) s h) c.in_ok-context.ensures.is
-    (context_kept u v c.in_ok-context.context o.keeps c.in_ok-context.ensures.there)
+    ∙ (rw c.as_slice-2.ensures.value at c.first_incomplete.ensures) s h) c.context_of-context.ensures.is
+    (context_kept u v c.context_of-context.result o.keeps c.context_of-context.ensures.there)
     (rw c.as_slice.ensures.value at c.in_ok-count.ensures) o
     (c.type_body.ensures z (part_kept u v c.args.block z o.keeps p))

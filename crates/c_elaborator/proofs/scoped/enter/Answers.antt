@@ -2,6 +2,6 @@ use Rattle.std.proofs.Common.{◌∷◌, []}
 use Rattle.c_elaborator.proofs.Scoping.{changes_scopes}
 use Rattle.c_elaborator.proofs.scoped.enter.Goals as goal
 
-pub returns-in-Ok : goal.returns-in-Ok
-returns-in-Ok c = changes_scopes c.args.work.now _
-    (λ cs. record { names = []; tags = [] } ∷ cs) c.requires.whole c.enter.ensures.file c.in-Ok.ensures.ok
+pub returns : goal.returns
+returns c = changes_scopes c.args.work.now _
+    (λ cs. record { names = []; tags = [] } ∷ cs) c.requires.whole c.enter.ensures.file c.in_ok-enter.ensures.ok

@@ -9,7 +9,7 @@ returns c = record {
   written =
       written_is c.args.work.now _ c.in_ok-numbers.numbers c.in_ok-globals.globals.items c.in_ok-funs.funs.items
       c.routines.new.into.exprs.items c.routines.new.into.stmts.items c.args.main c.number_of_main-main.result refl
-      c.in_ok-check_tags.ensures c.in_ok-numbers.ensures c.number_of_main-main.ensures c.requires.main
+      c.in_ok-numbers.ensures c.number_of_main-main.ensures c.requires.main
       c.in_ok-globals.ensures c.in_ok-funs.ensures.are;
   bodies = c.in_ok-funs.ensures.bodies (none_before _ c.new-2.ensures.items);
 }

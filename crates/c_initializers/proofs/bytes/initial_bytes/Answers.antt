@@ -17,9 +17,9 @@ returns c = λ ls p.
     let n : length c.put_all.new.bytes ≡ max (greatest_end c.args.numbers.now) c.args.end =
     grind (arith, common_steps) in
     let l : c.in_ok-bytes.bytes.len ≡ length c.put_all.new.bytes = grind (arith, common_steps) in
-    let e : c.deref_mut.result.now ≡ replicate c.max-count.result 0 =
+    let e : c.deref_mut.result.now ≡ replicate c.max.result 0 =
     c.deref_mut.ensures.value ∙ c.in_ok-bytes.ensures in
     front-all c.in_ok-bytes.bytes.len c.put_all.new.bytes _ l ∙
     bytes_of_all c.put_all.new.bytes c.args.numbers.now ls c.args.end p n
     (λ k. c.in_ok-put_all.ensures.each k
-    ∙ ap (λ b. added_at k b c.args.numbers.now) (ap (λ xs. get_or xs k 0) e ∙ zeros c.max-count.result k 0))
+    ∙ ap (λ b. added_at k b c.args.numbers.now) (ap (λ xs. get_or xs k 0) e ∙ zeros c.max.result k 0))

@@ -12,11 +12,11 @@ returns-in-Err-Incomplete c = λ s h.
     let f = c.in-Err-Incomplete.ensures.is s h.stands in
     object-open c.args.work.now s c.args.k g h e (rw c.in-Err-Incomplete.field-0-is at f)
 
-pub returns-in_ok-owned_bytes-in-Ok : goal.returns-in_ok-owned_bytes-in-Ok
-returns-in_ok-owned_bytes-in-Ok c = λ s h.
+pub returns-in-Ok : goal.returns-in-Ok
+returns-in-Ok c = λ s h.
     let g = c.in-Some.g.now in
     let l = c.in-Some.ensures.lookup in
     let e : slice_get c.args.work.now.nodes.p.globals c.args.k ≡ Some g =
     found-at c.args.work.now.nodes.p.globals c.as_slice.result.now c.args.k g c.as_slice.ensures l.0 l.1 in
     object-complete c.args.work.now s c.args.k g c.in-Ok.layout h e (c.in-Ok.ensures.is s h.stands)
-    ∙ ap (λ n. Some n) (sym c.in_ok-owned_bytes-in-Ok.ensures.is)
+    ∙ ap (λ n. Some n) (sym c.owned_bytes.ensures.is)

@@ -1,8 +1,12 @@
-use Rattle.std.proofs.Common.{◌≡◌, ◌+◌, List, sym, subst}
+use Rattle.std.proofs.Common.{◌≡◌, ◌+◌, List, Some, sym, subst}
 use Rattle.std.specs.List.{All}
 use Rattle.std.proofs.lemmas.List.Elements.{All-push}
+use Rattle.cap_layout.specs.Answers.{extent_is}
+use Rattle.c_tree.specs.Layout.{Extent, member_offset, behind}
+use Rattle.c_tree.specs.Scopes.{type_extent}
+use Rattle.c_tree.specs.Types.{Ty}
 use Rattle.c_initializers.specs.declared.places.Place.{Place}
-use Rattle.c_initializers.specs.Places.{IsPlaceThere}
+use Rattle.c_initializers.specs.Places.{IsPlaceThere, place_in}
 use Rattle.c_initializers.proofs.PlaceLaws.{PlacedTo, placed-more}
 use Rattle.c_initializers.proofs.members.struct_places.Goals as goal
 
@@ -15,7 +19,9 @@ loop-m-preserved c =
       there = subst (λ (xs : List Place). All (IsPlaceThere w) xs) (sym p)
           (All-push (IsPlaceThere w) c.loop-m.places.items c.in-Some.next.place c.loop-m.invariant.there n.0);
       are = λ s h.
-          let f = n.1 s h in
+          let f = subst (λ (u : Ty). (y : Extent) × (type_extent s.tags u ≡ Some y)
+          × (place_in w c.in-Some.next.place ≡ (member_offset y (extent_is c.loop-m.end), u))
+          × (extent_is c.in-Some.next.end ≡ behind y (extent_is c.loop-m.end))) c.there.ensures.is (n.1 s h) in
           subst (λ (xs : List Place). PlacedTo w s c.args.members.now (c.loop-m.m-index + 1) c.in-Some.next.end xs)
           (sym p)
           (placed-more w s c.args.members.now c.loop-m.m-index _ c.loop-m.end c.in-Some.next c.loop-m.places.items f.0

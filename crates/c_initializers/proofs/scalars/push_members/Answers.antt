@@ -1,19 +1,21 @@
-use Rattle.std.proofs.Common.{◌≡◌, ◌+◌, ◌-◌, ◌<◌, ◌++◌, List, get_or, length, drop, map, refl, sym, ap, subst, ◌∙◌}
+use Rattle.std.proofs.Common.{◌≡◌, ◌+◌, ◌-◌, ◌*◌, ◌<◌, ◌≤◌, [], ◌∷◌, ◌++◌, List, get_or, length, drop, map, refl, sym, ap, subst, ◌∙◌}
 use Rattle.std.proofs.Common.{arith}
 use Rattle.std.specs.List.{All}
+use Rattle.std.proofs.Math.Nat.{zero-mul}
 use Rattle.std.proofs.lemmas.List.Elements.{All-push}
 use Rattle.c_tree.specs.Initializers.{all_scalars, scalars_of, tag_scalars}
 use Rattle.c_expressions.specs.Nodes.{type_in, type_count}
 use Rattle.c_initializers.specs.declared.places.Place.{Place}
 use Rattle.c_initializers.specs.declared.scalars.Row.{Row}
 use Rattle.c_initializers.specs.Places.{place_in}
-use Rattle.c_initializers.specs.Rows.{IsRowThere, rows_scalars}
+use Rattle.c_initializers.specs.Rows.{IsRowThere, rows_scalars, row_steps, rows_steps}
 use Rattle.c_initializers.proofs.PlaceLaws.{no-depth, one-depth}
 use Rattle.c_initializers.proofs.RowLaws.{adds-no-row, member-row, single-row}
+use Rattle.c_initializers.proofs.StepLaws.{member_steps, member-steps, members-steps, one-less, steps-push}
 use Rattle.c_initializers.proofs.scalars.push_members.Goals as goal
 
 pub returns-then-tags-eq0 : goal.returns-then-tags-eq0
-returns-then-tags-eq0 c = adds-no-row c.args.work.now c.args.rows.now.items _
+returns-then-tags-eq0 c = adds-no-row c.args.work.now c.args.rows.now.items _ _
     (λ s. ap (λ d. tag_scalars d s c.args.tag c.args.at) c.if-tags-eq0.true ∙ no-depth s c.args.tag c.args.at)
 
 pub loop-left-preserved : goal.loop-left-preserved
@@ -40,6 +42,16 @@ loop-left-preserved c =
           ∙ ap (λ (p : Place). scalars_of s go (type_in w.nodes p.of) (c.args.at + p.at)) q)
           (subst (λ n. rows_scalars w s c.loop-left.rows.items ≡ all_scalars s go (map (place_in w) (drop n ms)) c.args.at
           ++ rows_scalars w s c.args.rows.now.items) (sym z) (c.loop-left.invariant.are s h));
+      steps =
+          let p = steps-push w c.loop-left.rows.items c.single.result in
+          let q : row_steps w c.single.result ≤ member_steps w c.args.tags =
+          subst (λ (x : Row). row_steps w x ≤ member_steps w c.args.tags) (sym c.single.ensures)
+          (member-steps w c.args.tags m.of (omega (arith, c.if-tags-eq0.false))) in
+          let f : rows_steps w c.push_row.new.rows.items ≡ rows_steps w (c.loop-left.rows.items ++ c.single.result ∷ []) =
+          ap (rows_steps w) e in
+          let g = one-less c.loop-left.left (member_steps w c.args.tags) (omega (arith, c.loop-left-test.true)) in
+          let h = c.loop-left.invariant.steps in
+          omega arith;
     }
 
 pub returns : goal.returns
@@ -56,4 +68,10 @@ returns c =
           ∙ ap (λ x. x ++ rows_scalars w s c.args.rows.now.items)
           (ap (λ ps. all_scalars s go ps c.args.at) (c.in_ok-members.ensures.are s h)
           ∙ sym (one-depth c.args.tags (c.args.tags - 1) s c.args.tag c.args.at (omega (arith, c.if-tags-eq0.false)) refl));
+      steps =
+          let g : c.loop-left.left * member_steps w c.args.tags ≡ 0 =
+          ap (λ n. n * member_steps w c.args.tags) z ∙ zero-mul (member_steps w c.args.tags) in
+          let f = members-steps w (length ms) c.args.tags c.args.tag (omega arith) (omega (arith, c.if-tags-eq0.false)) in
+          let h = c.loop-left.invariant.steps in
+          omega arith;
     }

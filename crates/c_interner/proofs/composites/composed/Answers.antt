@@ -2,8 +2,8 @@ use Rattle.std.proofs.Common.{◌≡◌, ◌∷◌, ◌++◌, length, drop, ap, 
 use Rattle.c_interner.proofs.Pairing.{composite_params}
 use Rattle.c_interner.proofs.composites.composed.Goals as goal
 
-pub returns-in_ok-params-in-Function-Function : goal.returns-in_ok-params-in-Function-Function
-returns-in_ok-params-in-Function-Function c go e =
+pub returns-in_ok-params-in-Function-Function-clause-is : goal.returns-in_ok-params-in-Function-Function-clause-is
+returns-in_ok-params-in-Function-Function-clause-is c go e =
     let first = c.in-Some.first.now in
     let others = c.in-Some.others.now in
     let whole : c.args.made.now ≡ first ∷ others = c.in-Some.ensures.cases.0 in

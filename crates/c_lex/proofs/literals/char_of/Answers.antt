@@ -1,5 +1,6 @@
 use Rattle.std.proofs.Common.{◌≡◌, ℕ, List, length, ap, subst, sym, ◌∙◌}
 use Rattle.std.specs.Prelude.{Some}
+use Rattle.std.proofs.lemmas.Option.{none-some, some_pair_parts}
 use Rattle.ck_base.specs.Literals.{BeginsWithCharacter, in_quotes, IsCharacter}
 use Rattle.c_lex.specs.Spelled.{character_at}
 use Rattle.c_lex.proofs.Escapes.{character_found, character_only}
@@ -16,9 +17,8 @@ one text contents value quoted is =
 
 pub returns-in_err-value-clause-only : goal.returns-in_err-value-clause-only
 returns-in_err-value-clause-only c = λ value is.
-    let begins = one _ _ value c.in_ok-contents.ensures.found is in
-    let ends = c.in_err-value.ensures.value in
-    absurd (cc)
+    absurd (none-some (value, length c.in_ok-contents.contents.now)
+    (c.in_err-value.ensures.value ∙ one _ _ value c.in_ok-contents.ensures.found is))
 
 pub returns-then-n-contents-clause-found : goal.returns-then-n-contents-clause-found
 returns-then-n-contents-clause-found c =
@@ -28,14 +28,10 @@ returns-then-n-contents-clause-found c =
 
 pub returns-then-n-contents-clause-only : goal.returns-then-n-contents-clause-only
 returns-then-n-contents-clause-only c = λ value is.
-    let begins = c.in_ok-value.ensures.value ∙ one _ _ value c.in_ok-contents.ensures.found is in
-    let same : ◌≡◌ {A = ℕ × ℕ} (c.in_ok-value.value, c.in_ok-value.n) (value, length c.in_ok-contents.contents.now) =
-    cc in
-    ap (λ (p : ℕ × ℕ). Some p.0) same
+    ap Some (some_pair_parts _ _ _ _ (c.in_ok-value.ensures.value
+    ∙ one _ _ value c.in_ok-contents.ensures.found is)).0
 
 pub returns-else-n-contents-clause-only : goal.returns-else-n-contents-clause-only
 returns-else-n-contents-clause-only c = λ value is.
-    let begins = c.in_ok-value.ensures.value ∙ one _ _ value c.in_ok-contents.ensures.found is in
-    let same : ◌≡◌ {A = ℕ × ℕ} (c.in_ok-value.value, c.in_ok-value.n) (value, length c.in_ok-contents.contents.now) =
-    cc in
-    absurd (c.if-n-contents.false (ap (λ (p : ℕ × ℕ). p.1) same))
+    absurd (c.if-n-contents.false (some_pair_parts _ _ _ _ (c.in_ok-value.ensures.value
+    ∙ one _ _ value c.in_ok-contents.ensures.found is)).1)

@@ -1,8 +1,10 @@
-use Rattle.std.proofs.Common.{◌≡◌, ℕ, ◌≤◌, List, true, false, length, refl, ap, sym, ◌∙◌, arith}
+use Rattle.std.proofs.Common.{◌≡◌, ℕ, ◌≤◌, List, false, length, refl, ap, sym, ◌∙◌, arith}
 use Rattle.std.specs.Prelude.{Some, nat_eq}
 use Rattle.std.proofs.lemmas.Bool.{eqb-true, eqb-false}
+use Rattle.std.proofs.lemmas.Option.{none-some}
 use Rattle.ck_base.specs.declared.tokens.Integer.{Integer}
 use Rattle.c_lex.specs.Spelled.{suffix_at, has_type}
+use Rattle.c_lex.proofs.Tables.{never}
 use Rattle.c_lex.proofs.Integers.{Found, run_at, behind_at, reading, made, found_reading, found_only}
 use Rattle.c_lex.proofs.literals.integer_of.Goals as goal
 use Rattle.c_lex.proofs.literals.integer_of.Goals.{In_ok-unsigned}
@@ -50,8 +52,7 @@ returns-in_err-unsigned-clause-only c = λ n is.
     let rest = behind_at _ _ _ _ _ c.split_at.ensures.back c.digits_length.ensures.value part.base part.digits in
     let said : suffix_at c.split_at.result.1.now ≡ Some (n.unsigned, n.longs) =
     ap suffix_at rest ∙ (reading c.args.text.now n is).suffix in
-    let unsaid = sym c.suffix_of.ensures ∙ c.in_err-unsigned.was in
-    absurd (cc)
+    absurd (none-some (n.unsigned, n.longs) (sym c.in_err-unsigned.was ∙ c.suffix_of.ensures ∙ said))
 
 pub returns-then-not-has_type-clause-only : goal.returns-then-not-has_type-clause-only
 unfolding constant
@@ -60,8 +61,7 @@ returns-then-not-has_type-clause-only c = λ n is.
     let same = found_only _ _ n _ _ _ (found (goal.at.returns-then-not-has_type-clause-only c).In_ok-unsigned) parts in
     let typed = ap (λ (m : Integer). has_type m.value m.unsigned m.decimal) same ∙ parts.typed in
     let untyped = sym c.has_type.ensures ∙ c.if-not-has_type.true in
-    let clash : true ≡ false = sym typed ∙ untyped in
-    absurd (cc)
+    absurd (never _ untyped typed)
 
 pub returns-clause-found : goal.returns-clause-found
 unfolding constant

@@ -1,15 +1,12 @@
-use Rattle.std.proofs.Common.{◌≡◌, Bool, true, false, refl, sym, ◌∙◌}
+use Rattle.std.proofs.Common.{◌≡◌, false, refl, sym, ◌∙◌}
 use Rattle.std.specs.Prelude.{Option, Some, None, is_some}
 use Rattle.c_lex.specs.Pieces.{Faults}
+use Rattle.c_lex.proofs.Tables.{never}
 use Rattle.c_lex.proofs.pieces.fault_of.Goals as goal
 
 nothing : {A : Type 0} (found : Option A) (x : A) → is_some found ≡ false → found ≡ Some x → ⊥
 nothing None x none e = cc
 nothing (Some y) x none e = cc
-
-never : (b : Bool) → b ≡ false → b ≡ true → ⊥
-never true e f = cc
-never false e f = cc
 
 pub returns-else-is_some : goal.returns-else-is_some
 returns-else-is_some c = rw c.in-Number.is

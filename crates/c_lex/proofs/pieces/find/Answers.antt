@@ -1,7 +1,7 @@
 use Rattle.std.proofs.Common.{take, drop, length-take-le, sym, arith}
 use Rattle.std.proofs.lemmas.List.{take_rest}
 use Rattle.ck_base.specs.Lexes.{Gap, Separates, begins_line}
-use Rattle.c_lex.proofs.Positions.{place_begins, place_moved}
+use Rattle.c_lex.proofs.Positions.{place_begins, place_moved, place_part}
 use Rattle.c_lex.proofs.Stands.{separator_some, separator_within, gap_push}
 use Rattle.c_lex.proofs.pieces.find.Goals as goal
 use Rattle.c_lex.proofs.pieces.find.Goals.{In-Separator}
@@ -23,6 +23,12 @@ slice_bounds-behind-end c =
     let within = separator_within (separates (goal.at.slice_bounds-behind-end c).In-Separator) in
     sym (rw (take_rest c.args.file.now c.loop-n.place.at)
     (length-take-le c.in-Separator.n (drop c.loop-n.place.at c.args.file.now) within))
+
+pub behind-place-requires : goal.behind-place-requires
+behind-place-requires c =
+    rw (take_rest c.args.file.now c.loop-n.place.at)
+    (place_part c.args.file.now c.loop-n.place c.in-Separator.n c.requires.small c.loop-n.invariant.of_file
+    (separator_within (separates (goal.at.behind-place-requires c).In-Separator)))
 
 pub loop-n-smaller : goal.loop-n-smaller
 loop-n-smaller c =

@@ -13,14 +13,8 @@ bounds place front bytes i within small is =
     let taken = length-take-le i bytes (omega arith) in
     (omega (arith, small_place.0), omega (arith, small_place.1), omega (arith, small_place.2))
 
-pub behind_byte-place-requires-clause-at : goal.behind_byte-place-requires-clause-at
-behind_byte-place-requires-clause-at c =
-    let small = bounds c.loop-b.place c.requires.0 c.args.bytes.now c.loop-b.b-index (omega arith) c.requires.2 (c.loop-b.invariant c.requires.0 c.requires.1) in omega (arith, small.0)
-
-pub behind_byte-place-requires-clause-line : goal.behind_byte-place-requires-clause-line
-behind_byte-place-requires-clause-line c =
-    let small = bounds c.loop-b.place c.requires.0 c.args.bytes.now c.loop-b.b-index (omega arith) c.requires.2 (c.loop-b.invariant c.requires.0 c.requires.1) in omega (arith, small.1)
-
-pub behind_byte-place-requires-clause-col : goal.behind_byte-place-requires-clause-col
-behind_byte-place-requires-clause-col c =
-    let small = bounds c.loop-b.place c.requires.0 c.args.bytes.now c.loop-b.b-index (omega arith) c.requires.2 (c.loop-b.invariant c.requires.0 c.requires.1) in omega (arith, small.2)
+pub behind_byte-place-requires : goal.behind_byte-place-requires
+behind_byte-place-requires c =
+    let small = bounds c.loop-b.place c.requires.0 c.args.bytes.now c.loop-b.b-index (omega arith) c.requires.2
+    (c.loop-b.invariant c.requires.0 c.requires.1) in
+    record { at = omega (arith, small.0); line = omega (arith, small.1); col = omega (arith, small.2) }

@@ -37,41 +37,38 @@ returns-in_err-expect-clause-tree c =
 pub reverse_from-requires : goal.reverse_from-requires
 reverse_from-requires c = let more = c.in_ok-parts.ensures.more in let same = c.len-before.ensures in omega arith
 
-pub returns-clause-tree : goal.returns-clause-tree
+pub returns : goal.returns
 unfolding declaration_behind
-returns-clause-tree c = λ s x p m.
-    let g = c.in_ok-parts.ensures.tree (one s) x (c.in_ok-start.ensures.one s p.means) m in
-    let u = unafter (one s) _ g.trees (rest_of c.declarators.new.cursor) g.reads in
-    let nodes = c.in_ok-expect.ensures.nodes in
-    naming_made _ c.expect.new.self _ _ (in_force c.reverse_from.new.self) (own_token s)
-    (more s u.0) c.make.result c.make.ensures.tree c.make.ensures.rest
-    (record { kind = refl; own = p.means.root.own; first = p.means.root.own; names = refl })
-    (holds_at nodes (subst (λ v. Holds c.declarators.new.cursor.nodes.items c.in_ok-parts.parts v) u.2 g.holds))
-    (grows_to g.grows (sym nodes))
-    (bind_is _ (ap (λ b. initialized (read c.args.below) c.args.below (suc (length (rest_of c.args.cursor.now)))
-    (naming_of c.args.naming) b x (in_force c.args.types.now) (rest_of c.args.cursor.now)) (sym p.defines)
-    ∙ u.1) ∙ bind_is _ c.in_ok-expect.ensures.found)
-    (c.reverse_from.ensures (reverse (added c.args.specified.defines g.trees)) (in_force c.args.types.now)
-    (g.names (added_plain c.args.specified.defines s p.nameless)) (sym c.len-before.ensures)
-    ∙ ap (λ v. v ++ in_force c.args.types.now)
-    (reverse-reverse (added c.args.specified.defines g.trees) ∙ ap (λ v. added c.args.specified.defines v) u.2
-    ∙ ap (λ b. added b (more s u.0)) p.defines ∙ adds_new s u.0 (own_token s) p.nameless))
+returns c = record {
+  size = IfOk-weaker c.make.result _ _
+      (λ p e. then_owed (owed_paid {m = 7} c.in_ok-parts.ensures.size
+      (took c.declarators.new.cursor c.expect.new.self c.expect.ensures.nodes c.in_ok-expect.ensures.size) refl)
+      (noded c.expect.new.self c.make.new.self e.0 c.make.ensures.rest) refl) c.make.ensures.size;
+  low = IfOk-weaker c.make.result _ _
+      (λ p e. omega (arith, e, c.in_ok-parts.ensures.low)) c.make.ensures.low;
+  tree = (λ s x p m.
+      let g = c.in_ok-parts.ensures.tree (one s) x (c.in_ok-start.ensures.one s p.means) m in
+      let u = unafter (one s) _ g.trees (rest_of c.declarators.new.cursor) g.reads in
+      let nodes = c.in_ok-expect.ensures.nodes in
+      naming_made _ c.expect.new.self _ _ (in_force c.reverse_from.new.self) (own_token s)
+      (more s u.0) c.make.result c.make.ensures.tree c.make.ensures.rest
+      (record { kind = refl; own = p.means.root.own; first = p.means.root.own; names = refl })
+      (holds_at nodes (subst (λ v. Holds c.declarators.new.cursor.nodes.items c.in_ok-parts.parts v) u.2 g.holds))
+      (grows_to g.grows (sym nodes))
+      (bind_is _ (ap (λ b. initialized (read c.args.below) c.args.below (suc (length (rest_of c.args.cursor.now)))
+      (naming_of c.args.naming) b x (in_force c.args.types.now) (rest_of c.args.cursor.now)) (sym p.defines)
+      ∙ u.1) ∙ bind_is _ c.in_ok-expect.ensures.found)
+      (c.reverse_from.ensures (reverse (added c.args.specified.defines g.trees)) (in_force c.args.types.now)
+      (g.names (added_plain c.args.specified.defines s p.nameless)) (sym c.len-before.ensures)
+      ∙ ap (λ v. v ++ in_force c.args.types.now)
+      (reverse-reverse (added c.args.specified.defines g.trees) ∙ ap (λ v. added c.args.specified.defines v) u.2
+      ∙ ap (λ b. added b (more s u.0)) p.defines ∙ adds_new s u.0 (own_token s) p.nameless)));
+}
 
-pub returns-clause-size : goal.returns-clause-size
-returns-clause-size c = IfOk-weaker c.make.result _ _
-    (λ p e. then_owed (owed_paid {m = 7} c.in_ok-parts.ensures.size
-    (took c.declarators.new.cursor c.expect.new.self c.expect.ensures.nodes c.in_ok-expect.ensures.size) refl)
-    (noded c.expect.new.self c.make.new.self e.0 c.make.ensures.rest) refl) c.make.ensures.size
-
-pub returns-clause-low : goal.returns-clause-low
-returns-clause-low c = IfOk-weaker c.make.result _ _
-    (λ p e. omega (arith, e, c.in_ok-parts.ensures.low)) c.make.ensures.low
-
-pub make-requires-clause-room : goal.make-requires-clause-room
-make-requires-clause-room c =
-    room_paid (owed_paid {m = 7} c.in_ok-parts.ensures.size
-    (took c.declarators.new.cursor c.expect.new.self c.expect.ensures.nodes c.in_ok-expect.ensures.size) refl)
-    c.requires.room
-
-pub make-requires-clause-height : goal.make-requires-clause-height
-make-requires-clause-height c = omega (arith, c.in_ok-parts.ensures.low, c.requires.height)
+pub make-requires : goal.make-requires
+make-requires c = record {
+  room = room_paid (owed_paid {m = 7} c.in_ok-parts.ensures.size
+      (took c.declarators.new.cursor c.expect.new.self c.expect.ensures.nodes c.in_ok-expect.ensures.size) refl)
+      c.requires.room;
+  height = omega (arith, c.in_ok-parts.ensures.low, c.requires.height);
+}

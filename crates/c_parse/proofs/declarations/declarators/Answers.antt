@@ -43,7 +43,9 @@ list-preserved c =
       size = record { room = omega arith; shorter = omega arith; grows = omega arith };
       low = let a = c.in_ok-part-2.ensures.low in let b = c.list.invariant.low in
           let tall = c.in_ok-push-2.ensures.size in omega arith;
-      longer = let a : length (in_force c.list.types) ≤ length (in_force c.declarator.new.types) = longer_list _ _ _ c.in_ok-part-2.ensures.names in let b = c.list.invariant.longer in omega arith;
+      longer =
+          let a : length (in_force c.list.types) ≤ length (in_force c.declarator.new.types) =
+          longer_list _ _ _ c.in_ok-part-2.ensures.names in let b = c.list.invariant.longer in omega arith;
       declares = λ ys x h m. declares_step c.takes.new.self (c.list.invariant.declares ys x h m)
           (sym c.takes.ensures.found ∙ c.list-test.true)
           (c.takes.ensures.taken c.list-test.true) taken c.takes.ensures.nodes

@@ -22,20 +22,28 @@ returns-in_err-specified-clause-tree c =
     (fails_same _ (declare_at c.args.budget (c.args.budget - 1) (in_force c.args.types.now) (rest_of c.args.cursor.now)
     (let n = c.if-budget-eq0.false in omega arith)) (fails_bind _ _ _ c.in_err-specified.ensures.tree))
 
-pub returns-then-takes-clause-tree : goal.returns-then-takes-clause-tree
+pub returns-then-takes : goal.returns-then-takes
 unfolding declaration
-returns-then-takes-clause-tree c =
-    let g = c.in_ok-specified.ensures.tree in
-    let grown = grows_to grows_same (sym c.takes.ensures.nodes) in
-    naming_alone _ c.takes.new.self _ _ g.part.tree c.specifiers_only.result
-    (c.specifiers_only.ensures.tree g.part.tree (means_on grown g.part.means)) c.specifiers_only.ensures.grows
-    c.specifiers_only.ensures.rest
-    (grows_on g.part.grows grown)
-    (declare_at c.args.budget (c.args.budget - 1) (in_force c.args.types.now) (rest_of c.args.cursor.now)
-    (let n = c.if-budget-eq0.false in omega arith) ∙ bind_is _ g.part.reads
-    ∙ then_is _ (sym c.takes.ensures.found ∙ c.if-takes.true)
-    ∙ ap (λ v. Some (node Kinds.Declaration (own_token g.part.tree) (one g.part.tree), v))
-    (sym (c.takes.ensures.taken c.if-takes.true)))
+returns-then-takes c = record {
+  size = IfOk-weaker c.specifiers_only.result _ _
+      (λ p e. then_owed (then_paid c.in_ok-specified.ensures.size
+      (took c.specifiers.new.cursor c.takes.new.self c.takes.ensures.nodes (c.takes.ensures.shorter c.if-takes.true)))
+      (noded c.takes.new.self c.specifiers_only.new.cursor e c.specifiers_only.ensures.rest) refl)
+      c.specifiers_only.ensures.size;
+  low = IfOk-weaker c.specifiers_only.result _ _
+      (λ p e. omega (arith, e, c.if-budget-eq0.false)) c.specifiers_only.ensures.low;
+  tree = (let g = c.in_ok-specified.ensures.tree in
+      let grown = grows_to grows_same (sym c.takes.ensures.nodes) in
+      naming_alone _ c.takes.new.self _ _ g.part.tree c.specifiers_only.result
+      (c.specifiers_only.ensures.tree g.part.tree (means_on grown g.part.means)) c.specifiers_only.ensures.grows
+      c.specifiers_only.ensures.rest
+      (grows_on g.part.grows grown)
+      (declare_at c.args.budget (c.args.budget - 1) (in_force c.args.types.now) (rest_of c.args.cursor.now)
+      (let n = c.if-budget-eq0.false in omega arith) ∙ bind_is _ g.part.reads
+      ∙ then_is _ (sym c.takes.ensures.found ∙ c.if-takes.true)
+      ∙ ap (λ v. Some (node Kinds.Declaration (own_token g.part.tree) (one g.part.tree), v))
+      (sym (c.takes.ensures.taken c.if-takes.true))));
+}
 
 pub returns-in_err-first-clause-tree : goal.returns-in_err-first-clause-tree
 unfolding declaration
@@ -49,31 +57,28 @@ returns-in_err-first-clause-tree c =
     (fails_bind _ _ _ (fails_same _ (ap (λ v. read (c.args.budget - 1) (Declarator Plain) (in_force c.args.types.now) v)
     (sym (c.takes.ensures.left c.if-takes.false))) c.in_err-first.ensures.tree)))))
 
-pub returns-clause-tree : goal.returns-clause-tree
+pub returns : goal.returns
 unfolding declaration
-returns-clause-tree c =
-    let g = c.in_ok-specified.ensures.tree in
-    let d = c.in_ok-first.ensures.tree in
-    let grown = grows_on (grows_to grows_same (sym c.takes.ensures.nodes)) d.grows in
-    naming_after _ c.read.new.cursor _ _ _ c.declaration_behind.result
-    (declare_at c.args.budget (c.args.budget - 1) (in_force c.args.types.now) (rest_of c.args.cursor.now)
-    (let n = c.if-budget-eq0.false in omega arith) ∙ bind_is _ g.part.reads
-    ∙ else_is _ (sym c.takes.ensures.found ∙ c.if-takes.false)
-    ∙ bind_is _ (ap (λ v. read (c.args.budget - 1) (Declarator Plain) (in_force c.args.types.now) v)
-    (sym (c.takes.ensures.left c.if-takes.false)) ∙ d.reads))
-    (grows_on g.part.grows grown)
-    (c.declaration_behind.ensures.tree g.part.tree d.tree (specifies_on grown (specifies_of _ _ _ g)) d.means)
-
-pub returns-clause-size : goal.returns-clause-size
-returns-clause-size c = IfOk-weaker c.declaration_behind.result _ _
-    (λ p q. pays (then_paid (then_paid (then_owed {m = 5} c.in_ok-specified.ensures.size
-    (stayed c.specifiers.new.cursor c.takes.new.self c.takes.ensures.nodes (c.takes.ensures.left c.if-takes.false))
-    refl)
-    c.in_ok-first.ensures.size) q) refl) c.declaration_behind.ensures.size
-
-pub returns-clause-low : goal.returns-clause-low
-returns-clause-low c = IfOk-weaker c.declaration_behind.result _ _
-    (λ p e. omega (arith, e, c.if-budget-eq0.false)) c.declaration_behind.ensures.low
+returns c = record {
+  size = IfOk-weaker c.declaration_behind.result _ _
+      (λ p q. pays (then_paid (then_paid (then_owed {m = 5} c.in_ok-specified.ensures.size
+      (stayed c.specifiers.new.cursor c.takes.new.self c.takes.ensures.nodes (c.takes.ensures.left c.if-takes.false))
+      refl)
+      c.in_ok-first.ensures.size) q) refl) c.declaration_behind.ensures.size;
+  low = IfOk-weaker c.declaration_behind.result _ _
+      (λ p e. omega (arith, e, c.if-budget-eq0.false)) c.declaration_behind.ensures.low;
+  tree = (let g = c.in_ok-specified.ensures.tree in
+      let d = c.in_ok-first.ensures.tree in
+      let grown = grows_on (grows_to grows_same (sym c.takes.ensures.nodes)) d.grows in
+      naming_after _ c.read.new.cursor _ _ _ c.declaration_behind.result
+      (declare_at c.args.budget (c.args.budget - 1) (in_force c.args.types.now) (rest_of c.args.cursor.now)
+      (let n = c.if-budget-eq0.false in omega arith) ∙ bind_is _ g.part.reads
+      ∙ else_is _ (sym c.takes.ensures.found ∙ c.if-takes.false)
+      ∙ bind_is _ (ap (λ v. read (c.args.budget - 1) (Declarator Plain) (in_force c.args.types.now) v)
+      (sym (c.takes.ensures.left c.if-takes.false)) ∙ d.reads))
+      (grows_on g.part.grows grown)
+      (c.declaration_behind.ensures.tree g.part.tree d.tree (specifies_on grown (specifies_of _ _ _ g)) d.means));
+}
 
 pub declaration_behind-requires-clause-room : goal.declaration_behind-requires-clause-room
 declaration_behind-requires-clause-room c =
@@ -87,17 +92,6 @@ declaration_behind-requires-clause-specifiers c = c.in_ok-specified.ensures.low
 
 pub declaration_behind-requires-clause-low : goal.declaration_behind-requires-clause-low
 declaration_behind-requires-clause-low c = c.in_ok-first.ensures.low
-
-pub returns-then-takes-clause-size : goal.returns-then-takes-clause-size
-returns-then-takes-clause-size c = IfOk-weaker c.specifiers_only.result _ _
-    (λ p e. then_owed (then_paid c.in_ok-specified.ensures.size
-    (took c.specifiers.new.cursor c.takes.new.self c.takes.ensures.nodes (c.takes.ensures.shorter c.if-takes.true)))
-    (noded c.takes.new.self c.specifiers_only.new.cursor e c.specifiers_only.ensures.rest) refl)
-    c.specifiers_only.ensures.size
-
-pub returns-then-takes-clause-low : goal.returns-then-takes-clause-low
-returns-then-takes-clause-low c = IfOk-weaker c.specifiers_only.result _ _
-    (λ p e. omega (arith, e, c.if-budget-eq0.false)) c.specifiers_only.ensures.low
 
 pub read-requires-clause-room : goal.read-requires-clause-room
 read-requires-clause-room c =

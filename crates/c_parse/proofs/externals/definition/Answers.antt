@@ -45,17 +45,16 @@ returns-clause-low c = IfOk-weaker c.make.result _ _
       c.requires.low,
     )) c.make.ensures.low
 
-pub make-requires-clause-room : goal.make-requires-clause-room
-make-requires-clause-room c = room_owed c.in_ok-body.ensures.size refl c.requires.room
-
-pub make-requires-clause-height : goal.make-requires-clause-height
-make-requires-clause-height c =
-    omega (
-      arith,
-      c.in_ok-push-2.ensures.size,
-      c.in_ok-push.ensures.size,
-      c.in_ok-parts.ensures.size,
-      c.in_ok-body.ensures.low,
-      c.requires.specifiers,
-      c.requires.low,
-    )
+pub make-requires : goal.make-requires
+make-requires c = record {
+  room = room_owed c.in_ok-body.ensures.size refl c.requires.room;
+  height = omega (
+    arith,
+    c.in_ok-push-2.ensures.size,
+    c.in_ok-push.ensures.size,
+    c.in_ok-parts.ensures.size,
+    c.in_ok-body.ensures.low,
+    c.requires.specifiers,
+    c.requires.low,
+  );
+}

@@ -16,49 +16,43 @@ returns-in_err-specified-clause-tree c =
     let p = err_from_is_err_and c.from_residual.result c.from_residual.ensures.1 in rw (p.1, p.2)
     (fails_bind _ _ _ c.in_err-specified.ensures.tree)
 
-pub returns-then-takes-clause-tree : goal.returns-then-takes-clause-tree
+pub returns-then-takes : goal.returns-then-takes
 unfolding external
-returns-then-takes-clause-tree c =
-    let g = c.in_ok-specified.ensures.tree in
-    let grown = grows_to grows_same (sym c.takes.ensures.nodes) in
-    naming_alone _ c.takes.new.self _ _ g.part.tree c.specifiers_only.result
-    (c.specifiers_only.ensures.tree g.part.tree (means_on grown g.part.means)) c.specifiers_only.ensures.grows
-    c.specifiers_only.ensures.rest
-    (grows_on g.part.grows grown)
-    (bind_is _ g.part.reads ∙ then_is _ (sym c.takes.ensures.found ∙ c.if-takes.true)
-    ∙ ap (λ v. Some (node Kinds.Declaration (own_token g.part.tree) (one g.part.tree), v))
-    (sym (c.takes.ensures.taken c.if-takes.true)))
+returns-then-takes c = record {
+  size = IfOk-weaker c.specifiers_only.result _ _
+      (λ p e. then_owed (then_paid c.in_ok-specified.ensures.size
+      (took c.specifiers.new.cursor c.takes.new.self c.takes.ensures.nodes (c.takes.ensures.shorter c.if-takes.true)))
+      (noded c.takes.new.self c.specifiers_only.new.cursor e c.specifiers_only.ensures.rest) refl)
+      c.specifiers_only.ensures.size;
+  low = c.specifiers_only.ensures.low;
+  tree = (let g = c.in_ok-specified.ensures.tree in
+      let grown = grows_to grows_same (sym c.takes.ensures.nodes) in
+      naming_alone _ c.takes.new.self _ _ g.part.tree c.specifiers_only.result
+      (c.specifiers_only.ensures.tree g.part.tree (means_on grown g.part.means)) c.specifiers_only.ensures.grows
+      c.specifiers_only.ensures.rest
+      (grows_on g.part.grows grown)
+      (bind_is _ g.part.reads ∙ then_is _ (sym c.takes.ensures.found ∙ c.if-takes.true)
+      ∙ ap (λ v. Some (node Kinds.Declaration (own_token g.part.tree) (one g.part.tree), v))
+      (sym (c.takes.ensures.taken c.if-takes.true))));
+}
 
-pub returns-clause-tree : goal.returns-clause-tree
+pub returns : goal.returns
 unfolding external
-returns-clause-tree c =
-    let g = c.in_ok-specified.ensures.tree in
-    let grown = grows_to grows_same (sym c.takes.ensures.nodes) in
-    naming_after _ c.takes.new.self _ _ _ c.external_behind.result
-    (bind_is _ g.part.reads ∙ else_is _ (sym c.takes.ensures.found ∙ c.if-takes.false)
-    ∙ ap (λ v. declared_externally g.part.tree (in_force c.args.types.now) v)
-    (sym (c.takes.ensures.left c.if-takes.false)))
-    (grows_on g.part.grows grown)
-    (c.external_behind.ensures.tree g.part.tree (specifies_on grown (specifies_of _ _ _ g)))
-
-pub returns-then-takes-clause-size : goal.returns-then-takes-clause-size
-returns-then-takes-clause-size c = IfOk-weaker c.specifiers_only.result _ _
-    (λ p e. then_owed (then_paid c.in_ok-specified.ensures.size
-    (took c.specifiers.new.cursor c.takes.new.self c.takes.ensures.nodes (c.takes.ensures.shorter c.if-takes.true)))
-    (noded c.takes.new.self c.specifiers_only.new.cursor e c.specifiers_only.ensures.rest) refl)
-    c.specifiers_only.ensures.size
-
-pub returns-then-takes-clause-low : goal.returns-then-takes-clause-low
-returns-then-takes-clause-low c = c.specifiers_only.ensures.low
-
-pub returns-clause-size : goal.returns-clause-size
-returns-clause-size c = IfOk-weaker c.external_behind.result _ _
-    (λ p q. pays (then_paid (then_owed {m = 5} c.in_ok-specified.ensures.size
-    (stayed c.specifiers.new.cursor c.takes.new.self c.takes.ensures.nodes (c.takes.ensures.left c.if-takes.false))
-    refl) q) refl) c.external_behind.ensures.size
-
-pub returns-clause-low : goal.returns-clause-low
-returns-clause-low c = c.external_behind.ensures.low
+returns c = record {
+  size = IfOk-weaker c.external_behind.result _ _
+      (λ p q. pays (then_paid (then_owed {m = 5} c.in_ok-specified.ensures.size
+      (stayed c.specifiers.new.cursor c.takes.new.self c.takes.ensures.nodes (c.takes.ensures.left c.if-takes.false))
+      refl) q) refl) c.external_behind.ensures.size;
+  low = c.external_behind.ensures.low;
+  tree = (let g = c.in_ok-specified.ensures.tree in
+      let grown = grows_to grows_same (sym c.takes.ensures.nodes) in
+      naming_after _ c.takes.new.self _ _ _ c.external_behind.result
+      (bind_is _ g.part.reads ∙ else_is _ (sym c.takes.ensures.found ∙ c.if-takes.false)
+      ∙ ap (λ v. declared_externally g.part.tree (in_force c.args.types.now) v)
+      (sym (c.takes.ensures.left c.if-takes.false)))
+      (grows_on g.part.grows grown)
+      (c.external_behind.ensures.tree g.part.tree (specifies_on grown (specifies_of _ _ _ g))));
+}
 
 pub specifiers_only-requires-clause-room : goal.specifiers_only-requires-clause-room
 specifiers_only-requires-clause-room c =

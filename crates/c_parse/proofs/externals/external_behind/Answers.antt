@@ -12,21 +12,28 @@ use Rattle.c_parse.proofs.Outer.{naming_function, behind_brace, behind_other}
 use Rattle.c_parse.proofs.Paying.{took, stayed, then_paid, then_owed, pays, roomy_paid}
 use Rattle.c_parse.proofs.externals.external_behind.Goals as goal
 
-pub returns-in_default-clause-tree : goal.returns-in_default-clause-tree
-returns-in_default-clause-tree c = λ s p.
-    let d = c.in_ok-declarator.ensures.tree in
-    let named = c.external_naming-naming.ensures s p.defines p.names in
-    let kept = grows_to grows_same (sym c.in_default.ensures.nodes) in
-    naming_after _ c.take_if.new.self _ _ _ c.declaration_behind.result
-    (bind_is _ (ap (λ n. read 199 (Declarator n) (in_force c.args.types.now) (rest_of c.args.cursor.now)) (sym named)
-    ∙ d.reads)
-    ∙ behind_other s d.tree (in_force c.args.types.now) (rest_of c.read.new.cursor) c.in_default.ensures.other
-    ∙ ap (λ n. declaration_behind (read 199) 199 n s d.tree (in_force c.args.types.now) (rest_of c.read.new.cursor))
-    (sym named)
-    ∙ ap (λ v. declaration_behind (read 199) 199 (naming_of c.external_naming-naming.result) s d.tree
-    (in_force c.args.types.now) v) (sym c.in_default.ensures.left))
-    (grows_on d.grows kept)
-    (c.declaration_behind.ensures.tree s d.tree (specifies_on (grows_on d.grows kept) p) (means_on kept d.means))
+pub returns-in_default : goal.returns-in_default
+returns-in_default c = record {
+  size = IfOk-weaker c.declaration_behind.result _ _
+      (λ p q. pays (then_paid (then_owed {m = 4} c.in_ok-declarator.ensures.size
+      (stayed c.read.new.cursor c.take_if.new.self c.take_if.ensures.nodes c.in_default.ensures.left) refl) q) refl)
+      c.declaration_behind.ensures.size;
+  low = c.declaration_behind.ensures.low;
+  tree = (λ s p.
+      let d = c.in_ok-declarator.ensures.tree in
+      let named = c.external_naming-naming.ensures s p.defines p.names in
+      let kept = grows_to grows_same (sym c.in_default.ensures.nodes) in
+      naming_after _ c.take_if.new.self _ _ _ c.declaration_behind.result
+      (bind_is _ (ap (λ n. read 199 (Declarator n) (in_force c.args.types.now) (rest_of c.args.cursor.now)) (sym named)
+      ∙ d.reads)
+      ∙ behind_other s d.tree (in_force c.args.types.now) (rest_of c.read.new.cursor) c.in_default.ensures.other
+      ∙ ap (λ n. declaration_behind (read 199) 199 n s d.tree (in_force c.args.types.now) (rest_of c.read.new.cursor))
+      (sym named)
+      ∙ ap (λ v. declaration_behind (read 199) 199 (naming_of c.external_naming-naming.result) s d.tree
+      (in_force c.args.types.now) v) (sym c.in_default.ensures.left))
+      (grows_on d.grows kept)
+      (c.declaration_behind.ensures.tree s d.tree (specifies_on (grows_on d.grows kept) p) (means_on kept d.means)));
+}
 
 pub returns-then-not-is_plain-clause-tree : goal.returns-then-not-is_plain-clause-tree
 returns-then-not-is_plain-clause-tree c = λ s p.
@@ -39,50 +46,36 @@ returns-then-not-is_plain-clause-tree c = λ s p.
     ∙ else_is _ (ap (λ v. not (list_any (λ n. is_among (in_force c.args.types.now) n) v)) (sym d.means.root.names)
     ∙ sym c.is_plain.ensures ∙ c.if-not-is_plain.true)
 
-pub returns-clause-tree : goal.returns-clause-tree
-returns-clause-tree c = λ s p.
-    let d = c.in_ok-declarator.ensures.tree in
-    let named = c.external_naming-naming.ensures s p.defines p.names in
-    let kept = grows_to grows_same (sym c.in-Some.ensures.nodes) in
-    naming_function _ c.take_if.new.self _ (in_force c.args.types.now)
-    (in_force c.definition.new.types) s d.tree c.in-Some.brace (rest_of c.take_if.new.self) c.definition.result
-    (bind_is _ (ap (λ n. read 199 (Declarator n) (in_force c.args.types.now) (rest_of c.args.cursor.now)) (sym named)
-    ∙ d.reads)
-    ∙ behind_brace s d.tree (in_force c.args.types.now) (rest_of c.read.new.cursor)
-    (rest_of c.take_if.new.self) c.in-Some.brace c.in-Some.ensures.rest c.in-Some.ensures.found
-    ∙ then_is _ (ap (λ v. not (list_any (λ n. is_among (in_force c.args.types.now) n) v)) (sym d.means.root.names)
-    ∙ sym c.is_plain.ensures ∙ c.if-not-is_plain.false))
-    (grows_on d.grows kept) c.definition.ensures.names
-    (c.definition.ensures.tree s d.tree (means_on (grows_on d.grows kept) p.means) (means_on kept d.means))
+pub returns : goal.returns
+returns c = record {
+  size = IfOk-weaker c.definition.result _ _
+      (λ p q. then_owed (then_paid c.in_ok-declarator.ensures.size
+      (took c.read.new.cursor c.take_if.new.self c.take_if.ensures.nodes c.in-Some.ensures.size)) q refl)
+      c.definition.ensures.size;
+  low = c.definition.ensures.low;
+  tree = (λ s p.
+      let d = c.in_ok-declarator.ensures.tree in
+      let named = c.external_naming-naming.ensures s p.defines p.names in
+      let kept = grows_to grows_same (sym c.in-Some.ensures.nodes) in
+      naming_function _ c.take_if.new.self _ (in_force c.args.types.now)
+      (in_force c.definition.new.types) s d.tree c.in-Some.brace (rest_of c.take_if.new.self) c.definition.result
+      (bind_is _ (ap (λ n. read 199 (Declarator n) (in_force c.args.types.now) (rest_of c.args.cursor.now)) (sym named)
+      ∙ d.reads)
+      ∙ behind_brace s d.tree (in_force c.args.types.now) (rest_of c.read.new.cursor)
+      (rest_of c.take_if.new.self) c.in-Some.brace c.in-Some.ensures.rest c.in-Some.ensures.found
+      ∙ then_is _ (ap (λ v. not (list_any (λ n. is_among (in_force c.args.types.now) n) v)) (sym d.means.root.names)
+      ∙ sym c.is_plain.ensures ∙ c.if-not-is_plain.false))
+      (grows_on d.grows kept) c.definition.ensures.names
+      (c.definition.ensures.tree s d.tree (means_on (grows_on d.grows kept) p.means) (means_on kept d.means)));
+}
 
-pub returns-clause-size : goal.returns-clause-size
-returns-clause-size c = IfOk-weaker c.definition.result _ _
-    (λ p q. then_owed (then_paid c.in_ok-declarator.ensures.size
-    (took c.read.new.cursor c.take_if.new.self c.take_if.ensures.nodes c.in-Some.ensures.size)) q refl)
-    c.definition.ensures.size
-
-pub returns-clause-low : goal.returns-clause-low
-returns-clause-low c = c.definition.ensures.low
-
-pub returns-in_default-clause-size : goal.returns-in_default-clause-size
-returns-in_default-clause-size c = IfOk-weaker c.declaration_behind.result _ _
-    (λ p q. pays (then_paid (then_owed {m = 4} c.in_ok-declarator.ensures.size
-    (stayed c.read.new.cursor c.take_if.new.self c.take_if.ensures.nodes c.in_default.ensures.left) refl) q) refl)
-    c.declaration_behind.ensures.size
-
-pub returns-in_default-clause-low : goal.returns-in_default-clause-low
-returns-in_default-clause-low c = c.declaration_behind.ensures.low
-
-pub definition-requires-clause-room : goal.definition-requires-clause-room
-definition-requires-clause-room c =
-    roomy_paid (then_paid c.in_ok-declarator.ensures.size
-    (took c.read.new.cursor c.take_if.new.self c.take_if.ensures.nodes c.in-Some.ensures.size)) c.requires.room
-
-pub definition-requires-clause-specifiers : goal.definition-requires-clause-specifiers
-definition-requires-clause-specifiers c = c.requires.specifiers
-
-pub definition-requires-clause-low : goal.definition-requires-clause-low
-definition-requires-clause-low c = c.in_ok-declarator.ensures.low
+pub definition-requires : goal.definition-requires
+definition-requires c = record {
+  room = roomy_paid (then_paid c.in_ok-declarator.ensures.size
+      (took c.read.new.cursor c.take_if.new.self c.take_if.ensures.nodes c.in-Some.ensures.size)) c.requires.room;
+  specifiers = c.requires.specifiers;
+  low = c.in_ok-declarator.ensures.low;
+}
 
 pub declaration_behind-requires-clause-room : goal.declaration_behind-requires-clause-room
 declaration_behind-requires-clause-room c =

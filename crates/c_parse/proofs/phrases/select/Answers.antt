@@ -1,4 +1,4 @@
-use Rattle.std.proofs.Common.{suc, refl, ap, sym, ◌∙◌, Some, arith}
+use Rattle.std.proofs.Common.{suc, length, refl, ap, sym, ◌∙◌, Some, arith}
 use Rattle.std.proofs.lemmas.Result.{MatchResult-weaker, IfOk-weaker, err_from_is_err_and}
 use Rattle.c_tree.specs.declared.syntax.NodeKind.TheVariants.{MemberName, Select}
 use Rattle.c_tree.specs.Syntax.{node, nil, more, one}
@@ -20,26 +20,44 @@ returns-in_default-clause-tree c =
     λ x first h. select_not (Reading.read c.args.below) (suc c.args.below) c.args.selection x c.args.item.now
     (rest_of c.args.cursor.now) c.in_default.ensures.other
 
-pub returns-clause-tree : goal.returns-clause-tree
-returns-clause-tree c = λ x first h. MatchResult-weaker c.join.result c.join.ensures.tree
-    (λ part made.
-    let leaf = c.in_ok-member.ensures in
-    let grown = grows_from c.in-Some.ensures.nodes leaf.grows in
-    record {
-      tree = node (Select c.args.selection) c.args.item.now (more x (one (node MemberName c.in-Some.name nil)));
-      means = made.means (more x (one (node MemberName c.in-Some.name nil))) first refl
-          (holds_more (holds_on grown h) (leaf.tree refl) c.in_ok-parts.ensures.kids c.in_ok-parts.ensures.size);
-      reads = select_is (Reading.read c.args.below)
-          (suc c.args.below) c.args.selection x c.args.item.now c.in-Some.ensures.rest c.in-Some.ensures.found
-          (let t = h.tall in let n = c.if-below-eq0.false in let l = c.requires.start in omega arith)
-          ∙ ap (λ v. Some (
-            node (Select c.args.selection) c.args.item.now
-                (more x (one (node MemberName c.in-Some.name nil))),
-            v,
-          )) (sym (c.join.ensures.rest ∙ leaf.rest));
-      grows = grows_on grown made.grows;
-    })
-    (λ e same. fails_memory e _ same)
+pub returns : goal.returns
+returns c = record {
+  size = IfOk-weaker c.join.result _ _
+      (λ p e. owes (then_owed {m = 0} (took c.args.cursor.now c.take_if.new.self c.in-Some.ensures.nodes
+      c.in-Some.ensures.size)
+      (owed_owed (noded c.take_if.new.self c.leaf.new.self c.in_ok-member.ensures.size c.in_ok-member.ensures.rest)
+      (noded c.leaf.new.self c.join.new.self e c.join.ensures.rest)) refl)) c.join.ensures.size;
+  low = IfOk-weaker c.join.result _ _
+      (λ p e. omega (
+        arith,
+        c.in_ok-parts.ensures.size,
+        c.in_ok-member.ensures.low,
+        c.requires.start,
+        c.if-below-eq0.false,
+      ))
+      c.join.ensures.low;
+  taller = IfOk-weaker c.join.result _ _ (λ p e. omega (arith, c.in_ok-parts.ensures.size))
+      c.join.ensures.low;
+  tree = (λ x first h. MatchResult-weaker c.join.result c.join.ensures.tree
+      (λ part made.
+      let leaf = c.in_ok-member.ensures in
+      let grown = grows_from c.in-Some.ensures.nodes leaf.grows in
+      record {
+        tree = node (Select c.args.selection) c.args.item.now (more x (one (node MemberName c.in-Some.name nil)));
+        means = made.means (more x (one (node MemberName c.in-Some.name nil))) first refl
+            (holds_more (holds_on grown h) (leaf.tree refl) c.in_ok-parts.ensures.kids c.in_ok-parts.ensures.size);
+        reads = select_is (Reading.read c.args.below)
+            (suc c.args.below) c.args.selection x c.args.item.now c.in-Some.ensures.rest c.in-Some.ensures.found
+            (let t = h.tall in let n = c.if-below-eq0.false in let l = c.requires.start in omega arith)
+            ∙ ap (λ v. Some (
+              node (Select c.args.selection) c.args.item.now
+                  (more x (one (node MemberName c.in-Some.name nil))),
+              v,
+            )) (sym (c.join.ensures.rest ∙ leaf.rest));
+        grows = grows_on grown made.grows;
+      })
+      (λ e same. fails_memory e _ same));
+}
 
 pub returns-in_err-member : goal.returns-in_err-member
 returns-in_err-member c =
@@ -63,33 +81,15 @@ returns-in_err-parts c =
           λ x first h. fails_memory _ _ c.in_err-parts.ensures.full;
     })
 
-pub returns-clause-size : goal.returns-clause-size
-returns-clause-size c = IfOk-weaker c.join.result _ _
-    (λ p e. owes (then_owed {m = 0} (took c.args.cursor.now c.take_if.new.self c.in-Some.ensures.nodes
-    c.in-Some.ensures.size)
-    (owed_owed (noded c.take_if.new.self c.leaf.new.self c.in_ok-member.ensures.size c.in_ok-member.ensures.rest)
-    (noded c.leaf.new.self c.join.new.self e c.join.ensures.rest)) refl)) c.join.ensures.size
-
-pub returns-clause-low : goal.returns-clause-low
-returns-clause-low c = IfOk-weaker c.join.result _ _
-    (λ p e. omega (
-      arith,
-      c.in_ok-parts.ensures.size,
-      c.in_ok-member.ensures.low,
-      c.requires.start,
-      c.if-below-eq0.false,
-    ))
-    c.join.ensures.low
-
-pub returns-clause-taller : goal.returns-clause-taller
-returns-clause-taller c = IfOk-weaker c.join.result _ _ (λ p e. omega (arith, c.in_ok-parts.ensures.size))
-    c.join.ensures.low
-
-pub join-requires-clause-height : goal.join-requires-clause-height
-join-requires-clause-height c = omega (
-  arith,
-  c.in_ok-parts.ensures.size,
-  c.in_ok-member.ensures.low,
-  c.requires.start,
-  c.requires.height,
-)
+pub join-requires : goal.join-requires
+join-requires c = record {
+  room = let same = ap length c.in-Some.ensures.nodes in
+      omega (arith, same, c.in_ok-member.ensures.size, c.requires.room);
+  height = omega (
+    arith,
+    c.in_ok-parts.ensures.size,
+    c.in_ok-member.ensures.low,
+    c.requires.start,
+    c.requires.height,
+  );
+}

@@ -50,17 +50,32 @@ while_statement-returns-in_err-push t c =
           (fails_memory _ _ c.in_err-push.ensures.full);
     })
 
-pub while_statement-returns-clause-tree : goal.while_statement-returns-clause-tree
+pub while_statement-returns : goal.while_statement-returns
 unfolding while_from
-while_statement-returns-clause-tree t c =
-    let a = c.in_ok-test.ensures.tree in
-    let b = c.in_ok-body.ensures.tree in
-    joined_reads _ c.statement.new.cursor _ c.join.result c.join.ensures.tree c.join.ensures.grows c.join.ensures.rest
-    (holds_more (c.in_ok-parts.ensures.one a.tree (means_on b.grows a.means)) b.means c.in_ok-push.ensures.kids
-    c.in_ok-push.ensures.size)
-    (grows_on a.grows b.grows)
-    (bind_is _ a.reads ∙ bind_is _ b.reads)
-    c.place.ensures refl
+while_statement-returns t c = record {
+  size = IfOk-weaker c.join.result _ _
+      (λ p e. owes (then_owed {m = 0} (then_paid c.in_ok-test.ensures.size c.in_ok-body.ensures.size)
+      (noded c.statement.new.cursor c.join.new.self e c.join.ensures.rest) refl)) c.join.ensures.size;
+  low = IfOk-weaker c.join.result _ _
+      (λ p e. omega (
+        arith,
+        e,
+        c.in_ok-push.ensures.size,
+        c.in_ok-parts.ensures.size,
+        c.in_ok-test.ensures.low,
+        c.in_ok-body.ensures.low,
+      )) c.join.ensures.low;
+  names = IfOk-weaker c.join.result _ _
+      (λ p e. c.in_ok-body.ensures.names) c.join.ensures.size;
+  tree = (let a = c.in_ok-test.ensures.tree in
+      let b = c.in_ok-body.ensures.tree in
+      joined_reads _ c.statement.new.cursor _ c.join.result c.join.ensures.tree c.join.ensures.grows c.join.ensures.rest
+      (holds_more (c.in_ok-parts.ensures.one a.tree (means_on b.grows a.means)) b.means c.in_ok-push.ensures.kids
+      c.in_ok-push.ensures.size)
+      (grows_on a.grows b.grows)
+      (bind_is _ a.reads ∙ bind_is _ b.reads)
+      c.place.ensures refl);
+}
 
 pub do_statement-returns-in_err-body : goal.do_statement-returns-in_err-body
 unfolding do_from
@@ -112,23 +127,41 @@ do_statement-returns-in_err-expect-2 t c =
           (fails_bind _ _ _ c.in_err-expect-2.ensures.found))));
     })
 
-pub do_statement-returns-clause-tree : goal.do_statement-returns-clause-tree
+pub do_statement-returns : goal.do_statement-returns
 unfolding do_from
-do_statement-returns-clause-tree t c =
-    let a = c.in_ok-body.ensures.tree in
-    let b = c.in_ok-test.ensures.tree in
-    let grown = grows_to b.grows (sym c.in_ok-expect-2.ensures.nodes) in
-    joined_reads _ c.expect-2.new.self _ c.join.result c.join.ensures.tree c.join.ensures.grows c.join.ensures.rest
-    (holds_more (c.in_ok-parts.ensures.one a.tree
-    (means_on (grows_on (grows_to grows_same (sym c.in_ok-expect.ensures.nodes)) grown) a.means))
-    (means_on (grows_to grows_same (sym c.in_ok-expect-2.ensures.nodes)) b.means) c.in_ok-push.ensures.kids
-    c.in_ok-push.ensures.size)
-    (grows_on (grows_to a.grows (sym c.in_ok-expect.ensures.nodes)) grown)
-    (bind_is _ a.reads ∙ bind_is _ c.in_ok-expect.ensures.found
-    ∙ bind_is _ ((ap (λ v. condition (read c.args.below) (declare c.args.below) (state c.args.below) v
-    (rest_of c.expect.new.self)) (sym c.in_ok-body.ensures.names)) ∙ b.reads)
-    ∙ bind_is _ c.in_ok-expect-2.ensures.found)
-    c.place.ensures refl
+do_statement-returns t c = record {
+  size = IfOk-weaker c.join.result _ _
+      (λ p e. owes (then_owed {m = 0} (then_paid (then_paid (then_paid c.in_ok-body.ensures.size
+      (took c.statement.new.cursor c.expect.new.self c.expect.ensures.nodes c.in_ok-expect.ensures.size))
+      c.in_ok-test.ensures.size) (took c.condition.new.cursor c.expect-2.new.self c.expect-2.ensures.nodes
+      c.in_ok-expect-2.ensures.size))
+      (noded c.expect-2.new.self c.join.new.self e c.join.ensures.rest) refl)) c.join.ensures.size;
+  low = IfOk-weaker c.join.result _ _
+      (λ p e. omega (
+        arith,
+        e,
+        c.in_ok-push.ensures.size,
+        c.in_ok-parts.ensures.size,
+        c.in_ok-test.ensures.low,
+        c.in_ok-body.ensures.low,
+      )) c.join.ensures.low;
+  names = IfOk-weaker c.join.result _ _
+      (λ p e. c.in_ok-body.ensures.names) c.join.ensures.size;
+  tree = (let a = c.in_ok-body.ensures.tree in
+      let b = c.in_ok-test.ensures.tree in
+      let grown = grows_to b.grows (sym c.in_ok-expect-2.ensures.nodes) in
+      joined_reads _ c.expect-2.new.self _ c.join.result c.join.ensures.tree c.join.ensures.grows c.join.ensures.rest
+      (holds_more (c.in_ok-parts.ensures.one a.tree
+      (means_on (grows_on (grows_to grows_same (sym c.in_ok-expect.ensures.nodes)) grown) a.means))
+      (means_on (grows_to grows_same (sym c.in_ok-expect-2.ensures.nodes)) b.means) c.in_ok-push.ensures.kids
+      c.in_ok-push.ensures.size)
+      (grows_on (grows_to a.grows (sym c.in_ok-expect.ensures.nodes)) grown)
+      (bind_is _ a.reads ∙ bind_is _ c.in_ok-expect.ensures.found
+      ∙ bind_is _ ((ap (λ v. condition (read c.args.below) (declare c.args.below) (state c.args.below) v
+      (rest_of c.expect.new.self)) (sym c.in_ok-body.ensures.names)) ∙ b.reads)
+      ∙ bind_is _ c.in_ok-expect-2.ensures.found)
+      c.place.ensures refl);
+}
 
 pub if_statement-returns-in_err-test : goal.if_statement-returns-in_err-test
 unfolding if_from
@@ -164,42 +197,80 @@ if_statement-returns-in_err-no t c =
           c.in_err-no.ensures.tree)))));
     })
 
-pub if_statement-returns-then-takes-clause-tree : goal.if_statement-returns-then-takes-clause-tree
+pub if_statement-returns-then-takes : goal.if_statement-returns-then-takes
 unfolding if_from
-if_statement-returns-then-takes-clause-tree t c =
-    let a = c.in_ok-test.ensures.tree in
-    let b = c.in_ok-yes.ensures.tree in
-    let d = c.in_ok-no.ensures.tree in
-    let held = holds_more {new = c.push.new.self}
-    (c.in_ok-parts.ensures.one a.tree (means_on b.grows a.means)) b.means c.in_ok-push.ensures.kids
-    c.in_ok-push.ensures.size in
-    let grown = grows_on (grows_to grows_same (sym c.takes.ensures.nodes)) d.grows in
-    joined_reads _ c.statement-then-takes.new.cursor _ c.join.result c.join.ensures.tree c.join.ensures.grows
-    c.join.ensures.rest
-    (holds_more (holds_on grown held) d.means c.in_ok-push-2.ensures.kids c.in_ok-push-2.ensures.size)
-    (grows_on (grows_on a.grows b.grows) grown)
-    (bind_is _ a.reads ∙ bind_is _ b.reads ∙ then_is _ (sym c.takes.ensures.found ∙ c.if-takes.true)
-    ∙ bind_is _ ((ap (λ v. state c.args.below (in_force c.args.types.now) v)
-    (sym (c.takes.ensures.taken c.if-takes.true))
-    ∙ ap (λ v. state c.args.below v (rest_of c.takes.new.self)) (sym c.in_ok-yes.ensures.names)) ∙ d.reads))
-    c.place.ensures refl
+if_statement-returns-then-takes t c = record {
+  size = IfOk-weaker c.join.result _ _
+      (λ p e. owes (then_owed {m = 0} (then_paid
+      (then_paid (then_paid c.in_ok-test.ensures.size c.in_ok-yes.ensures.size)
+      (took c.statement.new.cursor c.takes.new.self c.takes.ensures.nodes
+      (c.takes.ensures.shorter c.if-takes.true))) c.in_ok-no.ensures.size)
+      (noded c.statement-then-takes.new.cursor c.join.new.self e c.join.ensures.rest) refl)) c.join.ensures.size;
+  low = IfOk-weaker c.join.result _ _
+      (λ p e. omega (
+        arith,
+        e,
+        c.in_ok-push-2.ensures.size,
+        c.in_ok-push.ensures.size,
+        c.in_ok-parts.ensures.size,
+        c.in_ok-test.ensures.low,
+        c.in_ok-yes.ensures.low,
+        c.in_ok-no.ensures.low,
+      )) c.join.ensures.low;
+  names = IfOk-weaker c.join.result _ _
+      (λ p e. c.in_ok-no.ensures.names ∙ c.in_ok-yes.ensures.names) c.join.ensures.size;
+  tree = (let a = c.in_ok-test.ensures.tree in
+      let b = c.in_ok-yes.ensures.tree in
+      let d = c.in_ok-no.ensures.tree in
+      let held = holds_more {new = c.push.new.self}
+      (c.in_ok-parts.ensures.one a.tree (means_on b.grows a.means)) b.means c.in_ok-push.ensures.kids
+      c.in_ok-push.ensures.size in
+      let grown = grows_on (grows_to grows_same (sym c.takes.ensures.nodes)) d.grows in
+      joined_reads _ c.statement-then-takes.new.cursor _ c.join.result c.join.ensures.tree c.join.ensures.grows
+      c.join.ensures.rest
+      (holds_more (holds_on grown held) d.means c.in_ok-push-2.ensures.kids c.in_ok-push-2.ensures.size)
+      (grows_on (grows_on a.grows b.grows) grown)
+      (bind_is _ a.reads ∙ bind_is _ b.reads ∙ then_is _ (sym c.takes.ensures.found ∙ c.if-takes.true)
+      ∙ bind_is _ ((ap (λ v. state c.args.below (in_force c.args.types.now) v)
+      (sym (c.takes.ensures.taken c.if-takes.true))
+      ∙ ap (λ v. state c.args.below v (rest_of c.takes.new.self)) (sym c.in_ok-yes.ensures.names)) ∙ d.reads))
+      c.place.ensures refl);
+}
 
-pub if_statement-returns-clause-tree : goal.if_statement-returns-clause-tree
+pub if_statement-returns : goal.if_statement-returns
 unfolding if_from
-if_statement-returns-clause-tree t c =
-    let a = c.in_ok-test.ensures.tree in
-    let b = c.in_ok-yes.ensures.tree in
-    let held = holds_more {new = c.push.new.self}
-    (c.in_ok-parts.ensures.one a.tree (means_on b.grows a.means)) b.means c.in_ok-push.ensures.kids
-    c.in_ok-push.ensures.size in
-    let grown = grows_to grows_same (sym c.takes.ensures.nodes) in
-    joined_reads _ c.takes.new.self _ c.join-2.result c.join-2.ensures.tree c.join-2.ensures.grows c.join-2.ensures.rest
-    (holds_on grown held)
-    (grows_on (grows_on a.grows b.grows) grown)
-    (bind_is _ a.reads ∙ bind_is _ b.reads ∙ else_is _ (sym c.takes.ensures.found ∙ c.if-takes.false)
-    ∙ ap (λ v. let q : Syn × List Lexeme = (node Kinds.If c.args.own.now (two a.tree b.tree), v) in Some q)
-    (sym (c.takes.ensures.left c.if-takes.false)))
-    c.place-2.ensures refl
+if_statement-returns t c = record {
+  size = IfOk-weaker c.join-2.result _ _
+      (λ p e. owes (then_owed {m = 0} (then_owed {m = 16} (then_paid c.in_ok-test.ensures.size c.in_ok-yes.ensures.size)
+      (stayed c.statement.new.cursor c.takes.new.self c.takes.ensures.nodes
+      (c.takes.ensures.left c.if-takes.false)) refl)
+      (noded c.takes.new.self c.join-2.new.self e c.join-2.ensures.rest) refl)) c.join-2.ensures.size;
+  low = IfOk-weaker c.join-2.result _ _
+      (λ p e. omega (
+        arith,
+        e,
+        c.in_ok-push.ensures.size,
+        c.in_ok-parts.ensures.size,
+        c.in_ok-test.ensures.low,
+        c.in_ok-yes.ensures.low,
+      )) c.join-2.ensures.low;
+  names = IfOk-weaker c.join-2.result _ _
+      (λ p e. c.in_ok-yes.ensures.names) c.join-2.ensures.size;
+  tree = (let a = c.in_ok-test.ensures.tree in
+      let b = c.in_ok-yes.ensures.tree in
+      let held = holds_more {new = c.push.new.self}
+      (c.in_ok-parts.ensures.one a.tree (means_on b.grows a.means)) b.means c.in_ok-push.ensures.kids
+      c.in_ok-push.ensures.size in
+      let grown = grows_to grows_same (sym c.takes.ensures.nodes) in
+      joined_reads _ c.takes.new.self _ c.join-2.result c.join-2.ensures.tree c.join-2.ensures.grows
+      c.join-2.ensures.rest
+      (holds_on grown held)
+      (grows_on (grows_on a.grows b.grows) grown)
+      (bind_is _ a.reads ∙ bind_is _ b.reads ∙ else_is _ (sym c.takes.ensures.found ∙ c.if-takes.false)
+      ∙ ap (λ v. let q : Syn × List Lexeme = (node Kinds.If c.args.own.now (two a.tree b.tree), v) in Some q)
+      (sym (c.takes.ensures.left c.if-takes.false)))
+      c.place-2.ensures refl);
+}
 
 pub for_behind-returns-in_err-second : goal.for_behind-returns-in_err-second
 unfolding for_behind
@@ -280,24 +351,45 @@ for_behind-returns-in_err-push-3 t c =
       tree = λ x m. (fails_memory _ _ c.in_err-push-3.ensures.full);
     })
 
-pub for_behind-returns-clause-tree : goal.for_behind-returns-clause-tree
+pub for_behind-returns : goal.for_behind-returns
 unfolding for_behind
-for_behind-returns-clause-tree t c = λ x m.
-    let a = c.in_ok-second.ensures.tree in
-    let b = c.in_ok-third.ensures.tree in
-    let d = c.in_ok-body.ensures.tree in
-    let last = grows_on b.grows d.grows in
-    let all = grows_on a.grows last in
-    joined_reads _ c.statement.new.cursor _ c.join.result c.join.ensures.tree c.join.ensures.grows c.join.ensures.rest
-    (holds_more {new = c.push-3.new.self}
-    (holds_more {new = c.push-2.new.self}
-    (holds_more {new = c.push.new.self} (c.in_ok-parts.ensures.one x (means_on all m))
-    (means_on last a.means) c.in_ok-push.ensures.kids c.in_ok-push.ensures.size)
-    (means_on d.grows b.means) c.in_ok-push-2.ensures.kids c.in_ok-push-2.ensures.size)
-    d.means c.in_ok-push-3.ensures.kids c.in_ok-push-3.ensures.size)
-    all
-    (bind_is _ a.reads ∙ bind_is _ b.reads ∙ bind_is _ d.reads)
-    c.place.ensures refl
+for_behind-returns t c = record {
+  size = IfOk-weaker c.join.result _ _
+      (λ p e. owes (then_owed {m = 0} (then_paid (then_paid c.in_ok-second.ensures.size c.in_ok-third.ensures.size)
+      c.in_ok-body.ensures.size)
+      (noded c.statement.new.cursor c.join.new.self e c.join.ensures.rest) refl)) c.join.ensures.size;
+  low = IfOk-weaker c.join.result _ _
+      (λ p e. omega (
+        arith,
+        e,
+        c.in_ok-push-3.ensures.size,
+        c.in_ok-push-2.ensures.size,
+        c.in_ok-push.ensures.size,
+        c.in_ok-parts.ensures.size,
+        c.in_ok-second.ensures.low,
+        c.in_ok-third.ensures.low,
+        c.in_ok-body.ensures.low,
+        c.requires.low,
+      )) c.join.ensures.low;
+  names = IfOk-weaker c.join.result _ _
+      (λ p e. c.in_ok-body.ensures.names) c.join.ensures.size;
+  tree = (λ x m.
+      let a = c.in_ok-second.ensures.tree in
+      let b = c.in_ok-third.ensures.tree in
+      let d = c.in_ok-body.ensures.tree in
+      let last = grows_on b.grows d.grows in
+      let all = grows_on a.grows last in
+      joined_reads _ c.statement.new.cursor _ c.join.result c.join.ensures.tree c.join.ensures.grows c.join.ensures.rest
+      (holds_more {new = c.push-3.new.self}
+      (holds_more {new = c.push-2.new.self}
+      (holds_more {new = c.push.new.self} (c.in_ok-parts.ensures.one x (means_on all m))
+      (means_on last a.means) c.in_ok-push.ensures.kids c.in_ok-push.ensures.size)
+      (means_on d.grows b.means) c.in_ok-push-2.ensures.kids c.in_ok-push-2.ensures.size)
+      d.means c.in_ok-push-3.ensures.kids c.in_ok-push-3.ensures.size)
+      all
+      (bind_is _ a.reads ∙ bind_is _ b.reads ∙ bind_is _ d.reads)
+      c.place.ensures refl);
+}
 
 pub for_statement-returns-in_err-expect : goal.for_statement-returns-in_err-expect
 unfolding for_from
@@ -320,16 +412,23 @@ for_statement-returns-in_err-first t c =
           (fails_bind _ _ _ c.in_err-first.ensures.tree)));
     })
 
-pub for_statement-returns-then-not-start-clause-tree : goal.for_statement-returns-then-not-start-clause-tree
+pub for_statement-returns-then-not-start : goal.for_statement-returns-then-not-start
 unfolding for_from
-for_statement-returns-then-not-start-clause-tree t c =
-    let a = c.in_ok-first.ensures.tree in
-    reads_after _ c.optional.new.cursor _ c.for_behind.result
-    (bind_is _ c.in_ok-expect.ensures.found
-    ∙ else_is _ (ap (λ v. starts_with (begins_type (in_force c.args.types.now)) v) (sym c.rest.ensures)
-    ∙ sym c.start.ensures ∙ c.if-not-start.true) ∙ bind_is _ a.reads)
-    (grows_on (grows_to grows_same (sym c.in_ok-expect.ensures.nodes)) a.grows)
-    (c.for_behind.ensures.tree a.tree a.means)
+for_statement-returns-then-not-start t c = record {
+  size = IfOk-weaker c.for_behind.result _ _
+      (λ p q. owes (then_owed {m = 0} (then_paid
+      (took c.args.cursor.now c.expect.new.self c.expect.ensures.nodes c.in_ok-expect.ensures.size)
+      c.in_ok-first.ensures.size) q refl)) c.for_behind.ensures.size;
+  low = c.for_behind.ensures.low;
+  names = c.for_behind.ensures.names;
+  tree = (let a = c.in_ok-first.ensures.tree in
+      reads_after _ c.optional.new.cursor _ c.for_behind.result
+      (bind_is _ c.in_ok-expect.ensures.found
+      ∙ else_is _ (ap (λ v. starts_with (begins_type (in_force c.args.types.now)) v) (sym c.rest.ensures)
+      ∙ sym c.start.ensures ∙ c.if-not-start.true) ∙ bind_is _ a.reads)
+      (grows_on (grows_to grows_same (sym c.in_ok-expect.ensures.nodes)) a.grows)
+      (c.for_behind.ensures.tree a.tree a.means));
+}
 
 pub for_statement-returns-in_err-declaration-clause-tree : goal.for_statement-returns-in_err-declaration-clause-tree
 unfolding for_from
@@ -449,12 +548,20 @@ block-returns-in_err-parts t c =
           (c.in_err-parts.ensures.tree nil c.no_parts-none.ensures.none)));
     })
 
-pub block-returns-clause-tree : goal.block-returns-clause-tree
+pub block-returns : goal.block-returns
 unfolding block_from
-block-returns-clause-tree t c =
-    let g = c.in_ok-parts.ensures.tree nil c.no_parts-none.ensures.none in
-    joined_reads _ c.items.new.cursor _ c.join.result c.join.ensures.tree c.join.ensures.grows c.join.ensures.rest
-    g.holds g.grows (bind_is _ (sym (after_nil _) ∙ g.reads)) c.place.ensures refl
+block-returns t c = record {
+  size = IfOk-weaker c.join.result _ _
+      (λ p e. owed_owed c.in_ok-parts.ensures.size (noded c.items.new.cursor c.join.new.self e c.join.ensures.rest))
+      c.join.ensures.size;
+  low = IfOk-weaker c.join.result _ _
+      (λ p e. omega (arith, e, c.in_ok-parts.ensures.low)) c.join.ensures.low;
+  names = IfOk-weaker c.join.result _ _
+      (λ p e. c.in_ok-parts.ensures.names) c.join.ensures.size;
+  tree = (let g = c.in_ok-parts.ensures.tree nil c.no_parts-none.ensures.none in
+      joined_reads _ c.items.new.cursor _ c.join.result c.join.ensures.tree c.join.ensures.grows c.join.ensures.rest
+      g.holds g.grows (bind_is _ (sym (after_nil _) ∙ g.reads)) c.place.ensures refl);
+}
 
 pub switch_statement-returns-in_err-value : goal.switch_statement-returns-in_err-value
 unfolding switch_from
@@ -491,34 +598,61 @@ switch_statement-returns-in_err-parts t c =
           (grows_to grows_same (sym c.in_ok-expect.ensures.nodes)) a.means)))))));
     })
 
-pub switch_statement-returns-clause-tree : goal.switch_statement-returns-clause-tree
+pub switch_statement-returns : goal.switch_statement-returns
 unfolding switch_from
-switch_statement-returns-clause-tree t c =
-    let a = c.in_ok-value.ensures.tree in
-    let kept = grows_to grows_same (sym c.in_ok-expect.ensures.nodes) in
-    let g = c.in_ok-parts.ensures.tree (one a.tree) (c.in_ok-start.ensures.one a.tree (means_on kept a.means)) in
-    let u = unafter (one a.tree) _ g.trees (rest_of c.items.new.cursor) g.reads in
-    joined_reads _ c.items.new.cursor _ c.join.result c.join.ensures.tree c.join.ensures.grows c.join.ensures.rest
-    (subst (λ v. Holds c.items.new.cursor.nodes.items c.in_ok-parts.parts v) u.2 g.holds)
-    (grows_on (grows_on a.grows kept) g.grows)
-    (bind_is _ a.reads ∙ bind_is _ c.in_ok-expect.ensures.found ∙ bind_is _ u.1)
-    c.place.ensures refl
+switch_statement-returns t c = record {
+  size = IfOk-weaker c.join.result _ _
+      (λ p e. owes (then_owed {m = 0} (then_owed {m = 24} (then_paid c.in_ok-value.ensures.size
+      (took c.condition.new.cursor c.expect.new.self c.expect.ensures.nodes c.in_ok-expect.ensures.size))
+      c.in_ok-parts.ensures.size refl)
+      (noded c.items.new.cursor c.join.new.self e c.join.ensures.rest) refl)) c.join.ensures.size;
+  low = IfOk-weaker c.join.result _ _
+      (λ p e. omega (arith, e, c.in_ok-parts.ensures.low)) c.join.ensures.low;
+  names = IfOk-weaker c.join.result _ _
+      (λ p e. c.in_ok-parts.ensures.names) c.join.ensures.size;
+  tree = (let a = c.in_ok-value.ensures.tree in
+      let kept = grows_to grows_same (sym c.in_ok-expect.ensures.nodes) in
+      let g = c.in_ok-parts.ensures.tree (one a.tree) (c.in_ok-start.ensures.one a.tree (means_on kept a.means)) in
+      let u = unafter (one a.tree) _ g.trees (rest_of c.items.new.cursor) g.reads in
+      joined_reads _ c.items.new.cursor _ c.join.result c.join.ensures.tree c.join.ensures.grows c.join.ensures.rest
+      (subst (λ v. Holds c.items.new.cursor.nodes.items c.in_ok-parts.parts v) u.2 g.holds)
+      (grows_on (grows_on a.grows kept) g.grows)
+      (bind_is _ a.reads ∙ bind_is _ c.in_ok-expect.ensures.found ∙ bind_is _ u.1)
+      c.place.ensures refl);
+}
 
-pub statement-returns-then-budget-eq0-clause-tree : goal.statement-returns-then-budget-eq0-clause-tree
-statement-returns-then-budget-eq0-clause-tree t c = state_none _ _ _ c.if-budget-eq0.true
+pub statement-returns-then-budget-eq0 : goal.statement-returns-then-budget-eq0
+statement-returns-then-budget-eq0 t c = record {
+  size = tt;
+  low = tt;
+  names = tt;
+  tree = state_none _ _ _ c.if-budget-eq0.true;
+}
 
-pub statement-returns-in_default-clause-tree : goal.statement-returns-in_default-clause-tree
-statement-returns-in_default-clause-tree t c =
-    state_end c.args.budget (c.args.budget - 1) _ _ (let n = c.if-budget-eq0.false in omega arith) c.in_default.ensures
+pub statement-returns-in_default : goal.statement-returns-in_default
+statement-returns-in_default t c = record {
+  size = tt;
+  low = tt;
+  names = tt;
+  tree = state_end c.args.budget (c.args.budget - 1) _ _
+      (let n = c.if-budget-eq0.false in omega arith) c.in_default.ensures;
+}
 
-pub statement-returns-in-Some-opening_of-clause-tree : goal.statement-returns-in-Some-opening_of-clause-tree
-statement-returns-in-Some-opening_of-clause-tree t c =
-    reads_after _ c.advance.new.self _ c.open.result
-    (state_opens c.args.budget (c.args.budget - 1) (in_force c.args.types.now) (rest_of c.args.cursor.now)
-    (rest_of c.advance.new.self) c.in-Some.item _ (let n = c.if-budget-eq0.false in omega arith)
-    (c.in-Some.ensures ∙ ap (λ v. c.in-Some.item ∷ v) (sym c.advance.ensures.rest))
-    (ap opening_of (sym c.symbol.ensures) ∙ sym c.in-Some-opening_of.ensures))
-    (grows_to grows_same (sym c.advance.ensures.nodes)) c.open.ensures.tree
+pub statement-returns-in-Some-opening_of : goal.statement-returns-in-Some-opening_of
+statement-returns-in-Some-opening_of t c = record {
+  size = IfOk-weaker c.open.result _ _
+      (λ p q. then_owed (took_past c.args.cursor.now c.advance.new.self c.in-Some.ensures
+      c.advance.ensures.nodes c.advance.ensures.rest) q refl) c.open.ensures.size;
+  low = IfOk-weaker c.open.result _ _
+      (λ p e. omega (arith, e, c.if-budget-eq0.false)) c.open.ensures.low;
+  names = c.open.ensures.names;
+  tree = reads_after _ c.advance.new.self _ c.open.result
+      (state_opens c.args.budget (c.args.budget - 1) (in_force c.args.types.now) (rest_of c.args.cursor.now)
+      (rest_of c.advance.new.self) c.in-Some.item _ (let n = c.if-budget-eq0.false in omega arith)
+      (c.in-Some.ensures ∙ ap (λ v. c.in-Some.item ∷ v) (sym c.advance.ensures.rest))
+      (ap opening_of (sym c.symbol.ensures) ∙ sym c.in-Some-opening_of.ensures))
+      (grows_to grows_same (sym c.advance.ensures.nodes)) c.open.ensures.tree;
+}
 
 pub statement-returns-in-None-clause-tree : goal.statement-returns-in-None-clause-tree
 statement-returns-in-None-clause-tree t c =
@@ -528,264 +662,98 @@ statement-returns-in-None-clause-tree t c =
     (ap opening_of (sym c.symbol.ensures) ∙ sym c.in-None.ensures))
     c.expression_statement.ensures.tree
 
-pub while_statement-returns-clause-size : goal.while_statement-returns-clause-size
-while_statement-returns-clause-size t c = IfOk-weaker c.join.result _ _
-    (λ p e. owes (then_owed {m = 0} (then_paid c.in_ok-test.ensures.size c.in_ok-body.ensures.size)
-    (noded c.statement.new.cursor c.join.new.self e c.join.ensures.rest) refl)) c.join.ensures.size
+pub while_statement-join-requires : goal.while_statement-join-requires
+while_statement-join-requires t c = record {
+  room = room_paid (then_paid c.in_ok-test.ensures.size c.in_ok-body.ensures.size) c.requires.room;
+  height = omega (
+    arith,
+    c.in_ok-push.ensures.size,
+    c.in_ok-parts.ensures.size,
+    c.in_ok-test.ensures.low,
+    c.in_ok-body.ensures.low,
+    c.requires.height,
+  );
+}
 
-pub while_statement-returns-clause-low : goal.while_statement-returns-clause-low
-while_statement-returns-clause-low t c = IfOk-weaker c.join.result _ _
-    (λ p e. omega (
-      arith,
-      e,
-      c.in_ok-push.ensures.size,
-      c.in_ok-parts.ensures.size,
-      c.in_ok-test.ensures.low,
-      c.in_ok-body.ensures.low,
-    )) c.join.ensures.low
+pub do_statement-join-requires : goal.do_statement-join-requires
+do_statement-join-requires t c = record {
+  room = room_paid (then_paid (then_paid (then_paid c.in_ok-body.ensures.size
+      (took c.statement.new.cursor c.expect.new.self c.expect.ensures.nodes c.in_ok-expect.ensures.size))
+      c.in_ok-test.ensures.size) (took c.condition.new.cursor c.expect-2.new.self c.expect-2.ensures.nodes
+      c.in_ok-expect-2.ensures.size)) c.requires.room;
+  height = omega (
+    arith,
+    c.in_ok-push.ensures.size,
+    c.in_ok-parts.ensures.size,
+    c.in_ok-test.ensures.low,
+    c.in_ok-body.ensures.low,
+    c.requires.height,
+  );
+}
 
-pub while_statement-returns-clause-names : goal.while_statement-returns-clause-names
-while_statement-returns-clause-names t c = IfOk-weaker c.join.result _ _
-    (λ p e. c.in_ok-body.ensures.names) c.join.ensures.size
+pub if_statement-join-requires : goal.if_statement-join-requires
+if_statement-join-requires t c = record {
+  room = room_paid (then_paid (then_paid (then_paid c.in_ok-test.ensures.size c.in_ok-yes.ensures.size)
+      (took c.statement.new.cursor c.takes.new.self c.takes.ensures.nodes
+      (c.takes.ensures.shorter c.if-takes.true))) c.in_ok-no.ensures.size) c.requires.room;
+  height = omega (
+    arith,
+    c.in_ok-push-2.ensures.size,
+    c.in_ok-push.ensures.size,
+    c.in_ok-parts.ensures.size,
+    c.in_ok-test.ensures.low,
+    c.in_ok-yes.ensures.low,
+    c.in_ok-no.ensures.low,
+    c.requires.height,
+  );
+}
 
-pub while_statement-join-requires-clause-room : goal.while_statement-join-requires-clause-room
-while_statement-join-requires-clause-room t c =
-    room_paid (then_paid c.in_ok-test.ensures.size c.in_ok-body.ensures.size) c.requires.room
+pub if_statement-join-requires-2 : goal.if_statement-join-requires-2
+if_statement-join-requires-2 t c = record {
+  room = room_paid (then_owed {m = 16} (then_paid c.in_ok-test.ensures.size c.in_ok-yes.ensures.size)
+      (stayed c.statement.new.cursor c.takes.new.self c.takes.ensures.nodes
+      (c.takes.ensures.left c.if-takes.false)) refl) c.requires.room;
+  height = omega (
+    arith,
+    c.in_ok-push.ensures.size,
+    c.in_ok-parts.ensures.size,
+    c.in_ok-test.ensures.low,
+    c.in_ok-yes.ensures.low,
+    c.requires.height,
+  );
+}
 
-pub while_statement-join-requires-clause-height : goal.while_statement-join-requires-clause-height
-while_statement-join-requires-clause-height t c =
-    omega (
-      arith,
-      c.in_ok-push.ensures.size,
-      c.in_ok-parts.ensures.size,
-      c.in_ok-test.ensures.low,
-      c.in_ok-body.ensures.low,
-      c.requires.height,
-    )
+pub for_behind-join-requires : goal.for_behind-join-requires
+for_behind-join-requires t c = record {
+  room = room_paid (then_paid (then_paid c.in_ok-second.ensures.size c.in_ok-third.ensures.size)
+      c.in_ok-body.ensures.size) c.requires.room;
+  height = omega (
+    arith,
+    c.in_ok-push-3.ensures.size,
+    c.in_ok-push-2.ensures.size,
+    c.in_ok-push.ensures.size,
+    c.in_ok-parts.ensures.size,
+    c.in_ok-second.ensures.low,
+    c.in_ok-third.ensures.low,
+    c.in_ok-body.ensures.low,
+    c.requires.low,
+    c.requires.height,
+  );
+}
 
-pub do_statement-returns-clause-size : goal.do_statement-returns-clause-size
-do_statement-returns-clause-size t c = IfOk-weaker c.join.result _ _
-    (λ p e. owes (then_owed {m = 0} (then_paid (then_paid (then_paid c.in_ok-body.ensures.size
-    (took c.statement.new.cursor c.expect.new.self c.expect.ensures.nodes c.in_ok-expect.ensures.size))
-    c.in_ok-test.ensures.size) (took c.condition.new.cursor c.expect-2.new.self c.expect-2.ensures.nodes
-    c.in_ok-expect-2.ensures.size))
-    (noded c.expect-2.new.self c.join.new.self e c.join.ensures.rest) refl)) c.join.ensures.size
+pub switch_statement-join-requires : goal.switch_statement-join-requires
+switch_statement-join-requires t c = record {
+  room = room_paid (then_owed {m = 24} (then_paid c.in_ok-value.ensures.size
+      (took c.condition.new.cursor c.expect.new.self c.expect.ensures.nodes c.in_ok-expect.ensures.size))
+      c.in_ok-parts.ensures.size refl) c.requires.room;
+  height = omega (arith, c.in_ok-parts.ensures.low, c.requires.height);
+}
 
-pub do_statement-returns-clause-low : goal.do_statement-returns-clause-low
-do_statement-returns-clause-low t c = IfOk-weaker c.join.result _ _
-    (λ p e. omega (
-      arith,
-      e,
-      c.in_ok-push.ensures.size,
-      c.in_ok-parts.ensures.size,
-      c.in_ok-test.ensures.low,
-      c.in_ok-body.ensures.low,
-    )) c.join.ensures.low
-
-pub do_statement-returns-clause-names : goal.do_statement-returns-clause-names
-do_statement-returns-clause-names t c = IfOk-weaker c.join.result _ _
-    (λ p e. c.in_ok-body.ensures.names) c.join.ensures.size
-
-pub do_statement-join-requires-clause-room : goal.do_statement-join-requires-clause-room
-do_statement-join-requires-clause-room t c =
-    room_paid (then_paid (then_paid (then_paid c.in_ok-body.ensures.size
-    (took c.statement.new.cursor c.expect.new.self c.expect.ensures.nodes c.in_ok-expect.ensures.size))
-    c.in_ok-test.ensures.size) (took c.condition.new.cursor c.expect-2.new.self c.expect-2.ensures.nodes
-    c.in_ok-expect-2.ensures.size)) c.requires.room
-
-pub do_statement-join-requires-clause-height : goal.do_statement-join-requires-clause-height
-do_statement-join-requires-clause-height t c =
-    omega (
-      arith,
-      c.in_ok-push.ensures.size,
-      c.in_ok-parts.ensures.size,
-      c.in_ok-test.ensures.low,
-      c.in_ok-body.ensures.low,
-      c.requires.height,
-    )
-
-pub if_statement-returns-then-takes-clause-size : goal.if_statement-returns-then-takes-clause-size
-if_statement-returns-then-takes-clause-size t c = IfOk-weaker c.join.result _ _
-    (λ p e. owes (then_owed {m = 0} (then_paid (then_paid (then_paid c.in_ok-test.ensures.size c.in_ok-yes.ensures.size)
-    (took c.statement.new.cursor c.takes.new.self c.takes.ensures.nodes
-    (c.takes.ensures.shorter c.if-takes.true))) c.in_ok-no.ensures.size)
-    (noded c.statement-then-takes.new.cursor c.join.new.self e c.join.ensures.rest) refl)) c.join.ensures.size
-
-pub if_statement-returns-then-takes-clause-low : goal.if_statement-returns-then-takes-clause-low
-if_statement-returns-then-takes-clause-low t c = IfOk-weaker c.join.result _ _
-    (λ p e. omega (
-      arith,
-      e,
-      c.in_ok-push-2.ensures.size,
-      c.in_ok-push.ensures.size,
-      c.in_ok-parts.ensures.size,
-      c.in_ok-test.ensures.low,
-      c.in_ok-yes.ensures.low,
-      c.in_ok-no.ensures.low,
-    )) c.join.ensures.low
-
-pub if_statement-returns-then-takes-clause-names : goal.if_statement-returns-then-takes-clause-names
-if_statement-returns-then-takes-clause-names t c = IfOk-weaker c.join.result _ _
-    (λ p e. c.in_ok-no.ensures.names ∙ c.in_ok-yes.ensures.names) c.join.ensures.size
-
-pub if_statement-join-requires-clause-room : goal.if_statement-join-requires-clause-room
-if_statement-join-requires-clause-room t c =
-    room_paid (then_paid (then_paid (then_paid c.in_ok-test.ensures.size c.in_ok-yes.ensures.size)
-    (took c.statement.new.cursor c.takes.new.self c.takes.ensures.nodes
-    (c.takes.ensures.shorter c.if-takes.true))) c.in_ok-no.ensures.size) c.requires.room
-
-pub if_statement-join-requires-clause-height : goal.if_statement-join-requires-clause-height
-if_statement-join-requires-clause-height t c =
-    omega (
-      arith,
-      c.in_ok-push-2.ensures.size,
-      c.in_ok-push.ensures.size,
-      c.in_ok-parts.ensures.size,
-      c.in_ok-test.ensures.low,
-      c.in_ok-yes.ensures.low,
-      c.in_ok-no.ensures.low,
-      c.requires.height,
-    )
-
-pub if_statement-returns-clause-size : goal.if_statement-returns-clause-size
-if_statement-returns-clause-size t c = IfOk-weaker c.join-2.result _ _
-    (λ p e. owes (then_owed {m = 0} (then_owed {m = 16} (then_paid c.in_ok-test.ensures.size c.in_ok-yes.ensures.size)
-    (stayed c.statement.new.cursor c.takes.new.self c.takes.ensures.nodes
-    (c.takes.ensures.left c.if-takes.false)) refl)
-    (noded c.takes.new.self c.join-2.new.self e c.join-2.ensures.rest) refl)) c.join-2.ensures.size
-
-pub if_statement-returns-clause-low : goal.if_statement-returns-clause-low
-if_statement-returns-clause-low t c = IfOk-weaker c.join-2.result _ _
-    (λ p e. omega (
-      arith,
-      e,
-      c.in_ok-push.ensures.size,
-      c.in_ok-parts.ensures.size,
-      c.in_ok-test.ensures.low,
-      c.in_ok-yes.ensures.low,
-    )) c.join-2.ensures.low
-
-pub if_statement-returns-clause-names : goal.if_statement-returns-clause-names
-if_statement-returns-clause-names t c = IfOk-weaker c.join-2.result _ _
-    (λ p e. c.in_ok-yes.ensures.names) c.join-2.ensures.size
-
-pub if_statement-join-requires-2-clause-room : goal.if_statement-join-requires-2-clause-room
-if_statement-join-requires-2-clause-room t c =
-    room_paid (then_owed {m = 16} (then_paid c.in_ok-test.ensures.size c.in_ok-yes.ensures.size)
-    (stayed c.statement.new.cursor c.takes.new.self c.takes.ensures.nodes
-    (c.takes.ensures.left c.if-takes.false)) refl) c.requires.room
-
-pub if_statement-join-requires-2-clause-height : goal.if_statement-join-requires-2-clause-height
-if_statement-join-requires-2-clause-height t c =
-    omega (
-      arith,
-      c.in_ok-push.ensures.size,
-      c.in_ok-parts.ensures.size,
-      c.in_ok-test.ensures.low,
-      c.in_ok-yes.ensures.low,
-      c.requires.height,
-    )
-
-pub for_behind-returns-clause-size : goal.for_behind-returns-clause-size
-for_behind-returns-clause-size t c = IfOk-weaker c.join.result _ _
-    (λ p e. owes (then_owed {m = 0} (then_paid (then_paid c.in_ok-second.ensures.size c.in_ok-third.ensures.size)
-    c.in_ok-body.ensures.size)
-    (noded c.statement.new.cursor c.join.new.self e c.join.ensures.rest) refl)) c.join.ensures.size
-
-pub for_behind-returns-clause-low : goal.for_behind-returns-clause-low
-for_behind-returns-clause-low t c = IfOk-weaker c.join.result _ _
-    (λ p e. omega (
-      arith,
-      e,
-      c.in_ok-push-3.ensures.size,
-      c.in_ok-push-2.ensures.size,
-      c.in_ok-push.ensures.size,
-      c.in_ok-parts.ensures.size,
-      c.in_ok-second.ensures.low,
-      c.in_ok-third.ensures.low,
-      c.in_ok-body.ensures.low,
-      c.requires.low,
-    )) c.join.ensures.low
-
-pub for_behind-returns-clause-names : goal.for_behind-returns-clause-names
-for_behind-returns-clause-names t c = IfOk-weaker c.join.result _ _
-    (λ p e. c.in_ok-body.ensures.names) c.join.ensures.size
-
-pub for_behind-join-requires-clause-room : goal.for_behind-join-requires-clause-room
-for_behind-join-requires-clause-room t c =
-    room_paid (then_paid (then_paid c.in_ok-second.ensures.size c.in_ok-third.ensures.size)
-    c.in_ok-body.ensures.size) c.requires.room
-
-pub for_behind-join-requires-clause-height : goal.for_behind-join-requires-clause-height
-for_behind-join-requires-clause-height t c =
-    omega (
-      arith,
-      c.in_ok-push-3.ensures.size,
-      c.in_ok-push-2.ensures.size,
-      c.in_ok-push.ensures.size,
-      c.in_ok-parts.ensures.size,
-      c.in_ok-second.ensures.low,
-      c.in_ok-third.ensures.low,
-      c.in_ok-body.ensures.low,
-      c.requires.low,
-      c.requires.height,
-    )
-
-pub switch_statement-returns-clause-size : goal.switch_statement-returns-clause-size
-switch_statement-returns-clause-size t c = IfOk-weaker c.join.result _ _
-    (λ p e. owes (then_owed {m = 0} (then_owed {m = 24} (then_paid c.in_ok-value.ensures.size
-    (took c.condition.new.cursor c.expect.new.self c.expect.ensures.nodes c.in_ok-expect.ensures.size))
-    c.in_ok-parts.ensures.size refl)
-    (noded c.items.new.cursor c.join.new.self e c.join.ensures.rest) refl)) c.join.ensures.size
-
-pub switch_statement-returns-clause-low : goal.switch_statement-returns-clause-low
-switch_statement-returns-clause-low t c = IfOk-weaker c.join.result _ _
-    (λ p e. omega (arith, e, c.in_ok-parts.ensures.low)) c.join.ensures.low
-
-pub switch_statement-returns-clause-names : goal.switch_statement-returns-clause-names
-switch_statement-returns-clause-names t c = IfOk-weaker c.join.result _ _
-    (λ p e. c.in_ok-parts.ensures.names) c.join.ensures.size
-
-pub switch_statement-join-requires-clause-room : goal.switch_statement-join-requires-clause-room
-switch_statement-join-requires-clause-room t c =
-    room_paid (then_owed {m = 24} (then_paid c.in_ok-value.ensures.size
-    (took c.condition.new.cursor c.expect.new.self c.expect.ensures.nodes c.in_ok-expect.ensures.size))
-    c.in_ok-parts.ensures.size refl) c.requires.room
-
-pub switch_statement-join-requires-clause-height : goal.switch_statement-join-requires-clause-height
-switch_statement-join-requires-clause-height t c =
-    omega (arith, c.in_ok-parts.ensures.low, c.requires.height)
-
-pub block-returns-clause-size : goal.block-returns-clause-size
-block-returns-clause-size t c = IfOk-weaker c.join.result _ _
-    (λ p e. owed_owed c.in_ok-parts.ensures.size (noded c.items.new.cursor c.join.new.self e c.join.ensures.rest))
-    c.join.ensures.size
-
-pub block-returns-clause-low : goal.block-returns-clause-low
-block-returns-clause-low t c = IfOk-weaker c.join.result _ _
-    (λ p e. omega (arith, e, c.in_ok-parts.ensures.low)) c.join.ensures.low
-
-pub block-returns-clause-names : goal.block-returns-clause-names
-block-returns-clause-names t c = IfOk-weaker c.join.result _ _
-    (λ p e. c.in_ok-parts.ensures.names) c.join.ensures.size
-
-pub block-join-requires-clause-room : goal.block-join-requires-clause-room
-block-join-requires-clause-room t c = room_owed c.in_ok-parts.ensures.size refl c.requires.room
-
-pub block-join-requires-clause-height : goal.block-join-requires-clause-height
-block-join-requires-clause-height t c = omega (arith, c.in_ok-parts.ensures.low, c.requires.height)
-
-pub for_statement-returns-then-not-start-clause-size : goal.for_statement-returns-then-not-start-clause-size
-for_statement-returns-then-not-start-clause-size t c = IfOk-weaker c.for_behind.result _ _
-    (λ p q. owes (then_owed {m = 0} (then_paid
-    (took c.args.cursor.now c.expect.new.self c.expect.ensures.nodes c.in_ok-expect.ensures.size)
-    c.in_ok-first.ensures.size) q refl)) c.for_behind.ensures.size
-
-pub for_statement-returns-then-not-start-clause-low : goal.for_statement-returns-then-not-start-clause-low
-for_statement-returns-then-not-start-clause-low t c = c.for_behind.ensures.low
-
-pub for_statement-returns-then-not-start-clause-names : goal.for_statement-returns-then-not-start-clause-names
-for_statement-returns-then-not-start-clause-names t c = c.for_behind.ensures.names
+pub block-join-requires : goal.block-join-requires
+block-join-requires t c = record {
+  room = room_owed c.in_ok-parts.ensures.size refl c.requires.room;
+  height = omega (arith, c.in_ok-parts.ensures.low, c.requires.height);
+}
 
 pub labelled-returns-in-Case-clause-size : goal.labelled-returns-in-Case-clause-size
 labelled-returns-in-Case-clause-size t c = IfOk-weaker c.case_label.result _ _
@@ -903,18 +871,6 @@ open-returns-in-Continue-clause-size t c = c.jump-in-Continue.ensures.size
 pub open-returns-in-Continue-clause-low : goal.open-returns-in-Continue-clause-low
 open-returns-in-Continue-clause-low t c = IfOk-weaker c.jump-in-Continue.result _ _
     (λ p e. omega (arith, e)) c.jump-in-Continue.ensures.low
-
-pub statement-returns-in-Some-opening_of-clause-size : goal.statement-returns-in-Some-opening_of-clause-size
-statement-returns-in-Some-opening_of-clause-size t c = IfOk-weaker c.open.result _ _
-    (λ p q. then_owed (took_past c.args.cursor.now c.advance.new.self c.in-Some.ensures
-    c.advance.ensures.nodes c.advance.ensures.rest) q refl) c.open.ensures.size
-
-pub statement-returns-in-Some-opening_of-clause-low : goal.statement-returns-in-Some-opening_of-clause-low
-statement-returns-in-Some-opening_of-clause-low t c = IfOk-weaker c.open.result _ _
-    (λ p e. omega (arith, e, c.if-budget-eq0.false)) c.open.ensures.low
-
-pub statement-returns-in-Some-opening_of-clause-names : goal.statement-returns-in-Some-opening_of-clause-names
-statement-returns-in-Some-opening_of-clause-names t c = c.open.ensures.names
 
 pub statement-returns-in-None-clause-size : goal.statement-returns-in-None-clause-size
 statement-returns-in-None-clause-size t c = c.expression_statement.ensures.size

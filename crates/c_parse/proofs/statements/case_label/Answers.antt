@@ -5,23 +5,20 @@ use Rattle.c_parse.proofs.Parted.{joined_reads}
 use Rattle.c_parse.proofs.Paying.{noded, then_owed, owes, room_paid}
 use Rattle.c_parse.proofs.statements.case_label.Goals as goal
 
-pub returns-clause-tree : goal.returns-clause-tree
-returns-clause-tree c =
-    let a = c.in_ok-value.ensures.tree in
-    joined_reads _ c.bracketed.new.cursor _ c.join.result c.join.ensures.tree c.join.ensures.grows c.join.ensures.rest
-    (c.in_ok-parts.ensures.one a.tree a.means) a.grows (bind_is _ a.reads) c.place.ensures refl
+pub returns : goal.returns
+returns c = record {
+  size = IfOk-weaker c.join.result _ _
+      (λ p e. owes (then_owed {m = 0} c.in_ok-value.ensures.size
+      (noded c.bracketed.new.cursor c.join.new.self e c.join.ensures.rest) refl)) c.join.ensures.size;
+  low = IfOk-weaker c.join.result _ _
+      (λ p e. omega (arith, e, c.in_ok-parts.ensures.size, c.in_ok-value.ensures.low)) c.join.ensures.low;
+  tree = (let a = c.in_ok-value.ensures.tree in
+      joined_reads _ c.bracketed.new.cursor _ c.join.result c.join.ensures.tree c.join.ensures.grows c.join.ensures.rest
+      (c.in_ok-parts.ensures.one a.tree a.means) a.grows (bind_is _ a.reads) c.place.ensures refl);
+}
 
-pub returns-clause-size : goal.returns-clause-size
-returns-clause-size c = IfOk-weaker c.join.result _ _
-    (λ p e. owes (then_owed {m = 0} c.in_ok-value.ensures.size
-    (noded c.bracketed.new.cursor c.join.new.self e c.join.ensures.rest) refl)) c.join.ensures.size
-
-pub returns-clause-low : goal.returns-clause-low
-returns-clause-low c = IfOk-weaker c.join.result _ _
-    (λ p e. omega (arith, e, c.in_ok-parts.ensures.size, c.in_ok-value.ensures.low)) c.join.ensures.low
-
-pub join-requires-clause-room : goal.join-requires-clause-room
-join-requires-clause-room c = room_paid c.in_ok-value.ensures.size c.requires.room
-
-pub join-requires-clause-height : goal.join-requires-clause-height
-join-requires-clause-height c = omega (arith, c.in_ok-parts.ensures.size, c.in_ok-value.ensures.low, c.requires.height)
+pub join-requires : goal.join-requires
+join-requires c = record {
+  room = room_paid c.in_ok-value.ensures.size c.requires.room;
+  height = omega (arith, c.in_ok-parts.ensures.size, c.in_ok-value.ensures.low, c.requires.height);
+}

@@ -13,28 +13,25 @@ returns-in_err-whole-clause-tree c =
     let p = err_from_is_err_and c.from_residual.result c.from_residual.ensures.1 in rw (p.1, p.2)
     (fails_bind _ _ _ c.in_err-whole.ensures.tree)
 
-pub returns-clause-tree : goal.returns-clause-tree
+pub returns : goal.returns
 unfolding expression_from
-returns-clause-tree c =
-    let a = c.in_ok-whole.ensures.tree in
-    made_reads _ c.bracketed.new.cursor _ (first_token a.tree)
-    (one a.tree) c.make.result c.make.ensures.tree c.make.ensures.rest
-    (record { kind = refl; own = a.means.root.first; first = a.means.root.first; names = refl })
-    (c.in_ok-parts.ensures.one a.tree a.means)
-    a.grows
-    (bind_is _ a.reads)
+returns c = record {
+  size = IfOk-weaker c.make.result _ _
+      (λ p e. then_owed c.in_ok-whole.ensures.size
+      (noded c.bracketed.new.cursor c.make.new.self e.0 c.make.ensures.rest) refl) c.make.ensures.size;
+  low = IfOk-weaker c.make.result _ _
+      (λ p e. omega (arith, e, c.in_ok-parts.ensures.size, c.in_ok-whole.ensures.low)) c.make.ensures.low;
+  tree = (let a = c.in_ok-whole.ensures.tree in
+      made_reads _ c.bracketed.new.cursor _ (first_token a.tree)
+      (one a.tree) c.make.result c.make.ensures.tree c.make.ensures.rest
+      (record { kind = refl; own = a.means.root.first; first = a.means.root.first; names = refl })
+      (c.in_ok-parts.ensures.one a.tree a.means)
+      a.grows
+      (bind_is _ a.reads));
+}
 
-pub returns-clause-size : goal.returns-clause-size
-returns-clause-size c = IfOk-weaker c.make.result _ _
-    (λ p e. then_owed c.in_ok-whole.ensures.size
-    (noded c.bracketed.new.cursor c.make.new.self e.0 c.make.ensures.rest) refl) c.make.ensures.size
-
-pub returns-clause-low : goal.returns-clause-low
-returns-clause-low c = IfOk-weaker c.make.result _ _
-    (λ p e. omega (arith, e, c.in_ok-parts.ensures.size, c.in_ok-whole.ensures.low)) c.make.ensures.low
-
-pub make-requires-clause-room : goal.make-requires-clause-room
-make-requires-clause-room c = room_paid c.in_ok-whole.ensures.size c.requires.room
-
-pub make-requires-clause-height : goal.make-requires-clause-height
-make-requires-clause-height c = omega (arith, c.in_ok-parts.ensures.size, c.in_ok-whole.ensures.low, c.requires.height)
+pub make-requires : goal.make-requires
+make-requires c = record {
+  room = room_paid c.in_ok-whole.ensures.size c.requires.room;
+  height = omega (arith, c.in_ok-parts.ensures.size, c.in_ok-whole.ensures.low, c.requires.height);
+}

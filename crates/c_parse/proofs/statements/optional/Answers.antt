@@ -18,16 +18,23 @@ returns-in_default-clause-tree c =
     ap (λ v. optional (read c.args.below) (declare c.args.below) (state c.args.below) (is_mark c.args.closing)
     (in_force c.args.types.now) v) c.in_default.ensures
 
-pub returns-then-is_marked-clause-tree : goal.returns-then-is_marked-clause-tree
+pub returns-then-is_marked : goal.returns-then-is_marked
 unfolding optional
-returns-then-is_marked-clause-tree c =
-    leaf_reads _ c.advance.new.self _ c.leaf.result c.leaf.ensures.tree c.leaf.ensures.grows c.leaf.ensures.rest
-    (grows_to grows_same (sym c.advance.ensures.nodes)) refl
-    (ap (λ v. optional (read c.args.below) (declare c.args.below) (state c.args.below) (is_mark c.args.closing)
-    (in_force c.args.types.now) v) c.in-Some.ensures
-    ∙ then_is _ (ap (λ v. is_mark c.args.closing v) (sym c.symbol.ensures) ∙ sym c.is_marked.ensures
-    ∙ c.if-is_marked.true) ∙ ap (λ v. let q : Syn × List Lexeme = (node Kinds.Absent c.in-Some.item nil, v) in
-    Some q) (sym c.advance.ensures.rest))
+returns-then-is_marked c = record {
+  size = IfOk-weaker c.leaf.result _ _
+      (λ p e. then_owed (took_past c.args.cursor.now c.advance.new.self c.in-Some.ensures
+      c.advance.ensures.nodes c.advance.ensures.rest)
+      (noded c.advance.new.self c.leaf.new.self e c.leaf.ensures.rest) refl) c.leaf.ensures.size;
+  low = IfOk-weaker c.leaf.result _ _
+      (λ p e. omega (arith, e)) c.leaf.ensures.low;
+  tree = leaf_reads _ c.advance.new.self _ c.leaf.result c.leaf.ensures.tree c.leaf.ensures.grows c.leaf.ensures.rest
+      (grows_to grows_same (sym c.advance.ensures.nodes)) refl
+      (ap (λ v. optional (read c.args.below) (declare c.args.below) (state c.args.below) (is_mark c.args.closing)
+      (in_force c.args.types.now) v) c.in-Some.ensures
+      ∙ then_is _ (ap (λ v. is_mark c.args.closing v) (sym c.symbol.ensures) ∙ sym c.is_marked.ensures
+      ∙ c.if-is_marked.true) ∙ ap (λ v. let q : Syn × List Lexeme = (node Kinds.Absent c.in-Some.item nil, v) in
+      Some q) (sym c.advance.ensures.rest));
+}
 
 pub returns-clause-tree : goal.returns-clause-tree
 unfolding optional
@@ -38,13 +45,3 @@ returns-clause-tree c =
     ∙ else_is _ (ap (λ v. is_mark c.args.closing v) (sym c.symbol.ensures) ∙ sym c.is_marked.ensures
     ∙ c.if-is_marked.false) ∙ ap (λ v. bracketed (read c.args.below) (Expression 0) (is_mark c.args.closing)
     (in_force c.args.types.now) v) (sym c.in-Some.ensures)) c.bracketed.ensures.tree
-
-pub returns-then-is_marked-clause-size : goal.returns-then-is_marked-clause-size
-returns-then-is_marked-clause-size c = IfOk-weaker c.leaf.result _ _
-    (λ p e. then_owed (took_past c.args.cursor.now c.advance.new.self c.in-Some.ensures
-    c.advance.ensures.nodes c.advance.ensures.rest)
-    (noded c.advance.new.self c.leaf.new.self e c.leaf.ensures.rest) refl) c.leaf.ensures.size
-
-pub returns-then-is_marked-clause-low : goal.returns-then-is_marked-clause-low
-returns-then-is_marked-clause-low c = IfOk-weaker c.leaf.result _ _
-    (λ p e. omega (arith, e)) c.leaf.ensures.low

@@ -12,14 +12,21 @@ use Rattle.c_parse.proofs.Parted.{joined_reads, leaf_reads}
 use Rattle.c_parse.proofs.Paying.{took, stayed, noded, then_owed, owed_paid, owes, room_paid}
 use Rattle.c_parse.proofs.statements.return_statement.Goals as goal
 
-pub returns-then-takes-clause-tree : goal.returns-then-takes-clause-tree
+pub returns-then-takes : goal.returns-then-takes
 unfolding return_from
-returns-then-takes-clause-tree c =
-    leaf_reads _ c.takes.new.self _ c.leaf.result c.leaf.ensures.tree c.leaf.ensures.grows c.leaf.ensures.rest
-    (grows_to grows_same (sym c.takes.ensures.nodes)) refl
-    (then_is _ (sym c.takes.ensures.found ∙ c.if-takes.true)
-    ∙ ap (λ v. let q : Syn × List Lexeme = (node Kinds.Return c.args.own.now nil, v) in Some q)
-    (sym (c.takes.ensures.taken c.if-takes.true)))
+returns-then-takes c = record {
+  size = IfOk-weaker c.leaf.result _ _
+      (λ p e. owes (then_owed {m = 0} (took c.args.cursor.now c.takes.new.self c.takes.ensures.nodes
+      (c.takes.ensures.shorter c.if-takes.true))
+      (noded c.takes.new.self c.leaf.new.self e c.leaf.ensures.rest) refl)) c.leaf.ensures.size;
+  low = IfOk-weaker c.leaf.result _ _
+      (λ p e. omega (arith, e)) c.leaf.ensures.low;
+  tree = leaf_reads _ c.takes.new.self _ c.leaf.result c.leaf.ensures.tree c.leaf.ensures.grows c.leaf.ensures.rest
+      (grows_to grows_same (sym c.takes.ensures.nodes)) refl
+      (then_is _ (sym c.takes.ensures.found ∙ c.if-takes.true)
+      ∙ ap (λ v. let q : Syn × List Lexeme = (node Kinds.Return c.args.own.now nil, v) in Some q)
+      (sym (c.takes.ensures.taken c.if-takes.true)));
+}
 
 pub returns-in_err-value-clause-tree : goal.returns-in_err-value-clause-tree
 unfolding return_from
@@ -30,42 +37,29 @@ returns-in_err-value-clause-tree c =
     bracketed (read c.args.below) (Expression 0) is_semicolon (in_force c.args.types.now) v)
     (sym (c.takes.ensures.left c.if-takes.false))) c.in_err-value.ensures.tree)))
 
-pub returns-clause-tree : goal.returns-clause-tree
+pub returns : goal.returns
 unfolding return_from
-returns-clause-tree c =
-    let a = c.in_ok-value.ensures.tree in
-    joined_reads _ c.bracketed.new.cursor _ c.join.result c.join.ensures.tree c.join.ensures.grows c.join.ensures.rest
-    (c.in_ok-parts.ensures.one a.tree a.means)
-    (grows_on (grows_to grows_same (sym c.takes.ensures.nodes)) a.grows)
-    (else_is _ (sym c.takes.ensures.found ∙ c.if-takes.false)
-    ∙ bind_is _ ((ap (λ v. bracketed (read c.args.below) (Expression 0) is_semicolon
-    (in_force c.args.types.now) v) (sym (c.takes.ensures.left c.if-takes.false))) ∙ a.reads))
-    c.place.ensures refl
+returns c = record {
+  size = IfOk-weaker c.join.result _ _
+      (λ p e. owes (then_owed {m = 0} (owed_paid {m = 8}
+      (stayed c.args.cursor.now c.takes.new.self c.takes.ensures.nodes
+      (c.takes.ensures.left c.if-takes.false)) c.in_ok-value.ensures.size refl)
+      (noded c.bracketed.new.cursor c.join.new.self e c.join.ensures.rest) refl)) c.join.ensures.size;
+  low = IfOk-weaker c.join.result _ _
+      (λ p e. omega (arith, e, c.in_ok-parts.ensures.size, c.in_ok-value.ensures.low)) c.join.ensures.low;
+  tree = (let a = c.in_ok-value.ensures.tree in
+      joined_reads _ c.bracketed.new.cursor _ c.join.result c.join.ensures.tree c.join.ensures.grows c.join.ensures.rest
+      (c.in_ok-parts.ensures.one a.tree a.means)
+      (grows_on (grows_to grows_same (sym c.takes.ensures.nodes)) a.grows)
+      (else_is _ (sym c.takes.ensures.found ∙ c.if-takes.false)
+      ∙ bind_is _ ((ap (λ v. bracketed (read c.args.below) (Expression 0) is_semicolon
+      (in_force c.args.types.now) v) (sym (c.takes.ensures.left c.if-takes.false))) ∙ a.reads))
+      c.place.ensures refl);
+}
 
-pub returns-then-takes-clause-size : goal.returns-then-takes-clause-size
-returns-then-takes-clause-size c = IfOk-weaker c.leaf.result _ _
-    (λ p e. owes (then_owed {m = 0} (took c.args.cursor.now c.takes.new.self c.takes.ensures.nodes
-    (c.takes.ensures.shorter c.if-takes.true))
-    (noded c.takes.new.self c.leaf.new.self e c.leaf.ensures.rest) refl)) c.leaf.ensures.size
-
-pub returns-then-takes-clause-low : goal.returns-then-takes-clause-low
-returns-then-takes-clause-low c = IfOk-weaker c.leaf.result _ _
-    (λ p e. omega (arith, e)) c.leaf.ensures.low
-
-pub returns-clause-size : goal.returns-clause-size
-returns-clause-size c = IfOk-weaker c.join.result _ _
-    (λ p e. owes (then_owed {m = 0} (owed_paid {m = 8} (stayed c.args.cursor.now c.takes.new.self c.takes.ensures.nodes
-    (c.takes.ensures.left c.if-takes.false)) c.in_ok-value.ensures.size refl)
-    (noded c.bracketed.new.cursor c.join.new.self e c.join.ensures.rest) refl)) c.join.ensures.size
-
-pub returns-clause-low : goal.returns-clause-low
-returns-clause-low c = IfOk-weaker c.join.result _ _
-    (λ p e. omega (arith, e, c.in_ok-parts.ensures.size, c.in_ok-value.ensures.low)) c.join.ensures.low
-
-pub join-requires-clause-room : goal.join-requires-clause-room
-join-requires-clause-room c =
-    room_paid (owed_paid {m = 8} (stayed c.args.cursor.now c.takes.new.self c.takes.ensures.nodes
-    (c.takes.ensures.left c.if-takes.false)) c.in_ok-value.ensures.size refl) c.requires.room
-
-pub join-requires-clause-height : goal.join-requires-clause-height
-join-requires-clause-height c = omega (arith, c.in_ok-parts.ensures.size, c.in_ok-value.ensures.low, c.requires.height)
+pub join-requires : goal.join-requires
+join-requires c = record {
+  room = room_paid (owed_paid {m = 8} (stayed c.args.cursor.now c.takes.new.self c.takes.ensures.nodes
+      (c.takes.ensures.left c.if-takes.false)) c.in_ok-value.ensures.size refl) c.requires.room;
+  height = omega (arith, c.in_ok-parts.ensures.size, c.in_ok-value.ensures.low, c.requires.height);
+}

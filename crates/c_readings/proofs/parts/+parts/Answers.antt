@@ -12,7 +12,7 @@ use Rattle.ck_base.specs.Tokens.{Lexeme}
 use Rattle.c_tree.specs.Scopes.{Doing, ◌>>=◌}
 use Rattle.c_tree.specs.Conversions.{Operand}
 use Rattle.c_elaborator.specs.declared.work.Name.{Name}
-use Rattle.c_readings.proofs.Leaves.{word_is, fits_name, fits_number, fits_character, fits_text, number_is}
+use Rattle.c_readings.proofs.Leaves.{word_is, fits_name, fits_number, fits_character, fits_text, number_is, texts_of}
 use Rattle.c_readings.proofs.Leaves.{character_is}
 use Rattle.c_readings.proofs.Leaves.{literal_is}
 use Rattle.c_tree.specs.Expressions.{read_value, expression_of, selected, member, member_behind, gives, named, number}
@@ -21,7 +21,7 @@ use Rattle.c_tree.specs.Expressions.{conditional, cast, sized, unevaluated}
 use Rattle.c_tree.specs.Conversions.{value}
 use Rattle.c_expressions.specs.Nodes.{type_in}
 use Rattle.c_elaborator.specs.Answers.{quietly, Answers, OperandThere, IsOperand, operand_in, TypeThere, IsType}
-use Rattle.c_elaborator.specs.Parts.{AreParts, token_of}
+use Rattle.c_elaborator.specs.Parts.{AreOf, AreParts, token_of}
 use Rattle.c_elaborator.proofs.Sequencing.{quiet_law, then, gave, operand_kept, operand_there, type_there}
 use Rattle.c_readings.specs.Gathered.{operand_of, type_of, both, one_operand, one_value, one_type, two_values}
 use Rattle.c_readings.specs.Gathered.{place_and_value, three_values, type_and_value, assigning, PairThere, IsPair}
@@ -38,7 +38,7 @@ use Rattle.c_operators.specs.Called.{AreThere}
 use Rattle.c_tree.specs.Libraries.{services}
 use Rattle.c_tree.specs.Expressions.{read_values, library_call, call, called}
 use Rattle.c_elaborator.proofs.Sequencing.{answers_at}
-use Rattle.c_readings.specs.Within.{PartsWithin}
+use Rattle.c_readings.specs.Within.{PartsWithin, PartsThat}
 use Rattle.c_readings.specs.Gathered.{ReadSoFar, AllThere, AreOperands, called_service, called_value}
 use Rattle.c_readings.proofs.Kids.{cut}
 use Rattle.c_readings.proofs.Arguments.{so_far_begins, so_far_ends, so_far_fails, so_far_steps, operands_kept}
@@ -115,7 +115,8 @@ use Rattle.c_readings.proofs.Declaring.{no_declarator}
 use Rattle.c_readings.proofs.Tagging.{record_untagged, record_tagged, record_behind, enum_untagged, enum_tagged}
 use Rattle.c_readings.proofs.Tagging.{enum_behind}
 use Rattle.c_readings.proofs.Params.{Are, ParamsSoFar, params_stop, params_grow, params_fail, params_refuse}
-use Rattle.c_readings.proofs.Within.{have_parts, part_there, deep}
+use Rattle.c_readings.proofs.Within.{have_parts, part_there, deep, first_of_kind, kids_in, kind_is, kind_kept, kinds_in}
+use Rattle.c_readings.proofs.Within.{kinds_kept, last_kind, node_of, others_of_kind, tagged_kind, untagged_kind}
 use Rattle.c_readings.proofs.Within.{behind_within, ends_within, first_within, kids_within, node_within, one_within}
 use Rattle.c_readings.proofs.Within.{others_within, still_within, three_within, two_within, within_kept}
 use Rattle.c_readings.proofs.parts.+parts.Goals as goal
@@ -538,8 +539,8 @@ expression-literal-requires t c = record {
   whole = c.requires.whole;
   accepted = fits_text c.args.work.now c.args.node.now c.name_of-name.result c.name_of-name.ensures c.in-Text.is
       c.requires.node;
-  parts = have_parts c.args.work.now c.as_slice-kids.result.now
-      (subst (λ (ks : List ℕ). PartsWithin c.args.work.now c.args.depth ks) (sym c.as_slice-kids.ensures) c.requires.parts);
+  parts = texts_of c.args.work.now c.args.node.now c.as_slice-kids.result.now c.in-Text.is c.as_slice-kids.ensures
+      c.requires.node;
 }
 
 pub expression-returns-in-Text : goal.expression-returns-in-Text
@@ -809,6 +810,10 @@ constant-returns t c = λ x p.
     (operand_in v c.in_ok-x.x) _ ConstantThere (in_any IsConstant) c.constant_value.result
     (c.in_ok-x.ensures x p) c.constant_value.ensures
 
+pub length_of-array_length-requires : goal.length_of-array_length-requires
+length_of-array_length-requires t c =
+    let a = c.in_ok-c.ensures c.requires.part.syntax c.requires.part.is in record { whole = a.whole; small = a.there }
+
 pub length_of-returns : goal.length_of-returns
 length_of-returns t c = λ x p.
     let v = c.constant.new.work in
@@ -991,7 +996,7 @@ type_of-type_of_node-requires t c =
       omega arith,
       (
         c.requires.whole,
-        kids_within c.args.work.now c.args.k c.node_at-node.result.now c.requires.part c.node_at-node.ensures,
+        node_of c.args.work.now c.args.k c.node_at-node.result.now c.requires.part c.node_at-node.ensures,
       ),
     )
 
@@ -1000,6 +1005,34 @@ type_of-returns t c = λ x p.
     let o = opened c.args.work.now c.args.k x c.node_at-node.result.now p c.node_at-node.ensures in
     at_node c.args.work.now _ c.node_at-node.result.now x (λ r. r.type c.args.alone) TypeThere IsType _ o
     (c.type_of_node.ensures o.token o.parts o.node)
+
+pub type_of_node-record_specifier-requires : goal.type_of_node-record_specifier-requires
+type_of_node-record_specifier-requires t c = (
+  omega arith,
+  (
+    c.requires.whole,
+    kids_in c.args.work.now c.args.node.now c.as_slice-kids.result.now c.requires.node c.as_slice-kids.ensures,
+  ),
+)
+
+pub type_of_node-enum_specifier-requires : goal.type_of_node-enum_specifier-requires
+type_of_node-enum_specifier-requires t c = (
+  omega arith,
+  (
+    c.requires.whole,
+    kinds_in c.args.work.now c.args.node.now c.as_slice-kids.result.now Kinds.Enum c.requires.node
+        c.as_slice-kids.ensures c.in-Enum.is,
+  ),
+)
+
+pub type_of_node-type_name-requires : goal.type_of_node-type_name-requires
+type_of_node-type_name-requires t c = (
+  omega arith,
+  (
+    c.requires.whole,
+    kids_in c.args.work.now c.args.node.now c.as_slice-kids.result.now c.requires.node c.as_slice-kids.ensures,
+  ),
+)
 
 pub type_of_node-returns-in-TypedefName : goal.type_of_node-returns-in-TypedefName
 type_of_node-returns-in-TypedefName t c = λ t' xs n.
@@ -1514,9 +1547,18 @@ member_declarator-returns t c = λ x y ms i p a.
 pub enum_specifier-tagged_enumeration-requires : goal.enum_specifier-tagged_enumeration-requires
 enum_specifier-tagged_enumeration-requires t c =
     let u = c.args.work.now in
-    let h = subst (λ (o : Option TagParts). IsTagged u o c.requires.parts.syntax) c.in-Some.is
-    (c.tag_of-found.ensures c.requires.parts.syntax c.requires.parts.are) in
-    (omega arith, (c.requires.whole, behind_within u c.args.kids.now _ c.requires.parts h.1))
+    let p = c.requires.parts in
+    let h = subst (λ (o : Option TagParts). IsTagged u o p.parts.syntax) c.in-Some.is
+    (c.tag_of-found.ensures p.parts.syntax p.parts.are) in
+    (omega arith, (c.requires.whole, tagged_kind u c.args.kids.now _ _ p h.0 h.1))
+
+pub enum_specifier-listed-requires : goal.enum_specifier-listed-requires
+enum_specifier-listed-requires t c =
+    let u = c.args.work.now in
+    let p = c.requires.parts in
+    let h = subst (λ (o : Option TagParts). IsTagged u o p.parts.syntax) c.in-None.is
+    (c.tag_of-found.ensures p.parts.syntax p.parts.are) in
+    (omega arith, (c.requires.whole, untagged_kind u c.args.kids.now p h))
 
 pub enum_specifier-returns-in-None : goal.enum_specifier-returns-in-None
 enum_specifier-returns-in-None t c = λ xs p.
@@ -1550,7 +1592,7 @@ tagged_enumeration-listed-requires t c =
       omega arith,
       (
         a.whole,
-        within_kept c.args.work.now c.new_enumeration.new.work c.args.list.now a.grows.keeps
+        kinds_kept c.args.work.now c.new_enumeration.new.work c.args.list.now a.grows.keeps
             c.requires.parts,
       ),
     )
@@ -1570,7 +1612,7 @@ tagged_enumeration-returns t c = λ xs p.
     (c.listed.ensures xs (parts_kept u v c.args.list.now xs a.grows.keeps p)))
 
 pub listed-int_type-requires : goal.listed-int_type-requires
-listed-int_type-requires t c = (c.in_ok-enumerators.ensures c.requires.parts.syntax c.requires.parts.are).whole
+listed-int_type-requires t c = (c.in_ok-enumerators.ensures c.requires.parts.parts.syntax c.requires.parts.parts.are).whole
 
 pub listed-returns : goal.listed-returns
 listed-returns t c = λ xs p.
@@ -1594,8 +1636,9 @@ enumerators-enumerator-requires t c =
       omega arith,
       (
         c.loop-part.invariant.whole,
-        first_within v c.in-Some.part.first c.in-Some.part.others.now
-            (subst (λ (z : List ℕ). PartsWithin v c.args.depth z) c.in-Some.ensures c.loop-part.invariant.parts),
+        first_of_kind v Kinds.Enumerator c.in-Some.part.first c.in-Some.part.others.now
+            (subst (λ (z : List ℕ). PartsThat (AreOf Kinds.Enumerator) v c.args.depth z) c.in-Some.ensures
+            c.loop-part.invariant.parts),
       ),
     )
 
@@ -1606,13 +1649,14 @@ enumerators-loop-part-preserved t c =
     let k = c.in-Some.part.first in
     let ks = c.in-Some.part.others.now in
     let n = to_z w128 c.loop-part.next-bits in
-    let h = subst (λ (z : List ℕ). PartsWithin v c.args.depth z) c.in-Some.ensures c.loop-part.invariant.parts in
-    let f = first_within v k ks h in
+    let h = subst (λ (z : List ℕ). PartsThat (AreOf Kinds.Enumerator) v c.args.depth z) c.in-Some.ensures
+    c.loop-part.invariant.parts in
+    let f = (first_of_kind v Kinds.Enumerator k ks h).part in
     let fits : FitsSigned w128 c.in_ok-next.next = first_of (search rules, grind arith) in
     let a = c.in_ok-next.ensures f.syntax f.is in
     record {
       whole = a.whole;
-      parts = within_kept v w ks a.grows.keeps (others_within v k ks h);
+      parts = kinds_kept v w ks a.grows.keeps (others_of_kind v Kinds.Enumerator k ks h);
       reads = λ xs q. subst (λ (m : ℤ). SoFar c.args.work.now w ks (enumerators (readings xs) (pos 0)) enumerators_on
           (Unit {0}) (λ z. z ≡ m)) (sym (to_z-of_z w128 c.in_ok-next.next fits))
           (enumerators_go c.args.work.now v w k ks (enumerators (readings xs) (pos 0)) n _
@@ -1642,18 +1686,18 @@ enumerators-returns t c = λ xs q.
 
 pub enumerator-valued-requires : goal.enumerator-valued-requires
 enumerator-valued-requires t c =
-    let some = deep c.args.work.now c.args.k c.requires.part in
+    let some = deep c.args.work.now c.args.k c.requires.part.part in
     let u = c.args.work.now in (
       omega arith,
       (
         c.requires.whole,
         subst (λ (ks : List ℕ). PartsWithin u (c.args.depth - 1) ks) (sym c.as_slice.ensures)
-            (kids_within u c.args.k c.node_at-node.result.now c.requires.part c.node_at-node.ensures),
+            (kids_within u c.args.k c.node_at-node.result.now c.requires.part.part c.node_at-node.ensures),
       ),
     )
 
-pub enumerator-returns-in-Enumerator : goal.enumerator-returns-in-Enumerator
-enumerator-returns-in-Enumerator t c = λ x p.
+pub enumerator-returns : goal.enumerator-returns
+enumerator-returns t c = λ x p.
     let u = c.args.work.now in
     let w = c.valued.new.work in
     let n = c.node_at-node.result.now in
@@ -1661,7 +1705,7 @@ enumerator-returns-in-Enumerator t c = λ x p.
     at_node u w n x (λ r. r.enumerator c.args.next) NumberThere (in_any IsNumber) c.valued.result o
     (subst (λ (l : Lexeme). Answers quietly u w (enumerator l (readings o.parts) c.args.next) NumberThere
     (in_any IsNumber) c.valued.result) (ap (token_of u) c.name_of.ensures
-    ∙ sym (enumerator_is u n o.token o.parts o.node c.in-Enumerator.is))
+    ∙ sym (enumerator_is u n o.token o.parts o.node (kind_is u c.args.k n Kinds.Enumerator c.requires.part c.node_at-node.ensures)))
     (subst (λ (z : ℤ). Answers quietly u w (enumerator (token_of u c.name_of.result) (readings o.parts) z) NumberThere
     (in_any IsNumber) c.valued.result) (to_z-of_z w128 c.args.next c.ranges.next)
     (c.valued.ensures o.parts (subst (λ (ks : List ℕ). AreParts u ks o.parts) (sym c.as_slice.ensures) o.node.parts))))
@@ -1722,7 +1766,7 @@ derived-declarator-requires t c =
       omega arith,
       (
         c.requires.whole,
-        kids_within c.args.work.now c.args.k c.node_at-node.result.now c.requires.part c.node_at-node.ensures,
+        node_of c.args.work.now c.args.k c.node_at-node.result.now c.requires.part c.node_at-node.ensures,
       ),
     )
 
@@ -1731,6 +1775,52 @@ derived-returns t c = λ x p.
     let o = opened c.args.work.now c.args.k x c.node_at-node.result.now p c.node_at-node.ensures in
     at_node c.args.work.now _ c.node_at-node.result.now x (λ r. r.derived) DerivedThere ShowsDerived _ o
     (c.declarator.ensures o.token o.parts o.node)
+
+pub declarator-enclosed-requires : goal.declarator-enclosed-requires
+declarator-enclosed-requires t c = (
+  omega arith,
+  (
+    c.requires.whole,
+    kids_in c.args.work.now c.args.node.now c.as_slice-kids.result.now c.requires.node c.as_slice-kids.ensures,
+  ),
+)
+
+pub declarator-pointer-requires : goal.declarator-pointer-requires
+declarator-pointer-requires t c = (
+  omega arith,
+  (
+    c.requires.whole,
+    kids_in c.args.work.now c.args.node.now c.as_slice-kids.result.now c.requires.node c.as_slice-kids.ensures,
+  ),
+)
+
+pub declarator-array-requires : goal.declarator-array-requires
+declarator-array-requires t c = (
+  omega arith,
+  (
+    c.requires.whole,
+    kids_in c.args.work.now c.args.node.now c.as_slice-kids.result.now c.requires.node c.as_slice-kids.ensures,
+  ),
+)
+
+pub declarator-function-requires : goal.declarator-function-requires
+declarator-function-requires t c = (
+  omega arith,
+  (
+    c.requires.whole,
+    kinds_in c.args.work.now c.args.node.now c.as_slice-kids.result.now Kinds.Function c.requires.node
+        c.as_slice-kids.ensures c.in-Function.is,
+  ),
+)
+
+pub declarator-open_array-requires : goal.declarator-open_array-requires
+declarator-open_array-requires t c = (
+  omega arith,
+  (
+    c.requires.whole,
+    kids_in c.args.work.now c.args.node.now c.as_slice-kids.result.now c.requires.node c.as_slice-kids.ensures,
+  ),
+)
 
 pub declarator-returns-in-DeclaredName : goal.declarator-returns-in-DeclaredName
 declarator-returns-in-DeclaredName t c = λ t' xs n.
@@ -1911,7 +2001,11 @@ row-returns t c = λ xs y p q.
 
 pub function-function_with-requires : goal.function-function_with-requires
 function-function_with-requires t c =
-    let h = ends_within c.args.work.now c.args.kids.now c.in-Some.x.before.now c.in-Some.x.last c.in-Some.ensures c.requires.parts in (omega arith, (c.requires.whole, (h.0, h.1)))
+    let u = c.args.work.now in
+    let x = c.in-Some.x in
+    let p = c.requires.parts in
+    let h = ends_within u c.args.kids.now x.before.now x.last c.in-Some.ensures p.parts in
+    (omega arith, (c.requires.whole, (h.0, last_kind u c.args.kids.now x.before.now x.last c.in-Some.ensures p)))
 
 pub function-returns-in-None : goal.function-returns-in-None
 function-returns-in-None t c =
@@ -1932,7 +2026,7 @@ function_with-prototype-requires t c =
       omega arith,
       (
         a.whole,
-        still_within c.args.work.now c.within.new.work c.args.parameters a.grows.keeps
+        kind_kept c.args.work.now c.within.new.work c.args.parameters a.grows.keeps
             c.requires.parameters,
       ),
     )
@@ -1953,15 +2047,17 @@ function_with-returns t c = λ xs y p q.
 
 pub prototype-parameter_list-requires : goal.prototype-parameter_list-requires
 prototype-parameter_list-requires t c =
-    let some = deep c.args.work.now c.args.k c.requires.part in
+    let some = deep c.args.work.now c.args.k c.requires.part.part in
     let u = c.args.work.now in
+    let n = c.node_at-node.result.now in
+    let g = c.node_at-node.ensures in
     let a = c.in_ok-enter.ensures in (
       omega arith,
       (
         a.whole,
-        within_kept u c.enter.new.work c.as_slice.result.now a.grows.keeps
-            (subst (λ (ks : List ℕ). PartsWithin u (c.args.depth - 1) ks) (sym c.as_slice.ensures)
-            (kids_within u c.args.k c.node_at-node.result.now c.requires.part c.node_at-node.ensures)),
+        kinds_kept u c.enter.new.work c.as_slice.result.now a.grows.keeps
+            (kinds_in u n c.as_slice.result.now Kinds.Parameters (node_of u c.args.k n c.requires.part.part g)
+            c.as_slice.ensures (kind_is u c.args.k n Kinds.Parameters c.requires.part g)),
       ),
     )
 
@@ -1971,7 +2067,7 @@ prototype-close-requires t c =
     let a = c.in_ok-enter.ensures in
     let h = within_kept u c.enter.new.work c.as_slice.result.now a.grows.keeps
     (subst (λ (ks : List ℕ). PartsWithin u (c.args.depth - 1) ks) (sym c.as_slice.ensures)
-    (kids_within u c.args.k c.node_at-node.result.now c.requires.part c.node_at-node.ensures)) in
+    (kids_within u c.args.k c.node_at-node.result.now c.requires.part.part c.node_at-node.ensures)) in
     (c.in_ok-params.ensures h.syntax h.are).whole
 
 pub prototype-returns : goal.prototype-returns
@@ -2013,16 +2109,18 @@ parameter_list-parameter-requires t c =
       omega arith,
       (
         c.loop-part.invariant.whole,
-        first_within v c.in-Some.part.first c.in-Some.part.others.now
-            (subst (λ (z : List ℕ). PartsWithin v c.args.depth z) c.in-Some.ensures c.loop-part.invariant.parts),
+        first_of_kind v Kinds.Parameter c.in-Some.part.first c.in-Some.part.others.now
+            (subst (λ (z : List ℕ). PartsThat (AreOf Kinds.Parameter) v c.args.depth z) c.in-Some.ensures
+            c.loop-part.invariant.parts),
       ),
     )
 
 pub parameter_list-declare_parameter-requires : goal.parameter_list-declare_parameter-requires
 parameter_list-declare_parameter-requires t c =
     let v = c.loop-part.work in
-    let f = first_within v c.in-Some.part.first c.in-Some.part.others.now
-    (subst (λ (z : List ℕ). PartsWithin v c.args.depth z) c.in-Some.ensures c.loop-part.invariant.parts) in
+    let f = (first_of_kind v Kinds.Parameter c.in-Some.part.first c.in-Some.part.others.now
+    (subst (λ (z : List ℕ). PartsThat (AreOf Kinds.Parameter) v c.args.depth z) c.in-Some.ensures
+    c.loop-part.invariant.parts)).part in
     let a = c.in_ok-p.ensures f.syntax f.is in
     record { whole = a.whole; there = a.there }
 
@@ -2043,13 +2141,15 @@ parameter_list-loop-part-preserved t c =
     let z = c.declare_parameter.new.work in
     let k = c.in-Some.part.first in
     let ks = c.in-Some.part.others.now in
-    let h = subst (λ (y : List ℕ). PartsWithin v c.args.depth y) c.in-Some.ensures c.loop-part.invariant.parts in
-    let f = first_within v k ks h in
+    let h = subst (λ (y : List ℕ). PartsThat (AreOf Kinds.Parameter) v c.args.depth y) c.in-Some.ensures
+    c.loop-part.invariant.parts in
+    let f = (first_of_kind v Kinds.Parameter k ks h).part in
     let a = c.in_ok-p.ensures f.syntax f.is in
     let b = c.in_ok-declare_parameter.ensures.answers in
     record {
       whole = b.whole;
-      parts = within_kept w z ks b.grows.keeps (within_kept v w ks a.grows.keeps (others_within v k ks h));
+      parts = kinds_kept w z ks b.grows.keeps
+          (kinds_kept v w ks a.grows.keeps (others_of_kind v Kinds.Parameter k ks h));
       reads = λ xs q. params_grow c.args.work.now v w z k ks c.is_lone-only.result
           (parameter_list 0 (length (readings xs) == 1) (readings xs)) c.loop-part.params.items
           c.declare_parameter.new.params.items c.in_ok-p.p c.if-p.false
@@ -2072,18 +2172,18 @@ parameter_list-returns t c = λ xs q.
 
 pub parameter-parameter_at-requires : goal.parameter-parameter_at-requires
 parameter-parameter_at-requires t c =
-    let some = deep c.args.work.now c.args.k c.requires.part in
+    let some = deep c.args.work.now c.args.k c.requires.part.part in
     let u = c.args.work.now in (
       omega arith,
       (
         c.requires.whole,
         subst (λ (ks : List ℕ). PartsWithin u (c.args.depth - 1) ks) (sym c.as_slice.ensures)
-            (kids_within u c.args.k c.node_at-node.result.now c.requires.part c.node_at-node.ensures),
+            (kids_within u c.args.k c.node_at-node.result.now c.requires.part.part c.node_at-node.ensures),
       ),
     )
 
-pub parameter-returns-in-Parameter : goal.parameter-returns-in-Parameter
-parameter-returns-in-Parameter t c = λ x p.
+pub parameter-returns : goal.parameter-returns
+parameter-returns t c = λ x p.
     let u = c.args.work.now in
     let w = c.parameter_at.new.work in
     let n = c.node_at-node.result.now in
@@ -2091,7 +2191,7 @@ parameter-returns-in-Parameter t c = λ x p.
     at_node u w n x (λ r. r.parameter c.args.only) ParamThere (in_any IsParam) c.parameter_at.result o
     (subst (λ (l : Lexeme). Answers quietly u w (parameter_of l (readings o.parts) c.args.only) ParamThere
     (in_any IsParam) c.parameter_at.result)
-    (ap (token_of u) c.name_of.ensures ∙ sym (parameter_word u n o.token o.parts o.node c.in-Parameter.is))
+    (ap (token_of u) c.name_of.ensures ∙ sym (parameter_word u n o.token o.parts o.node (kind_is u c.args.k n Kinds.Parameter c.requires.part c.node_at-node.ensures)))
     (c.parameter_at.ensures o.parts (subst (λ (ks : List ℕ). AreParts u ks o.parts)
     (sym c.as_slice.ensures) o.node.parts)))
 
@@ -2399,16 +2499,16 @@ pub member-node_at-node-requires : goal.member-node_at-node-requires
 member-node_at-node-requires t c = part_there c.args.work.now c.args.k c.requires.part
 
 pub enumerator-node_at-node-requires : goal.enumerator-node_at-node-requires
-enumerator-node_at-node-requires t c = part_there c.args.work.now c.args.k c.requires.part
+enumerator-node_at-node-requires t c = part_there c.args.work.now c.args.k c.requires.part.part
 
 pub derived-node_at-node-requires : goal.derived-node_at-node-requires
 derived-node_at-node-requires t c = part_there c.args.work.now c.args.k c.requires.part
 
 pub prototype-node_at-node-requires : goal.prototype-node_at-node-requires
-prototype-node_at-node-requires t c = part_there c.args.work.now c.args.k c.requires.part
+prototype-node_at-node-requires t c = part_there c.args.work.now c.args.k c.requires.part.part
 
 pub parameter-node_at-node-requires : goal.parameter-node_at-node-requires
-parameter-node_at-node-requires t c = part_there c.args.work.now c.args.k c.requires.part
+parameter-node_at-node-requires t c = part_there c.args.work.now c.args.k c.requires.part.part
 
 pub selected-node_at-node-requires : goal.selected-node_at-node-requires
 selected-node_at-node-requires t c =
@@ -2433,4 +2533,4 @@ pub record_specifier-tag_of-found-requires : goal.record_specifier-tag_of-found-
 record_specifier-tag_of-found-requires t c = have_parts c.args.work.now c.args.kids.now c.requires.parts
 
 pub enum_specifier-tag_of-found-requires : goal.enum_specifier-tag_of-found-requires
-enum_specifier-tag_of-found-requires t c = have_parts c.args.work.now c.args.kids.now c.requires.parts
+enum_specifier-tag_of-found-requires t c = have_parts c.args.work.now c.args.kids.now c.requires.parts.parts

@@ -1,8 +1,9 @@
 use Rattle.std.proofs.Common.{◌+◌, ◌*◌, length}
+use Rattle.c_tree.specs.declared.syntax.NodeKind.TheVariants as Kinds
 use Rattle.c_tree.specs.Syntax.{Syns}
 use Rattle.c_expressions.specs.Nodes.{IsWhole}
-use Rattle.c_elaborator.specs.Parts.{AreParts}
-use Rattle.c_readings.specs.Within.{PartsWithin}
+use Rattle.c_elaborator.specs.Parts.{AreParts, AreOf}
+use Rattle.c_readings.specs.Within.{PartsWithin, PartsThat}
 use Rattle.c_readings.specs.Gathered.{ReadSoFar}
 use Rattle.std.specs.Prelude.{◌≡◌, ◌==◌, List, [], map, pos}
 use Rattle.c_tree.specs.Scopes.{Part}
@@ -302,7 +303,7 @@ invariant-member_declarators-loop-part l = record {
 abbrev pub invariant-enumerators-loop-part : goal.invariant-enumerators-loop-part
 invariant-enumerators-loop-part l = record {
   whole : IsWhole l.work.nodes;
-  parts : PartsWithin l.work l.depth l.left;
+  parts : PartsThat (AreOf Kinds.Enumerator) l.work l.depth l.left;
   reads : (xs : Syns) → AreParts l.fn.work l.fn.kids xs →
       SoFar l.fn.work l.work l.left (enumerators (readings xs) (pos 0)) enumerators_on (NumberThere l.work l.next)
       (λ z. z ≡ l.next);
@@ -311,7 +312,7 @@ invariant-enumerators-loop-part l = record {
 abbrev pub invariant-parameter_list-loop-part : goal.invariant-parameter_list-loop-part
 invariant-parameter_list-loop-part l = record {
   whole : IsWhole l.work.nodes;
-  parts : PartsWithin l.work l.depth l.left;
+  parts : PartsThat (AreOf Kinds.Parameter) l.work l.depth l.left;
   reads : (xs : Syns) → AreParts l.fn.work l.fn.kids xs →
       ParamsSoFar l.fn.work l.work l.left l.only
       (parameter_list 0 (length (readings xs) == 1) (readings xs)) l.params.items;

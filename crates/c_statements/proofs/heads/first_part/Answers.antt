@@ -17,6 +17,7 @@ use Rattle.c_statements.proofs.Inside.{declares_first, evaluates_first, is_expre
 use Rattle.c_statements.proofs.Placing.{at_place}
 use Rattle.c_statements.proofs.Steps.{nothing_given}
 use Rattle.c_readings.proofs.Within.{kids_in, node_low, part_there}
+use Rattle.c_statements.proofs.Only.{of_one}
 use Rattle.c_statements.proofs.heads.first_part.Goals as goal
 
 pub node_at-node-requires : goal.node_at-node-requires
@@ -43,7 +44,7 @@ returns-in-Declaration c = λ x p.
     (sym (o.is ∙ ap (λ (k : NodeKind). node k o.token o.parts) c.in-Declaration.is))
     (subst (λ (e : Doing meant.Items). Answers freely u w e ItemsThere IsItems c.declaration.result)
     (sym (declares_first d o.token o.parts))
-    (at_place u w (λ q. declaration q (readings o.parts)) o.token.pos n.pos c.declaration.result o.node.place
+    (at_place u w (λ q. declaration q (readings o.parts)) ItemsThere o.token.pos n.pos c.declaration.result o.node.place
     (c.declaration.ensures o.parts (subst (λ (ks : List ℕ). AreParts u ks o.parts)
     (sym c.as_slice.ensures) o.node.parts))))
 
@@ -71,4 +72,4 @@ returns-in_default c = λ x p.
     (sym (evaluates_first d n.kind o.token o.parts (reading x)
     (is_expression n.kind c.in_default.not-Declaration c.in_default.not-Absent)))
     (subst (λ (q : Pos). Answers freely u w (evaluate_one (reading x) q) ItemsThere IsItems r)
-    (o.first ∙ ap first_of o.is) (c.evaluate_one.ensures x p)))
+    (o.first ∙ ap first_of o.is) (of_one u w (evaluate_one (reading x) n.first) r (c.evaluate_one.ensures x p))))

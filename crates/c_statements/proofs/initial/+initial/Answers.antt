@@ -12,6 +12,7 @@ use Rattle.c_expressions.specs.Nodes.{type_in}
 use Rattle.c_elaborator.specs.Answers.{Answers, quietly}
 use Rattle.c_elaborator.specs.Nodes.{syns_of}
 use Rattle.c_elaborator.specs.Parts.{AreParts, token_of}
+use Rattle.c_elaborator.proofs.Parting.{texts_of}
 use Rattle.c_elaborator.proofs.Sequencing.{keeps_same, keeps_then}
 use Rattle.c_initializers.specs.declared.slots.Slot.{Slot}
 use Rattle.c_initializers.specs.declared.slots.Filled.{Filled as Kept}
@@ -22,7 +23,7 @@ use Rattle.c_statements.specs.Initial.{asked_by, gives_items, SoFar}
 use Rattle.c_statements.proofs.Listing.{so_far_begins, so_far_steps, so_far_fails, so_far_ends, item_there}
 use Rattle.c_statements.proofs.Listing.{place_is_there, part_is_there, part_refused}
 use Rattle.c_statements.proofs.Reading.{reads_braces, reads_string, reads_text, reads_value, string_same, lone_given}
-use Rattle.c_statements.proofs.Reading.{braced_listed, one_part, node_parts}
+use Rattle.c_statements.proofs.Reading.{braced_listed, one_part, node_parts, text_accepted}
 use Rattle.c_readings.proofs.Within.{at_within, deep, have_parts, one_within, still_within}
 use Rattle.c_statements.proofs.initial.+initial.Goals as goal
 
@@ -32,14 +33,25 @@ initializer-braced-requires t c =
       omega arith,
       (
         c.requires.whole,
-        (c.requires.there, node_parts c.args.work.now c.args.k c.in_ok-part.part c.in_ok-part.ensures c.requires.part),
+        (c.requires.there, node_parts c.args.work.now c.args.k c.part-part.result c.part-part.ensures c.requires.part),
       ),
     )
+
+pub initializer-text_value-requires : goal.initializer-text_value-requires
+initializer-text_value-requires t c =
+    let f = c.requires.part in
+    let n = c.part-part.ensures f.syntax f.is in
+    record {
+      whole = c.requires.whole;
+      there = c.requires.there;
+      accepted = text_accepted c.args.work.now c.part-part.result f.syntax n c.in-Text.is;
+      parts = texts_of c.args.work.now c.part-part.result f.syntax c.in-Text.is n;
+    }
 
 pub initializer-returns-in-BracedInitializer : goal.initializer-returns-in-BracedInitializer
 initializer-returns-in-BracedInitializer t c = λ x p.
     let u = c.args.work.now in
-    let n = c.in_ok-part.ensures x p in
+    let n = c.part-part.ensures x p in
     let g = c.args.goal in
     subst (λ (d : Doing Filled). Answers quietly u c.braced.new.work d FilledThere IsFilled c.braced.result)
     (sym (reads_braces x (asked_by g.asked) g.whole (type_in u.nodes g.of) g.at
@@ -49,19 +61,19 @@ initializer-returns-in-BracedInitializer t c = λ x p.
 pub initializer-returns-then-takes_string : goal.initializer-returns-then-takes_string
 initializer-returns-then-takes_string t c = λ x p.
     let u = c.args.work.now in
-    let n = c.in_ok-part.ensures x p in
+    let n = c.part-part.ensures x p in
     let g = c.args.goal in
     let of = type_in u.nodes g.of in
     subst (λ (d : Doing Filled). Answers quietly u c.text_value.new.work d FilledThere IsFilled c.text_value.result)
     (sym (reads_string x (asked_by g.asked) g.whole of g.at (n.kind ∙ c.in-Text.is)
     (c.takes_string.ensures ∙ c.if-takes_string.true)
-    ∙ string_same (own_token x) (token_of u c.in_ok-part.part.name) (syns_of x) g.whole of g.at n.text n.pos))
+    ∙ string_same (own_token x) (token_of u c.part-part.result.name) (syns_of x) g.whole of g.at n.text n.pos))
     (c.text_value.ensures (syns_of x) n.parts)
 
 pub initializer-returns-else-takes_string : goal.initializer-returns-else-takes_string
 initializer-returns-else-takes_string t c = λ x p.
     let u = c.args.work.now in
-    let n = c.in_ok-part.ensures x p in
+    let n = c.part-part.ensures x p in
     let g = c.args.goal in
     subst (λ (d : Doing Filled). Answers quietly u c.plain_value.new.work d FilledThere IsFilled c.plain_value.result)
     (sym (reads_text x (asked_by g.asked) g.whole (type_in u.nodes g.of) g.at (n.kind ∙ c.in-Text.is)
@@ -71,7 +83,7 @@ initializer-returns-else-takes_string t c = λ x p.
 pub initializer-returns-in_default : goal.initializer-returns-in_default
 initializer-returns-in_default t c = λ x p.
     let u = c.args.work.now in
-    let n = c.in_ok-part.ensures x p in
+    let n = c.part-part.ensures x p in
     let g = c.args.goal in
     subst (λ (d : Doing Filled). Answers quietly u c.plain_value-in_default.new.work d FilledThere IsFilled
     c.plain_value-in_default.result)
@@ -88,7 +100,7 @@ braced-lone_text-requires t c = record {
 
 pub braced-initializer-requires : goal.braced-initializer-requires
 braced-initializer-requires t c =
-    let l = rw c.in-Some.is at c.in_ok-k.ensures in (
+    let l = rw c.in-Some.is at c.lone_text.ensures in (
       omega arith,
       (
         c.requires.whole,
@@ -99,7 +111,7 @@ braced-initializer-requires t c =
 pub braced-returns-in-Some : goal.braced-returns-in-Some
 braced-returns-in-Some t c = λ t' xs e p.
     let u = c.args.work.now in
-    let l = rw c.in-Some.is at c.in_ok-k.ensures in
+    let l = rw c.in-Some.is at c.lone_text.ensures in
     let g = c.args.goal in
     let o = one_part u c.in-Some.k xs (subst (λ (ks : List ℕ). AreParts u ks xs) l.0 p) in
     subst (λ (d : Doing Filled). Answers quietly u c.initializer.new.work d FilledThere IsFilled c.initializer.result)
@@ -109,7 +121,7 @@ braced-returns-in-Some t c = λ t' xs e p.
 pub braced-returns-in-None : goal.braced-returns-in-None
 braced-returns-in-None t c = λ t' xs e p.
     let u = c.args.work.now in
-    let l = rw c.in-None.is at c.in_ok-k.ensures in
+    let l = rw c.in-None.is at c.lone_text.ensures in
     let g = c.args.goal in
     let of = type_in u.nodes g.of in
     subst (λ (d : Doing Filled). Answers quietly u c.list.new.work d FilledThere IsFilled c.list.result)

@@ -8,7 +8,7 @@ returns-then-takes_string c =
     let w = c.args.work.now in (
       refl,
       λ xs p. let o = one_part w c.args.k xs p in
-          lone_text xs o.0 (type_in w.nodes c.args.of) o.1 ((c.in_ok-part.ensures o.0 o.2).kind ∙ c.in-Text.is)
+          lone_text xs o.0 (type_in w.nodes c.args.of) o.1 ((c.part-part.ensures o.0 o.2).kind ∙ c.in-Text.is)
           (c.takes_string.ensures ∙ c.if-takes_string.true),
     )
 
@@ -17,4 +17,4 @@ returns-in_default c = λ xs p.
     let w = c.args.work.now in
     let o = one_part w c.args.k xs p in
     lone_other xs o.0 (type_in w.nodes c.args.of) o.1
-    (λ e. c.in_default.not-Text (sym (c.in_ok-part.ensures o.0 o.2).kind ∙ e))
+    (λ e. c.in_default.not-Text (sym (c.part-part.ensures o.0 o.2).kind ∙ e))

@@ -1,5 +1,5 @@
 use Rattle.c_elaborator.specs.Answers.{freely}
-use Rattle.c_elaborator.specs.Items.{ItemsThere, IsItems}
+use Rattle.c_elaborator.specs.Items.{OnlyThere, IsItems}
 use Rattle.c_statements.specs.Statements.{evaluate_one}
 use Rattle.c_statements.proofs.Stating.{from_one, not_one}
 use Rattle.c_readings.proofs.Within.{one_within}
@@ -18,4 +18,4 @@ returns-in-None c = not_one c.args.work.now c.args.kids.now
 
 pub returns-in-Some : goal.returns-in-Some
 returns-in-Some c = from_one freely c.args.work.now _ c.args.kids.now c.in-Some.k
-    (λ r. evaluate_one r c.args.pos) c.args.pos ItemsThere IsItems _ c.in-Some.ensures c.evaluate_one.ensures
+    (λ r. evaluate_one r c.args.pos) c.args.pos OnlyThere IsItems _ c.in-Some.ensures c.evaluate_one.ensures

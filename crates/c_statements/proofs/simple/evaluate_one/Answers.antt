@@ -5,7 +5,7 @@ use Rattle.c_tree.specs.Statements.{does, one_term}
 use Rattle.c_tree.specs.Terms.{Evaluate, no_actions}
 use Rattle.c_expressions.specs.Nodes.{term_count}
 use Rattle.c_elaborator.specs.Answers.{OperandThere, IsOperand}
-use Rattle.c_elaborator.specs.Items.{ItemsThere, IsItems}
+use Rattle.c_elaborator.specs.Items.{OnlyThere, IsItems}
 use Rattle.c_elaborator.proofs.Going.{one_there}
 use Rattle.c_statements.proofs.Failing.{quiet_failed}
 use Rattle.c_statements.proofs.Steps.{evaluates}
@@ -19,7 +19,7 @@ does-requires c =
 pub returns-in_err-a : goal.returns-in_err-a
 returns-in_err-a c = let p = err_from_is_err_and c.from_residual.result c.from_residual.ensures.1 in λ x q.
     rw (p.1, p.2) (quiet_failed c.args.work.now c.value_of.new.work (read_value (reading x))
-    (λ a. does Evaluate (one_term a.is) no_actions c.args.pos) OperandThere IsOperand ItemsThere IsItems _
+    (λ a. does Evaluate (one_term a.is) no_actions c.args.pos) OperandThere IsOperand OnlyThere IsItems _
     (c.in_err-a.ensures x q))
 
 pub returns : goal.returns

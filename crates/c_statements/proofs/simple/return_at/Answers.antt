@@ -1,6 +1,6 @@
 use Rattle.std.proofs.Common.{ℕ, List, subst}
 use Rattle.c_elaborator.specs.Answers.{freely}
-use Rattle.c_elaborator.specs.Items.{context_in, ItemsThere, IsItems}
+use Rattle.c_elaborator.specs.Items.{context_in, OnlyThere, IsItems}
 use Rattle.c_statements.specs.Statements.{return_of}
 use Rattle.c_statements.proofs.Parting.{at_none, at_some}
 use Rattle.c_readings.specs.Within.{PartsWithin}
@@ -21,12 +21,12 @@ pub returns-in-None : goal.returns-in-None
 returns-in-None c =
     let u = c.args.work.now in
     at_none freely u c.return_nothing.new.work
-    (return_of (context_in u c.args.context) c.args.pos) ItemsThere IsItems c.return_nothing.result c.args.kids.now
+    (return_of (context_in u c.args.context) c.args.pos) OnlyThere IsItems c.return_nothing.result c.args.kids.now
     c.in-None.ensures c.return_nothing.ensures
 
 pub returns-in-Some : goal.returns-in-Some
 returns-in-Some c =
     let u = c.args.work.now in
-    at_some freely u c.return_value.new.work (return_of (context_in u c.args.context) c.args.pos) ItemsThere IsItems
+    at_some freely u c.return_value.new.work (return_of (context_in u c.args.context) c.args.pos) OnlyThere IsItems
     c.return_value.result c.args.kids.now c.in-Some.x.first c.in-Some.x.others.now c.in-Some.ensures
     (λ x xs p q. c.return_value.ensures x p)

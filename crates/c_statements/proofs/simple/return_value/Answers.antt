@@ -11,7 +11,7 @@ use Rattle.std.specs.Prelude.{not}
 use Rattle.c_expressions.specs.Nodes.{term_count}
 use Rattle.c_elaborator.specs.Answers.{Answers, quietly, OperandThere, IsOperand, operand_in, TermThere, IsTerm}
 use Rattle.c_elaborator.proofs.Sequencing.{type_there}
-use Rattle.c_elaborator.specs.Items.{context_in, ItemsThere, IsItems}
+use Rattle.c_elaborator.specs.Items.{context_in, OnlyThere, IsItems}
 use Rattle.c_statements.proofs.Failing.{quiet_failed}
 use Rattle.c_statements.proofs.Placing.{at_same}
 use Rattle.c_statements.proofs.Steps.{returns_value, returns_none, returns_failed, returned_there}
@@ -47,7 +47,7 @@ returns-in_err-a c = let p = err_from_is_err_and c.from_residual.result c.from_r
     let d = context_in c.args.work.now c.args.context in
     rw (p.1, p.2) (quiet_failed c.args.work.now c.value_of.new.work (read_value (reading x))
     (λ o. need (not (is_void d.gives)) 133 c.args.pos >> assigned d.gives o
-    >>= λ y. does Return (one_term y) no_actions c.args.pos) OperandThere IsOperand ItemsThere IsItems _
+    >>= λ y. does Return (one_term y) no_actions c.args.pos) OperandThere IsOperand OnlyThere IsItems _
     (c.in_err-a.ensures x q))
 
 pub returns-then-is_void : goal.returns-then-is_void

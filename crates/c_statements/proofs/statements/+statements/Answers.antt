@@ -1,4 +1,4 @@
-use Rattle.std.proofs.Common.{◌≡◌, ℕ, ◌∷◌, ◌++◌, [], List, map, sym, ap, subst, ◌∙◌, arith, Ok, Err}
+use Rattle.std.proofs.Common.{◌≡◌, ℕ, ◌∷◌, ◌++◌, [], List, length, map, sym, ap, subst, ◌∙◌, arith, Ok, Err}
 use Rattle.ck_base.specs.declared.positions.Pos.{Pos}
 use Rattle.c_tree.specs.declared.syntax.NodeKind.{NodeKind}
 use Rattle.c_tree.specs.declared.syntax.NodeKind.TheVariants as Kinds
@@ -13,11 +13,11 @@ use Rattle.c_elaborator.specs.Answers.{Answers, freely, TermThere, IsTerm, actio
 use Rattle.c_elaborator.specs.Parts.{AreParts}
 use Rattle.c_elaborator.proofs.Sequencing.{answers_at, failed, freed, keeps_same, keeps_then, type_there}
 use Rattle.c_elaborator.proofs.Going.{context_kept, context_there, none_there, one_there, term_there}
-use Rattle.c_statements.proofs.Placing.{node_kept, node_within_kept, of_kind, at_place, at_same}
+use Rattle.c_statements.proofs.Placing.{node_kept, node_within_kept, at_place, at_same}
 use Rattle.c_statements.proofs.Failing.{second_failed, third_failed}
 use Rattle.std.proofs.lemmas.Result.{err_from_is_err_and}
 use Rattle.c_elaborator.specs.declared.items.Context.{Context}
-use Rattle.c_elaborator.specs.Items.{ContextThere, ValuesThere, context_in, ItemsThere, IsItems, ActionThere}
+use Rattle.c_elaborator.specs.Items.{ContextThere, ValuesThere, context_in, ItemsThere, OnlyThere, IsItems, ActionThere}
 use Rattle.c_elaborator.specs.Items.{IsOnlyAction}
 use Rattle.c_statements.specs.Gather.{SoFar}
 use Rattle.c_statements.specs.Switching.{CasesSoFar}
@@ -38,15 +38,18 @@ use Rattle.c_readings.proofs.Kids.{opened, part_kept}
 use Rattle.c_readings.proofs.Kids.{parts_kept}
 use Rattle.c_statements.proofs.Inside.{scope_is, is_scoped, nothing_inside, evaluated_is, returned_is, case_item}
 use Rattle.c_statements.proofs.Inside.{default_item, other_item}
-use Rattle.c_statements.proofs.Parting.{for_refused, for_answers, four_within, switch_refused, switch_answers}
-use Rattle.c_elaborator.proofs.Scoping.{in_scope_items, in_scope_failed, enter_failed, alone_in_scope}
+use Rattle.c_statements.proofs.Parting.{for_refused, for_answers, switch_refused, switch_answers}
+use Rattle.c_elaborator.proofs.Scoping.{in_scope_failed, enter_failed, alone_in_scope}
+use Rattle.c_statements.specs.Only.{ItemThere}
+use Rattle.c_statements.proofs.Only.{some_items, as_statement, stated, declared, within, one_in_scope, two_that, three_that}
+use Rattle.c_statements.proofs.Only.{four_that, one_statement}
 use Rattle.c_statements.proofs.Bracing.{in_scope_cases}
 use Rattle.c_statements.proofs.Stating.{reading_node, from_two, from_three, not_two, not_three}
 use Rattle.c_statements.proofs.Steps.{Adds, for_names_values, maybe_there, same_block, blocks, ifs, ifs_else, whiles}
 use Rattle.c_statements.proofs.Steps.{dos, fors, switches}
 use Rattle.c_readings.specs.Within.{PartsWithin}
-use Rattle.c_readings.proofs.Within.{deep, first_within, kids_in, node_low, node_of, others_within, part_there}
-use Rattle.c_readings.proofs.Within.{still_within, three_within, two_within, within_kept}
+use Rattle.c_readings.proofs.Within.{deep, first_within, kids_in, kind_kept, kinds_in, node_low, node_of, others_within}
+use Rattle.c_readings.proofs.Within.{part_there, still_within, within_kept}
 use Rattle.c_statements.proofs.statements.+statements.Goals as goal
 
 pub item-statement-requires : goal.item-statement-requires
@@ -70,20 +73,23 @@ switch_item-node_at-node-requires t c = part_there c.args.work.now c.args.k c.re
 
 pub item-returns : goal.item-returns
 item-returns t c = λ x p.
-    let o = opened c.args.work.now c.args.k x c.node_at-node.result.now p c.node_at-node.ensures in
-    subst (λ (q : Reading). Answers freely c.args.work.now c.statement.new.work
-    (q.item (context_in c.args.work.now c.args.context)) ItemsThere IsItems c.statement.result)
-    (sym (ap reading o.is ∙ reading_node c.node_at-node.result.now.kind o.token o.parts))
-    (c.statement.ensures o.token o.parts o.node)
+    let u = c.args.work.now in
+    let w = c.statement.new.work in
+    let o = opened u c.args.k x c.node_at-node.result.now p c.node_at-node.ensures in
+    let n = node c.node_at-node.result.now.kind o.token o.parts in
+    let d = context_in u c.args.context in
+    subst (λ (y : Syn). Answers freely u w ((reading y).item d) (ItemThere y) IsItems c.statement.result) (sym o.is)
+    (subst (λ (q : Reading). Answers freely u w (q.item d) (ItemThere n) IsItems c.statement.result)
+    (sym (reading_node c.node_at-node.result.now.kind o.token o.parts)) (c.statement.ensures o.token o.parts o.node))
 
 pub scoped-returns : goal.scoped-returns
 scoped-returns t c = λ t' xs n.
     let u = c.args.work.now in
     let v = c.enter.new.work in
     let a = c.in_ok-items.ensures t' xs (node_kept u v c.args.node.now t' xs c.in_ok-enter.ensures.grows n) in
-    in_scope_items u v c.inside.new.work c.leave.new.work _ c.in_ok-items.items c.in_ok-enter.ensures
+    one_in_scope u v c.inside.new.work c.leave.new.work _ c.in_ok-items.items c.in_ok-enter.ensures
     (subst (λ (d : meant.Context). Answers freely v c.inside.new.work
-    (inside_of c.args.node.now.kind t' xs (readings xs) d) ItemsThere IsItems (Ok c.in_ok-items.items))
+    (inside_of c.args.node.now.kind t' xs (readings xs) d) OnlyThere IsItems (Ok c.in_ok-items.items))
     (context_kept u v c.args.context c.in_ok-enter.ensures.grows c.requires.context) a)
     c.leave.ensures
 
@@ -133,7 +139,9 @@ all_items-loop-part-preserved t c =
           (subst (λ (z : List ℕ). SoFar (step (context_in u c.args.context)) u v xs z c.loop-part.items)
           c.in-Some.ensures (c.loop-part.invariant.found xs q))
           (λ y p. subst (λ (d : meant.Context). Answers freely v w ((reading y).item d) ItemsThere IsItems
-          (Ok c.in_ok-more.more)) same (c.in_ok-more.ensures y p))
+          (Ok c.in_ok-more.more)) same
+          (some_items v w ((reading y).item (context_in v c.args.context)) y (Ok c.in_ok-more.more)
+          (c.in_ok-more.ensures y p)))
           c.in_ok-join.ensures.vars c.in_ok-join.ensures.actions;
     }
 
@@ -158,12 +166,15 @@ block-returns t c = λ xs q.
 
 pub if_one-if_with-requires : goal.if_one-if_with-requires
 if_one-if_with-requires t c =
-    let h = two_within c.args.work.now c.args.kids.now c.in-Some.x.first c.in-Some.x.second c.in-Some.ensures c.requires.parts in (omega arith, (c.requires.whole, (c.requires.context, (h.0, h.1))))
+    let x = c.in-Some.x in
+    let h = two_that c.args.work.now c.args.kids.now x.first x.second c.in-Some.ensures c.requires.parts in
+    let body = one_statement c.args.work.now x.second h.second h.have in
+    (omega arith, (c.requires.whole, (c.requires.context, (h.first, body))))
 
 pub if_one-returns-in-Some : goal.if_one-returns-in-Some
 if_one-returns-in-Some t c =
     from_two freely c.args.work.now _ c.args.kids.now c.in-Some.x.first c.in-Some.x.second
-    (if_with (context_in c.args.work.now c.args.context) c.args.pos) c.args.pos ItemsThere IsItems _ c.in-Some.ensures
+    (if_with (context_in c.args.work.now c.args.context) c.args.pos) c.args.pos OnlyThere IsItems _ c.in-Some.ensures
     c.if_with.ensures
 
 pub if_one-returns-in-None : goal.if_one-returns-in-None
@@ -186,12 +197,15 @@ if_with-returns t c = λ x y p q.
 
 pub while_loop-while_with-requires : goal.while_loop-while_with-requires
 while_loop-while_with-requires t c =
-    let h = two_within c.args.work.now c.args.kids.now c.in-Some.x.first c.in-Some.x.second c.in-Some.ensures c.requires.parts in (omega arith, (c.requires.whole, (c.requires.context, (h.0, h.1))))
+    let x = c.in-Some.x in
+    let h = two_that c.args.work.now c.args.kids.now x.first x.second c.in-Some.ensures c.requires.parts in
+    let body = one_statement c.args.work.now x.second h.second h.have in
+    (omega arith, (c.requires.whole, (c.requires.context, (h.first, body))))
 
 pub while_loop-returns-in-Some : goal.while_loop-returns-in-Some
 while_loop-returns-in-Some t c =
     from_two freely c.args.work.now _ c.args.kids.now c.in-Some.x.first c.in-Some.x.second
-    (while_with (context_in c.args.work.now c.args.context) c.args.pos) c.args.pos ItemsThere IsItems _
+    (while_with (context_in c.args.work.now c.args.context) c.args.pos) c.args.pos OnlyThere IsItems _
     c.in-Some.ensures c.while_with.ensures
 
 pub while_loop-returns-in-None : goal.while_loop-returns-in-None
@@ -201,12 +215,15 @@ while_loop-returns-in-None t c =
 
 pub do_loop-do_with-requires : goal.do_loop-do_with-requires
 do_loop-do_with-requires t c =
-    let h = two_within c.args.work.now c.args.kids.now c.in-Some.x.first c.in-Some.x.second c.in-Some.ensures c.requires.parts in (omega arith, (c.requires.whole, (c.requires.context, (h.0, h.1))))
+    let x = c.in-Some.x in
+    let h = two_that c.args.work.now c.args.kids.now x.first x.second c.in-Some.ensures c.requires.parts in
+    let body = one_statement c.args.work.now x.first h.first h.have in
+    (omega arith, (c.requires.whole, (c.requires.context, (body, h.second))))
 
 pub do_loop-returns-in-Some : goal.do_loop-returns-in-Some
 do_loop-returns-in-Some t c =
     from_two freely c.args.work.now _ c.args.kids.now c.in-Some.x.first c.in-Some.x.second
-    (do_with (context_in c.args.work.now c.args.context) c.args.pos) c.args.pos ItemsThere IsItems _ c.in-Some.ensures
+    (do_with (context_in c.args.work.now c.args.context) c.args.pos) c.args.pos OnlyThere IsItems _ c.in-Some.ensures
     c.do_with.ensures
 
 pub do_loop-returns-in-None : goal.do_loop-returns-in-None
@@ -216,14 +233,17 @@ do_loop-returns-in-None t c =
 
 pub if_else-if_else_with-requires : goal.if_else-if_else_with-requires
 if_else-if_else_with-requires t c =
-    let h = three_within c.args.work.now c.args.kids.now c.in-Some.x.first c.in-Some.x.second c.in-Some.x.third
-    c.in-Some.ensures c.requires.parts in
-    (omega arith, (c.requires.whole, (c.requires.context, (h.0, (h.1, h.2)))))
+    let x = c.in-Some.x in
+    let w = c.args.work.now in
+    let h = three_that w c.args.kids.now x.first x.second x.third c.in-Some.ensures c.requires.parts in
+    let body = one_statement w x.second h.second h.have.0 in
+    let other = one_statement w x.third h.third h.have.1 in
+    (omega arith, (c.requires.whole, (c.requires.context, (h.first, (body, other)))))
 
 pub if_else-returns-in-Some : goal.if_else-returns-in-Some
 if_else-returns-in-Some t c =
     from_three freely c.args.work.now _ c.args.kids.now c.in-Some.x.first c.in-Some.x.second c.in-Some.x.third
-    (if_else_with (context_in c.args.work.now c.args.context) c.args.pos) c.args.pos ItemsThere IsItems _
+    (if_else_with (context_in c.args.work.now c.args.context) c.args.pos) c.args.pos OnlyThere IsItems _
     c.in-Some.ensures c.if_else_with.ensures
 
 pub if_else-returns-in-None : goal.if_else-returns-in-None
@@ -241,7 +261,7 @@ if_with-substatement-requires t c =
         a.whole,
         (
           context_there u v c.args.context a.grows.keeps c.requires.context,
-          still_within u v c.args.b a.grows.keeps c.requires.second,
+          kind_kept u v c.args.b a.grows.keeps c.requires.second,
         ),
       ),
     )
@@ -252,7 +272,7 @@ if_with-does-requires t c =
     let v = c.test.new.work in
     let w = c.substatement.new.work in
     let a = c.in_ok-on.ensures c.requires.first.syntax c.requires.first.is in
-    let f = still_within u v c.args.b a.grows.keeps c.requires.second in
+    let f = still_within u v c.args.b a.grows.keeps c.requires.second.part in
     let b = c.in_ok-body.ensures f.syntax f.is in
     record {
       whole = b.whole;
@@ -311,13 +331,15 @@ pub substatement-returns : goal.substatement-returns
 substatement-returns t c = λ x p.
     let u = c.args.work.now in
     let v = c.enter.new.work in
+    let w = c.item.new.work in
     let e = c.in_ok-enter.ensures in
     let a = c.in_ok-items.ensures x (part_kept u v c.args.k x e.grows p) in
-    alone_in_scope u v c.item.new.work c.leave.new.work
-    ((reading x).item (context_in u c.args.context)) c.in_ok-items.items c.in_ok-action.action e
-    (subst (λ (d : meant.Context). Answers freely v c.item.new.work ((reading x).item d) ItemsThere IsItems
-    (Ok c.in_ok-items.items)) (context_kept u v c.args.context e.grows c.requires.context) a)
-    c.leave.ensures (sym c.as_slice.ensures.value ∙ c.in_ok-action.ensures)
+    let i = c.in_ok-items.items in
+    alone_in_scope u v w c.leave.new.work ((reading x).item (context_in u c.args.context)) i c.alone.result e
+    (subst (λ (d : meant.Context). Answers freely v w ((reading x).item d) ItemsThere IsItems (Ok i))
+    (context_kept u v c.args.context e.grows c.requires.context)
+    (some_items v w ((reading x).item (context_in v c.args.context)) x (Ok i) a))
+    c.leave.ensures (sym c.as_slice.ensures.value ∙ c.alone.ensures)
 
 pub switch_items-loop-part-init : goal.switch_items-loop-part-init
 switch_items-loop-part-init t c =
@@ -399,9 +421,8 @@ statement-returns-in-Declaration t c = λ t' xs n.
     let u = c.args.work.now in
     let w = c.declaration.new.work in
     let d = context_in u c.args.context in
-    of_kind u w (λ k. statement_of k t' xs (readings xs) d) c.args.node.now.kind Kinds.Declaration c.declaration.result
-    c.in-Declaration.is
-    (at_place u w (λ p. declaration p (readings xs)) t'.pos c.args.node.now.pos c.declaration.result n.place
+    declared u w t' xs d c.args.node.now.kind c.declaration.result c.in-Declaration.is
+    (at_place u w (λ p. declaration p (readings xs)) ItemsThere t'.pos c.args.node.now.pos c.declaration.result n.place
     (c.declaration.ensures xs (subst (λ (ks : List ℕ). AreParts u ks xs) (sym c.as_slice-kids.ensures) n.parts)))
 
 pub statement-returns-in-EmptyStatement : goal.statement-returns-in-EmptyStatement
@@ -409,9 +430,8 @@ statement-returns-in-EmptyStatement t c = λ t' xs n.
     let u = c.args.work.now in
     let w = c.does.new.work in
     let d = context_in u c.args.context in
-    of_kind u w (λ k. statement_of k t' xs (readings xs) d) c.args.node.now.kind Kinds.EmptyStatement c.does.result
-    c.in-EmptyStatement.is
-    (at_place u w (λ p. does Empty no_terms no_actions p) t'.pos c.args.node.now.pos c.does.result n.place
+    stated u w t' xs d c.args.node.now.kind Kinds.EmptyStatement c.does.result c.in-EmptyStatement.is
+    (at_place u w (λ p. does Empty no_terms no_actions p) OnlyThere t'.pos c.args.node.now.pos c.does.result n.place
     c.does.ensures)
 
 pub statement-returns-in-ExpressionStatement : goal.statement-returns-in-ExpressionStatement
@@ -419,12 +439,11 @@ statement-returns-in-ExpressionStatement t c = λ t' xs n.
     let u = c.args.work.now in
     let w = c.evaluate.new.work in
     let d = context_in u c.args.context in
-    of_kind u w (λ k. statement_of k t' xs (readings xs) d) c.args.node.now.kind Kinds.ExpressionStatement
-    c.evaluate.result c.in-ExpressionStatement.is
+    stated u w t' xs d c.args.node.now.kind Kinds.ExpressionStatement c.evaluate.result c.in-ExpressionStatement.is
     (answers_at freely u w (statement_of Kinds.ExpressionStatement t' xs (readings xs) d)
-    (evaluated t'.pos (readings xs)) ItemsThere IsItems c.evaluate.result
+    (evaluated t'.pos (readings xs)) OnlyThere IsItems c.evaluate.result
     (λ s h. evaluated_is t' xs (readings xs) d s)
-    (at_place u w (λ p. evaluated p (readings xs)) t'.pos c.args.node.now.pos c.evaluate.result n.place
+    (at_place u w (λ p. evaluated p (readings xs)) OnlyThere t'.pos c.args.node.now.pos c.evaluate.result n.place
     (c.evaluate.ensures xs (subst (λ (ks : List ℕ). AreParts u ks xs) (sym c.as_slice-kids.ensures) n.parts))))
 
 pub statement-returns-in-Break : goal.statement-returns-in-Break
@@ -432,8 +451,8 @@ statement-returns-in-Break t c = λ t' xs n.
     let u = c.args.work.now in
     let w = c.jump.new.work in
     let d = context_in u c.args.context in
-    of_kind u w (λ k. statement_of k t' xs (readings xs) d) c.args.node.now.kind Kinds.Break c.jump.result c.in-Break.is
-    (at_place u w (λ p. jumping stmts.Break d.breakable p) t'.pos c.args.node.now.pos c.jump.result n.place
+    stated u w t' xs d c.args.node.now.kind Kinds.Break c.jump.result c.in-Break.is
+    (at_place u w (λ p. jumping stmts.Break d.breakable p) OnlyThere t'.pos c.args.node.now.pos c.jump.result n.place
     c.jump.ensures)
 
 pub statement-returns-in-Continue : goal.statement-returns-in-Continue
@@ -441,9 +460,8 @@ statement-returns-in-Continue t c = λ t' xs n.
     let u = c.args.work.now in
     let w = c.jump-in-Continue.new.work in
     let d = context_in u c.args.context in
-    of_kind u w (λ k. statement_of k t' xs (readings xs) d) c.args.node.now.kind Kinds.Continue
-    c.jump-in-Continue.result c.in-Continue.is
-    (at_place u w (λ p. jumping stmts.Continue d.in_loop p) t'.pos c.args.node.now.pos c.jump-in-Continue.result n.place
+    stated u w t' xs d c.args.node.now.kind Kinds.Continue c.jump-in-Continue.result c.in-Continue.is
+    (at_place u w (λ p. jumping stmts.Continue d.in_loop p) OnlyThere t'.pos c.args.node.now.pos c.jump-in-Continue.result n.place
     c.jump-in-Continue.ensures)
 
 pub statement-returns-in-Return : goal.statement-returns-in-Return
@@ -451,12 +469,11 @@ statement-returns-in-Return t c = λ t' xs n.
     let u = c.args.work.now in
     let w = c.return_at.new.work in
     let d = context_in u c.args.context in
-    of_kind u w (λ k. statement_of k t' xs (readings xs) d) c.args.node.now.kind Kinds.Return c.return_at.result
-    c.in-Return.is
+    stated u w t' xs d c.args.node.now.kind Kinds.Return c.return_at.result c.in-Return.is
     (answers_at freely u w (statement_of Kinds.Return t' xs (readings xs) d)
-    (return_of d t'.pos (readings xs)) ItemsThere IsItems c.return_at.result
+    (return_of d t'.pos (readings xs)) OnlyThere IsItems c.return_at.result
     (λ s h. returned_is t' xs (readings xs) d s)
-    (at_place u w (λ p. return_of d p (readings xs)) t'.pos c.args.node.now.pos c.return_at.result n.place
+    (at_place u w (λ p. return_of d p (readings xs)) OnlyThere t'.pos c.args.node.now.pos c.return_at.result n.place
     (c.return_at.ensures xs (subst (λ (ks : List ℕ). AreParts u ks xs) (sym c.as_slice-kids.ensures) n.parts))))
 
 pub inside-returns-in-Block : goal.inside-returns-in-Block
@@ -464,8 +481,8 @@ inside-returns-in-Block t c = λ t' xs n.
     let u = c.args.work.now in
     let w = c.block.new.work in
     let d = context_in u c.args.context in
-    of_kind u w (λ k. inside_of k t' xs (readings xs) d) c.args.node.now.kind Kinds.Block c.block.result c.in-Block.is
-    (at_place u w (λ p. block_of d p (readings xs)) t'.pos c.args.node.now.pos c.block.result n.place
+    within u w t' xs d c.args.node.now.kind Kinds.Block c.block.result c.in-Block.is
+    (at_place u w (λ p. block_of d p (readings xs)) OnlyThere t'.pos c.args.node.now.pos c.block.result n.place
     (c.block.ensures xs (subst (λ (ks : List ℕ). AreParts u ks xs) (sym c.as_slice-kids.ensures) n.parts)))
 
 pub inside-returns-in-If : goal.inside-returns-in-If
@@ -473,8 +490,8 @@ inside-returns-in-If t c = λ t' xs n.
     let u = c.args.work.now in
     let w = c.if_one.new.work in
     let d = context_in u c.args.context in
-    of_kind u w (λ k. inside_of k t' xs (readings xs) d) c.args.node.now.kind Kinds.If c.if_one.result c.in-If.is
-    (at_place u w (λ p. if_of d p (readings xs)) t'.pos c.args.node.now.pos c.if_one.result n.place
+    within u w t' xs d c.args.node.now.kind Kinds.If c.if_one.result c.in-If.is
+    (at_place u w (λ p. if_of d p (readings xs)) OnlyThere t'.pos c.args.node.now.pos c.if_one.result n.place
     (c.if_one.ensures xs (subst (λ (ks : List ℕ). AreParts u ks xs) (sym c.as_slice-kids.ensures) n.parts)))
 
 pub inside-returns-in-IfElse : goal.inside-returns-in-IfElse
@@ -482,9 +499,8 @@ inside-returns-in-IfElse t c = λ t' xs n.
     let u = c.args.work.now in
     let w = c.if_else.new.work in
     let d = context_in u c.args.context in
-    of_kind u w (λ k. inside_of k t' xs (readings xs) d) c.args.node.now.kind Kinds.IfElse c.if_else.result
-    c.in-IfElse.is
-    (at_place u w (λ p. if_else_of d p (readings xs)) t'.pos c.args.node.now.pos c.if_else.result n.place
+    within u w t' xs d c.args.node.now.kind Kinds.IfElse c.if_else.result c.in-IfElse.is
+    (at_place u w (λ p. if_else_of d p (readings xs)) OnlyThere t'.pos c.args.node.now.pos c.if_else.result n.place
     (c.if_else.ensures xs (subst (λ (ks : List ℕ). AreParts u ks xs) (sym c.as_slice-kids.ensures) n.parts)))
 
 pub inside-returns-in-While : goal.inside-returns-in-While
@@ -492,9 +508,8 @@ inside-returns-in-While t c = λ t' xs n.
     let u = c.args.work.now in
     let w = c.while_loop.new.work in
     let d = context_in u c.args.context in
-    of_kind u w (λ k. inside_of k t' xs (readings xs) d) c.args.node.now.kind Kinds.While c.while_loop.result
-    c.in-While.is
-    (at_place u w (λ p. while_of d p (readings xs)) t'.pos c.args.node.now.pos c.while_loop.result n.place
+    within u w t' xs d c.args.node.now.kind Kinds.While c.while_loop.result c.in-While.is
+    (at_place u w (λ p. while_of d p (readings xs)) OnlyThere t'.pos c.args.node.now.pos c.while_loop.result n.place
     (c.while_loop.ensures xs (subst (λ (ks : List ℕ). AreParts u ks xs) (sym c.as_slice-kids.ensures) n.parts)))
 
 pub inside-returns-in-Do : goal.inside-returns-in-Do
@@ -502,8 +517,8 @@ inside-returns-in-Do t c = λ t' xs n.
     let u = c.args.work.now in
     let w = c.do_loop.new.work in
     let d = context_in u c.args.context in
-    of_kind u w (λ k. inside_of k t' xs (readings xs) d) c.args.node.now.kind Kinds.Do c.do_loop.result c.in-Do.is
-    (at_place u w (λ p. do_of d p (readings xs)) t'.pos c.args.node.now.pos c.do_loop.result n.place
+    within u w t' xs d c.args.node.now.kind Kinds.Do c.do_loop.result c.in-Do.is
+    (at_place u w (λ p. do_of d p (readings xs)) OnlyThere t'.pos c.args.node.now.pos c.do_loop.result n.place
     (c.do_loop.ensures xs (subst (λ (ks : List ℕ). AreParts u ks xs) (sym c.as_slice-kids.ensures) n.parts)))
 
 pub inside-returns-in-For : goal.inside-returns-in-For
@@ -511,8 +526,8 @@ inside-returns-in-For t c = λ t' xs n.
     let u = c.args.work.now in
     let w = c.for_loop.new.work in
     let d = context_in u c.args.context in
-    of_kind u w (λ k. inside_of k t' xs (readings xs) d) c.args.node.now.kind Kinds.For c.for_loop.result c.in-For.is
-    (at_place u w (λ p. for_in d p xs (readings xs)) t'.pos c.args.node.now.pos c.for_loop.result n.place
+    within u w t' xs d c.args.node.now.kind Kinds.For c.for_loop.result c.in-For.is
+    (at_place u w (λ p. for_in d p xs (readings xs)) OnlyThere t'.pos c.args.node.now.pos c.for_loop.result n.place
     (c.for_loop.ensures xs (subst (λ (ks : List ℕ). AreParts u ks xs) (sym c.as_slice-kids.ensures) n.parts)))
 
 pub inside-returns-in-Switch : goal.inside-returns-in-Switch
@@ -520,9 +535,8 @@ inside-returns-in-Switch t c = λ t' xs n.
     let u = c.args.work.now in
     let w = c.switch.new.work in
     let d = context_in u c.args.context in
-    of_kind u w (λ k. inside_of k t' xs (readings xs) d) c.args.node.now.kind Kinds.Switch c.switch.result
-    c.in-Switch.is
-    (at_place u w (λ p. switch_in d p xs (readings xs)) t'.pos c.args.node.now.pos c.switch.result n.place
+    within u w t' xs d c.args.node.now.kind Kinds.Switch c.switch.result c.in-Switch.is
+    (at_place u w (λ p. switch_in d p xs (readings xs)) OnlyThere t'.pos c.args.node.now.pos c.switch.result n.place
     (c.switch.ensures xs (subst (λ (ks : List ℕ). AreParts u ks xs) (sym c.as_slice-kids.ensures) n.parts)))
 
 pub for_with-returns : goal.for_with-returns
@@ -583,9 +597,11 @@ switch_with-returns t c = λ x xs p q.
 pub for_loop-for_with-requires : goal.for_loop-for_with-requires
 for_loop-for_with-requires t c =
     let x = c.in-Some.x in
-    let h = four_within c.args.work.now c.args.kids.now x.head.first x.head.second x.head.third x.last c.in-Some.ensures
+    let w = c.args.work.now in
+    let h = four_that w c.args.kids.now x.head.first x.head.second x.head.third x.last c.in-Some.ensures
     c.requires.parts in
-    (omega arith, (c.requires.whole, (c.requires.context, ((h.0, h.1, h.2), h.3))))
+    let body = one_statement w x.last h.fourth h.have in
+    (omega arith, (c.requires.whole, (c.requires.context, ((h.first, h.second, h.third), body))))
 
 pub for_loop-returns-in-None : goal.for_loop-returns-in-None
 for_loop-returns-in-None t c =
@@ -660,12 +676,13 @@ statement-returns-in_default t c = λ t' xs n.
     let u = c.args.work.now in
     let d = context_in u c.args.context in
     let k = c.args.node.now.kind in
-    answers_at freely u c.scoped.new.work (statement_of k t' xs (readings xs) d)
-    (in_scope (inside_of k t' xs (readings xs) d)) ItemsThere IsItems c.scoped.result
+    as_statement u c.scoped.new.work (statement_of k t' xs (readings xs) d) (node k t' xs) c.scoped.result
+    (answers_at freely u c.scoped.new.work (statement_of k t' xs (readings xs) d)
+    (in_scope (inside_of k t' xs (readings xs) d)) OnlyThere IsItems c.scoped.result
     (λ s h. scope_is k t' xs (readings xs) d s
     (is_scoped k c.in_default.not-Declaration c.in_default.not-EmptyStatement c.in_default.not-ExpressionStatement
     c.in_default.not-Break c.in_default.not-Continue c.in_default.not-Return))
-    (c.scoped.ensures t' xs n)
+    (c.scoped.ensures t' xs n))
 
 pub scoped-inside-requires : goal.scoped-inside-requires
 scoped-inside-requires t c =
@@ -694,7 +711,7 @@ scoped-returns-in_err-enter t c =
     let u = c.args.work.now in
     let v = c.enter.new.work in
     rw (p.1, p.2) (enter_failed u v v (inside_of c.args.node.now.kind t' xs (readings xs) (context_in u c.args.context))
-    ItemsThere IsItems _ c.in_err-enter.ensures)
+    OnlyThere IsItems _ c.in_err-enter.ensures)
 
 pub scoped-returns-in_err-items : goal.scoped-returns-in_err-items
 scoped-returns-in_err-items t c =
@@ -704,8 +721,8 @@ scoped-returns-in_err-items t c =
     let w = c.inside.new.work in
     let e = c.in_ok-enter.ensures in
     rw (p.1, p.2) (in_scope_failed u v w (inside_of c.args.node.now.kind t' xs (readings xs)
-    (context_in u c.args.context)) ItemsThere IsItems ItemsThere IsItems _ e
-    (at_same freely v w (λ (d : meant.Context). inside_of c.args.node.now.kind t' xs (readings xs) d) ItemsThere IsItems
+    (context_in u c.args.context)) OnlyThere IsItems OnlyThere IsItems _ e
+    (at_same freely v w (λ (d : meant.Context). inside_of c.args.node.now.kind t' xs (readings xs) d) OnlyThere IsItems
     (Err c.in_err-items.field-0.0) _ _ (context_kept u v c.args.context e.grows c.requires.context)
     (c.in_err-items.ensures t' xs (node_kept u v c.args.node.now t' xs e.grows n))))
 
@@ -729,8 +746,8 @@ inside-if_one-requires t c = (
     c.requires.whole,
     (
       c.requires.context,
-      kids_in c.args.work.now c.args.node.now c.as_slice-kids.result.now c.requires.node
-          c.as_slice-kids.ensures,
+      kinds_in c.args.work.now c.args.node.now c.as_slice-kids.result.now Kinds.If c.requires.node
+          c.as_slice-kids.ensures c.in-If.is,
     ),
   ),
 )
@@ -742,8 +759,8 @@ inside-if_else-requires t c = (
     c.requires.whole,
     (
       c.requires.context,
-      kids_in c.args.work.now c.args.node.now c.as_slice-kids.result.now c.requires.node
-          c.as_slice-kids.ensures,
+      kinds_in c.args.work.now c.args.node.now c.as_slice-kids.result.now Kinds.IfElse c.requires.node
+          c.as_slice-kids.ensures c.in-IfElse.is,
     ),
   ),
 )
@@ -755,8 +772,8 @@ inside-while_loop-requires t c = (
     c.requires.whole,
     (
       c.requires.context,
-      kids_in c.args.work.now c.args.node.now c.as_slice-kids.result.now c.requires.node
-          c.as_slice-kids.ensures,
+      kinds_in c.args.work.now c.args.node.now c.as_slice-kids.result.now Kinds.While c.requires.node
+          c.as_slice-kids.ensures c.in-While.is,
     ),
   ),
 )
@@ -768,8 +785,8 @@ inside-do_loop-requires t c = (
     c.requires.whole,
     (
       c.requires.context,
-      kids_in c.args.work.now c.args.node.now c.as_slice-kids.result.now c.requires.node
-          c.as_slice-kids.ensures,
+      kinds_in c.args.work.now c.args.node.now c.as_slice-kids.result.now Kinds.Do c.requires.node
+          c.as_slice-kids.ensures c.in-Do.is,
     ),
   ),
 )
@@ -781,8 +798,8 @@ inside-for_loop-requires t c = (
     c.requires.whole,
     (
       c.requires.context,
-      kids_in c.args.work.now c.args.node.now c.as_slice-kids.result.now c.requires.node
-          c.as_slice-kids.ensures,
+      kinds_in c.args.work.now c.args.node.now c.as_slice-kids.result.now Kinds.For c.requires.node
+          c.as_slice-kids.ensures c.in-For.is,
     ),
   ),
 )
@@ -822,7 +839,9 @@ all_items-returns-in_err-more t c =
     (subst (λ (z : List ℕ). SoFar (λ r. r.item d) u v xs z c.loop-part.items) c.in-Some.ensures
     (c.loop-part.invariant.found xs q))
     (λ y b. at_same freely v w (λ (o : meant.Context). (reading y).item o) ItemsThere IsItems
-    (Err c.in_err-more.field-0.0) _ _ same (c.in_err-more.ensures y b))))
+    (Err c.in_err-more.field-0.0) _ _ same
+    (some_items v w ((reading y).item (context_in v c.args.context)) y (Err c.in_err-more.field-0.0)
+    (c.in_err-more.ensures y b)))))
 
 pub block-does-requires : goal.block-does-requires
 block-does-requires t c =
@@ -839,15 +858,20 @@ substatement-item-requires t c =
         e.whole,
         (
           context_there u v c.args.context e.grows c.requires.context,
-          still_within u v c.args.k e.grows c.requires.part,
+          still_within u v c.args.k e.grows c.requires.part.part,
         ),
       ),
     )
 
 pub substatement-leave-requires : goal.substatement-leave-requires
 substatement-leave-requires t c =
-    let p = still_within c.args.work.now c.enter.new.work c.args.k c.in_ok-enter.ensures.grows c.requires.part in
+    let p = still_within c.args.work.now c.enter.new.work c.args.k c.in_ok-enter.ensures.grows c.requires.part.part in
     record { whole = (c.in_ok-items.ensures p.syntax p.is).whole }
+
+pub substatement-alone-requires : goal.substatement-alone-requires
+substatement-alone-requires t c =
+    let p = kind_kept c.args.work.now c.enter.new.work c.args.k c.in_ok-enter.ensures.grows c.requires.part in
+    ap length c.as_slice.ensures.value ∙ (c.in_ok-items.ensures p.part.syntax p.part.is).there.1 p.has
 
 pub substatement-returns-in_err-enter : goal.substatement-returns-in_err-enter
 substatement-returns-in_err-enter t c =
@@ -870,7 +894,8 @@ substatement-returns-in_err-items t c =
     (in_scope_failed u v w d ItemsThere IsItems ItemsThere IsItems _ e
     (at_same freely v w (λ (o : meant.Context). (reading x).item o) ItemsThere IsItems
     (Err c.in_err-items.field-0.0) _ _ (context_kept u v c.args.context e.grows c.requires.context)
-    (c.in_err-items.ensures x (part_kept u v c.args.k x e.grows q)))))
+    (some_items v w ((reading x).item (context_in v c.args.context)) x (Err c.in_err-items.field-0.0)
+    (c.in_err-items.ensures x (part_kept u v c.args.k x e.grows q))))))
 
 pub if_with-returns-in_err-body : goal.if_with-returns-in_err-body
 if_with-returns-in_err-body t c =
@@ -882,7 +907,7 @@ if_with-returns-in_err-body t c =
     let a = c.in_ok-on.ensures x px in
     rw (p.1, p.2) (second_failed u v w (test (reading x)) (λ m. substatement d (reading y))
     (λ m z. does If (one_term m) (actions z) c.args.pos) (term_in v.nodes c.in_ok-on.on)
-    (TermThere v c.in_ok-on.on) ActionThere IsOnlyAction ItemsThere IsItems _
+    (TermThere v c.in_ok-on.on) ActionThere IsOnlyAction OnlyThere IsItems _
     (freed u v (test (reading x)) TermThere IsTerm (Ok c.in_ok-on.on) a)
     (at_same freely v w (λ (o : meant.Context). substatement o (reading y)) ActionThere IsOnlyAction
     (Err c.in_err-body.field-0.0) _ _ (context_kept u v c.args.context a.grows.keeps c.requires.context)
@@ -899,7 +924,7 @@ while_with-substatement-requires t c =
         a.whole,
         (
           subst (λ (o : Context). ContextThere v o) (sym c.in_a_loop.ensures) there,
-          still_within u v c.args.b a.grows.keeps c.requires.second,
+          kind_kept u v c.args.b a.grows.keeps c.requires.second,
         ),
       ),
     )
@@ -910,7 +935,7 @@ while_with-does-requires t c =
     let v = c.test.new.work in
     let w = c.substatement.new.work in
     let a = c.in_ok-on.ensures c.requires.first.syntax c.requires.first.is in
-    let f = still_within u v c.args.b a.grows.keeps c.requires.second in
+    let f = still_within u v c.args.b a.grows.keeps c.requires.second.part in
     let b = c.in_ok-body.ensures f.syntax f.is in
     record {
       whole = b.whole;
@@ -930,7 +955,7 @@ while_with-returns-in_err-body t c =
     ∙ ap in_a_loop (context_kept u v c.args.context a.grows.keeps c.requires.context) in
     rw (p.1, p.2) (second_failed u v w (test (reading x)) (λ m. substatement d (reading y))
     (λ m z. does While (one_term m) (actions z) c.args.pos) (term_in v.nodes c.in_ok-on.on)
-    (TermThere v c.in_ok-on.on) ActionThere IsOnlyAction ItemsThere IsItems _
+    (TermThere v c.in_ok-on.on) ActionThere IsOnlyAction OnlyThere IsItems _
     (freed u v (test (reading x)) TermThere IsTerm (Ok c.in_ok-on.on) a)
     (at_same freely v w (λ (o : meant.Context). substatement o (reading y)) ActionThere IsOnlyAction
     (Err c.in_err-body.field-0.0) _ _ same (c.in_err-body.ensures y (part_kept u v c.args.b y a.grows.keeps py))))
@@ -949,7 +974,7 @@ do_with-substatement-requires t c = (
 
 pub do_with-test-requires : goal.do_with-test-requires
 do_with-test-requires t c =
-    let a = c.in_ok-body.ensures c.requires.first.syntax c.requires.first.is in
+    let a = c.in_ok-body.ensures c.requires.first.part.syntax c.requires.first.part.is in
     record {
       whole = a.whole;
       part = still_within c.args.work.now c.substatement.new.work c.args.b a.grows c.requires.second;
@@ -960,7 +985,7 @@ do_with-does-requires t c =
     let u = c.args.work.now in
     let v = c.substatement.new.work in
     let w = c.test.new.work in
-    let a = c.in_ok-body.ensures c.requires.first.syntax c.requires.first.is in
+    let a = c.in_ok-body.ensures c.requires.first.part.syntax c.requires.first.part.is in
     let f = still_within u v c.args.b a.grows c.requires.second in
     let b = c.in_ok-on.ensures f.syntax f.is in
     record { whole = b.whole; values = one_there (term_count w.nodes) c.in_ok-on.on b.there }
@@ -974,7 +999,7 @@ do_with-returns-in_err-body t c =
     let same : context_in u c.in_a_loop.result ≡ d = ap (context_in u) c.in_a_loop.ensures in
     rw (p.1, p.2) (failed freely u v v (substatement d (reading x))
     (λ z. test (reading y) >>= λ m. does Do (one_term m) (actions z) c.args.pos) ActionThere IsOnlyAction
-    ItemsThere IsItems _
+    OnlyThere IsItems _
     (at_same freely u v (λ (o : meant.Context). substatement o (reading x)) ActionThere IsOnlyAction
     (Err c.in_err-body.field-0.0) _ _ same (c.in_err-body.ensures x px)))
 
@@ -990,7 +1015,7 @@ do_with-returns-in_err-on t c =
     (Ok c.in_ok-body.body)) same (c.in_ok-body.ensures x px) in
     rw (p.1, p.2) (second_failed u v w (substatement d (reading x)) (λ z. test (reading y))
     (λ z m. does Do (one_term m) (actions z) c.args.pos) (action_in v c.in_ok-body.body ∷ [])
-    (ActionThere v c.in_ok-body.body) TermThere IsTerm ItemsThere IsItems _ a
+    (ActionThere v c.in_ok-body.body) TermThere IsTerm OnlyThere IsItems _ a
     (freed v w (test (reading y)) TermThere IsTerm (Err _)
     (c.in_err-on.ensures y (part_kept u v c.args.b y a.grows py))))
 
@@ -1004,7 +1029,7 @@ if_else_with-substatement-requires t c =
         a.whole,
         (
           context_there u v c.args.context a.grows.keeps c.requires.context,
-          still_within u v c.args.b a.grows.keeps c.requires.second,
+          kind_kept u v c.args.b a.grows.keeps c.requires.second,
         ),
       ),
     )
@@ -1015,7 +1040,7 @@ if_else_with-substatement-requires-2 t c =
     let v = c.test.new.work in
     let w = c.substatement.new.work in
     let a = c.in_ok-on.ensures c.requires.first.syntax c.requires.first.is in
-    let f = still_within u v c.args.b a.grows.keeps c.requires.second in
+    let f = still_within u v c.args.b a.grows.keeps c.requires.second.part in
     let b = c.in_ok-body.ensures f.syntax f.is in
     let k = keeps_then u v w a.grows.keeps b.grows in (
       omega arith,
@@ -1023,7 +1048,7 @@ if_else_with-substatement-requires-2 t c =
         b.whole,
         (
           context_there u w c.args.context k c.requires.context,
-          still_within u w c.args.c k c.requires.third,
+          kind_kept u w c.args.c k c.requires.third,
         ),
       ),
     )
@@ -1035,9 +1060,9 @@ if_else_with-does-requires t c =
     let w = c.substatement.new.work in
     let x = c.substatement-2.new.work in
     let a = c.in_ok-on.ensures c.requires.first.syntax c.requires.first.is in
-    let f = still_within u v c.args.b a.grows.keeps c.requires.second in
+    let f = still_within u v c.args.b a.grows.keeps c.requires.second.part in
     let b = c.in_ok-body.ensures f.syntax f.is in
-    let g = still_within u w c.args.c (keeps_then u v w a.grows.keeps b.grows) c.requires.third in
+    let g = still_within u w c.args.c (keeps_then u v w a.grows.keeps b.grows) c.requires.third.part in
     let e = c.in_ok-other.ensures g.syntax g.is in
     record {
       whole = e.whole;
@@ -1056,7 +1081,7 @@ if_else_with-returns-in_err-body t c =
     let a = c.in_ok-on.ensures x px in
     rw (p.1, p.2) (second_failed u v w (test (reading x)) (λ m. substatement d (reading y))
     (λ m fs. substatement d (reading z) >>= λ gs. does If (one_term m) (actions (fs ++ gs)) c.args.pos)
-    (term_in v.nodes c.in_ok-on.on) (TermThere v c.in_ok-on.on) ActionThere IsOnlyAction ItemsThere IsItems _
+    (term_in v.nodes c.in_ok-on.on) (TermThere v c.in_ok-on.on) ActionThere IsOnlyAction OnlyThere IsItems _
     (freed u v (test (reading x)) TermThere IsTerm (Ok c.in_ok-on.on) a)
     (at_same freely v w (λ (o : meant.Context). substatement o (reading y)) ActionThere IsOnlyAction
     (Err c.in_err-body.field-0.0) _ _ (context_kept u v c.args.context a.grows.keeps c.requires.context)
@@ -1079,7 +1104,7 @@ if_else_with-returns-in_err-other t c =
     rw (p.1, p.2) (third_failed u v w e (test (reading x)) (λ m. substatement d (reading y))
     (λ m fs. substatement d (reading z)) (λ m fs gs. does If (one_term m) (actions (fs ++ gs)) c.args.pos)
     (term_in v.nodes c.in_ok-on.on) (action_in w c.in_ok-body.body ∷ []) (TermThere v c.in_ok-on.on)
-    (ActionThere w c.in_ok-body.body) ActionThere IsOnlyAction ItemsThere IsItems _
+    (ActionThere w c.in_ok-body.body) ActionThere IsOnlyAction OnlyThere IsItems _
     (freed u v (test (reading x)) TermThere IsTerm (Ok c.in_ok-on.on) a) b
     (at_same freely w e (λ (o : meant.Context). substatement o (reading z)) ActionThere IsOnlyAction
     (Err c.in_err-other.field-0.0) _ _ (context_kept u w c.args.context k c.requires.context)
@@ -1097,7 +1122,7 @@ for_with-substatement-requires t c =
         a.whole,
         (
           subst (λ (o : Context). ContextThere v o) (sym c.in_a_loop.ensures) there,
-          still_within u v c.args.x.last a.grows c.requires.body,
+          kind_kept u v c.args.x.last a.grows c.requires.body,
         ),
       ),
     )
@@ -1110,7 +1135,7 @@ for_with-does-requires t c =
     let r = c.requires.head in
     let h = c.in_ok-head.head in
     let a = c.in_ok-head.ensures r.0.syntax r.1.syntax r.2.syntax r.0.is r.1.is r.2.is in
-    let f = still_within u v c.args.x.last a.grows c.requires.body in
+    let f = still_within u v c.args.x.last a.grows c.requires.body.part in
     let b = c.in_ok-body.ensures f.syntax f.is in
     record {
       whole = b.whole;
@@ -1135,7 +1160,7 @@ for_with-returns-in_err-body t c =
     rw (p.1, p.2) (second_failed u v w (for_head d x1 x2 x3 (reading x1) (reading x2) (reading x3))
     (λ o. substatement (in_a_loop d) (reading x4))
     (λ o body. give (one_action (for_action o.items o.test o.step body c.args.pos))) (head_in v h)
-    (HeadThere v h) ActionThere IsOnlyAction ItemsThere IsItems _ a
+    (HeadThere v h) ActionThere IsOnlyAction OnlyThere IsItems _ a
     (at_same freely v w (λ (o : meant.Context). substatement o (reading x4)) ActionThere IsOnlyAction
     (Err c.in_err-body.field-0.0) _ _ same (c.in_err-body.ensures x4
     (part_kept u v c.args.x.last x4 a.grows p4))))
@@ -1254,7 +1279,7 @@ switch_with-returns-in_err-cases t c =
     (λ o. in_scope (switch_items (in_a_switch d) o.of xs (readings xs) no_cases))
     (λ o cases. does (Switch cases.items.vars cases.labels) (one_term o.value)
     (actions cases.items.actions) c.args.pos) (switched_on v on)
-    (SwitchedThere v on) CasesThere IsCases ItemsThere IsItems _
+    (SwitchedThere v on) CasesThere IsCases OnlyThere IsItems _
     (freed u v (switched (reading x)) SwitchedThere IsSwitched (Ok on) a)
     (at_same freely v w (λ (o : meant.Context).
     in_scope (switch_items (in_a_switch o) (type_in v.nodes on.of) xs (readings xs) no_cases)) CasesThere
@@ -1351,7 +1376,7 @@ further_item-returns-in_err-more t c =
     let cs = cases_in u c.args.cases in
     rw (m.1, m.2) (failed freely u w w ((reading x).item d)
     (λ i. give (let z : statements.Cases = record { items = both cs.items i; labels = cs.labels } in z))
-    ItemsThere IsItems CasesThere IsCases _ (c.in_err-more.ensures x p))
+    (ItemThere x) IsItems CasesThere IsCases _ (c.in_err-more.ensures x p))
 
 pub further_item-returns : goal.further_item-returns
 further_item-returns t c = λ x p.
@@ -1360,4 +1385,4 @@ further_item-returns t c = λ x p.
     let d = context_in u c.args.context in
     let e = c.in_ok-longer.ensures in
     more_items u w ((reading x).item d) c.in_ok-more.more c.args.cases c.in_ok-longer.longer
-    (c.in_ok-more.ensures x p) c.requires.cases e.vars e.actions e.labels
+    (some_items u w ((reading x).item d) x (Ok c.in_ok-more.more) (c.in_ok-more.ensures x p)) c.requires.cases e.vars e.actions e.labels

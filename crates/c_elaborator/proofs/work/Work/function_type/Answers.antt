@@ -1,9 +1,10 @@
-use Rattle.c_elaborator.specs.Rules.{IsFunctionType}
-use Rattle.c_elaborator.proofs.Knowing.{function_known, if_same}
+use Rattle.c_elaborator.proofs.Knowing.{no_function, function_known}
 use Rattle.c_elaborator.proofs.work.Work.function_type.Goals as goal
+
+pub returns-in-None-clause-is : goal.returns-in-None-clause-is
+returns-in-None-clause-is c = no_function c.args.self.now c.args.k (λ s h. c.in-None.ensures s h.stands)
 
 pub returns-in-Some-clause-is : goal.returns-in-Some-clause-is
 returns-in-Some-clause-is c =
-    let w = c.args.self.now in
-    if_same c.there.result c.in-Some.of (IsFunctionType w c.args.k) c.there.ensures.same
-    (λ s h. function_known w.nodes.p c.args.k c.in-Some.of s (c.in-Some.ensures s h.stands))
+    function_known c.args.self.now c.args.k c.in-Some.of c.there.result c.there.ensures.is
+    (λ s h. c.in-Some.ensures s h.stands)

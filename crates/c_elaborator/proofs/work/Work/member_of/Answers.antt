@@ -1,4 +1,5 @@
-use Rattle.std.proofs.Common.{ℕ, Some, ap, sym, ◌∙◌}
+use Rattle.std.proofs.Common.{Some, ap, sym, ◌∙◌}
+use Rattle.c_tree.specs.Types.{Ty}
 use Rattle.c_tree.specs.Views.{types_of}
 use Rattle.c_expressions.specs.Nodes.{type_in}
 use Rattle.c_elaborator.specs.Answers.{quietly, OperandThere, IsOperand, operand_in}
@@ -25,16 +26,16 @@ returns-in-Missing c s h =
     ∙ ap (λ o. membering a c.args.pos o s) (sought_missing (types_of w.nodes.p.types) m
     (rw c.in-Missing.is at (c.seek.ensures s h)))
 
-pub returns-in_ok-of-in-At : goal.returns-in_ok-of-in-At
-returns-in_ok-of-in-At c =
+pub returns-in-At : goal.returns-in-At
+returns-in-At c =
     let w = c.args.self.now in
     let a = operand_in w c.args.a in
     let p = c.args.pos in
     let m = c.in-At.member in
-    answers_at quietly w _ _ (membering a p (Some (Some (m.number, type_in w.nodes c.in_ok-of-in-At.of)))) OperandThere
+    answers_at quietly w _ _ (membering a p (Some (Some (m.number, type_in w.nodes c.there-of.result)))) OperandThere
     IsOperand _
     (λ s h. member_is a c.args.name.now p c.args.tag s c.requires.tagged
     ∙ ap (λ o. membering a p o s) (sought_at w.nodes.p m (sought s c.args.tag c.args.name.now)
     (rw c.in-At.is at (c.seek.ensures s h))
-    ∙ ap (λ (k : ℕ). Some (Some (m.number, type_in w.nodes k))) (sym c.in_ok-of-in-At.ensures.same)))
+    ∙ ap (λ (t : Ty). Some (Some (m.number, t))) (sym c.there-of.ensures.is)))
     c.member_at.ensures

@@ -9,6 +9,6 @@ returns-clause-shows c =
     let e = c.no_program-p.ensures in
     shows_beginning _ c.no_program-p.result c.new.new.p (c.in_ok-nodes.ensures.file ∙ c.in_ok-scopes.ensures.file)
     (ap (λ (p : Typed). p.literals) e) (ap (λ (p : Typed). p.stmts) e) c.new.ensures.adds c.in_ok-nodes.ensures.adds
-    (c.in_ok-nodes.ensures.keeps beginning (c.in_ok-scopes.ensures.ok (ap (λ (p : Typed). p.globals) e)
-    (ap (λ (p : Typed). p.funs) e)))
+    (c.in_ok-nodes.ensures.keeps beginning (c.in_ok-scopes.ensures.ok (ap (λ (p : Typed). p.types) e)
+    (ap (λ (p : Typed). p.globals) e) (ap (λ (p : Typed). p.funs) e)))
     c.new-3.ensures.items c.new-4.ensures.items c.new-5.ensures.items c.new-6.ensures.items c.new-7.ensures.items

@@ -6,7 +6,7 @@ use Rattle.c_interner.specs.Heads.{built, PartStandsBefore, AllBefore}
 use Rattle.c_interner.specs.Levels.{parts_of, pair_composite, AreBelow}
 use Rattle.c_interner.specs.Known.{type_in}
 use Rattle.c_interner.proofs.Pairing.{parts_are_below}
-use Rattle.c_interner.proofs.Keeping.{first_composite, new_composite}
+use Rattle.c_interner.proofs.Keeping.{adds_none, first_composite, new_composite}
 use Rattle.c_interner.proofs.composites.Composites.make.Goals as goal
 
 -- the parts of two types of the list are types of the list
@@ -74,7 +74,7 @@ returns-in-None-clause-is c =
     ap (map go) c.as_slice-4.ensures.value ∙ names.are
     ∙ ap (map (pair_composite go)) (c.as_slice-3.ensures.value ∙ c.in_ok-parts.ensures) in
     let first : composite (built h ps go) (built g qs go) ≡ built h ps go =
-    (rw c.in-None.is at c.in_ok-composed.ensures) go made in
+    (rw c.in-None.is at c.in_ok-composed.ensures.is) go made in
     first_composite types c.args.pair h ps g qs c.requires.first c.requires.second a b first
 
 pub returns-clause-is : goal.returns-clause-is
@@ -98,6 +98,33 @@ returns-clause-is c =
     ap (map go) c.as_slice-4.ensures.value ∙ names.are
     ∙ ap (map (pair_composite go)) (c.as_slice-3.ensures.value ∙ c.in_ok-parts.ensures) in
     let whole : type_from c.in-Some-2.t go ≡ composite (built h ps go) (built g qs go) =
-    (rw c.in-Some-2.is at c.in_ok-composed.ensures) go made in
+    (rw c.in-Some-2.is at c.in_ok-composed.ensures.is) go made in
     new_composite c.args.p.now c.number_of.new.p c.args.pair c.in_ok-k-in-Some-2.k c.in-Some-2.t h ps g qs
     c.in_ok-k-in-Some-2.ensures.adds c.in_ok-k-in-Some-2.ensures.ok c.requires.first c.requires.second a b whole
+
+pub returns-in_err-c-clause-adds : goal.returns-in_err-c-clause-adds
+returns-in_err-c-clause-adds c = adds_none c.args.p.now
+
+pub returns-in_err-d-clause-adds : goal.returns-in_err-d-clause-adds
+returns-in_err-d-clause-adds c = adds_none c.args.p.now
+
+pub returns-in_err-parts-clause-adds : goal.returns-in_err-parts-clause-adds
+returns-in_err-parts-clause-adds c = adds_none c.args.p.now
+
+pub returns-in_err-made-clause-adds : goal.returns-in_err-made-clause-adds
+returns-in_err-made-clause-adds c = adds_none c.args.p.now
+
+pub returns-in_default-clause-adds : goal.returns-in_default-clause-adds
+returns-in_default-clause-adds c = adds_none c.args.p.now
+
+pub returns-in_err-composed-clause-adds : goal.returns-in_err-composed-clause-adds
+returns-in_err-composed-clause-adds c = adds_none c.args.p.now
+
+pub returns-in-None-clause-adds : goal.returns-in-None-clause-adds
+returns-in-None-clause-adds c = adds_none c.args.p.now
+
+pub returns-in_err-k-in-Some-2-clause-adds : goal.returns-in_err-k-in-Some-2-clause-adds
+returns-in_err-k-in-Some-2-clause-adds c = c.in_err-k-in-Some-2.ensures.adds
+
+pub returns-clause-adds : goal.returns-clause-adds
+returns-clause-adds c = c.in_ok-k-in-Some-2.ensures.adds

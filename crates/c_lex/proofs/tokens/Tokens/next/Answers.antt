@@ -3,7 +3,7 @@ use Rattle.ck_base.specs.Lexes.{BeginsWithToken}
 use Rattle.c_lex.specs.Pieces.{IsPlaceOf}
 use Rattle.c_lex.proofs.Longest.{longest_some}
 use Rattle.c_lex.proofs.Stands.{gap_forward}
-use Rattle.c_lex.proofs.Positions.{place_pos, place_moved}
+use Rattle.c_lex.proofs.Positions.{place_pos, place_moved, place_part}
 use Rattle.c_lex.proofs.tokens.Tokens.next.Goals as goal
 use Rattle.c_lex.proofs.tokens.Tokens.next.Goals.{After-behind-end}
 
@@ -23,6 +23,30 @@ behind c =
     place_moved c.self.inside.file.now c.find-found.result.0 c.behind-end.result c.in-Token.n
     c.find-found.ensures.of_file (begins c).longest.within
     (rw (part c.find-found.result.0.at c.in-Token.n) at c.behind-end.ensures)
+
+pub overflow_add-text : goal.overflow_add-text
+overflow_add-text c =
+    let begins = rw c.in-Token.is at c.find-found.ensures.found in
+    let long = length-drop c.find-found.result.0.at c.self.inside.file.now in
+    omega (arith, begins.longest.within, long, c.find-found.ensures.of_file.within, c.self.invariant.small)
+
+pub slice_bounds-text-end : goal.slice_bounds-text-end
+slice_bounds-text-end c =
+    let begins = rw c.in-Token.is at c.find-found.ensures.found in
+    let long = length-drop c.find-found.result.0.at c.self.inside.file.now in
+    omega (arith, begins.longest.within, long, c.find-found.ensures.of_file.within)
+
+pub behind-end-requires : goal.behind-end-requires
+behind-end-requires c =
+    let begins = rw c.in-Token.is at c.find-found.ensures.found in
+    rw (part c.find-found.result.0.at c.in-Token.n)
+    (place_part c.self.inside.file.now c.find-found.result.0 c.in-Token.n c.self.invariant.small
+    c.find-found.ensures.of_file begins.longest.within)
+
+pub returns-in-Token-clause-accepted : goal.returns-in-Token-clause-accepted
+returns-in-Token-clause-accepted c =
+    rw (part c.find-found.result.0.at c.in-Token.n)
+    (begins (goal.at.returns-in-Token-clause-accepted c).After-behind-end).accepted
 
 pub overflow_cast-result-in-Token : goal.overflow_cast-result-in-Token
 overflow_cast-result-in-Token c =

@@ -2,7 +2,7 @@ use Rattle.std.proofs.Common.{◌≡◌, refl, ◌∙◌, sym, ap, length}
 use Rattle.c_types.specs.Stands.{tag_kept, tag_seen}
 use Rattle.c_tree.specs.Views.{types_of}
 use Rattle.c_types.proofs.Looking.{seen_length}
-use Rattle.c_types.proofs.Extending.{extends_types}
+use Rattle.c_types.proofs.Extending.{extends_longer}
 use Rattle.c_types.proofs.Records.{stands_new_tag}
 use Rattle.c_types.proofs.scopes.Scopes.add_tag.Goals as goal
 
@@ -15,7 +15,7 @@ returns-clause-ok c s h =
       state = _;
       is = refl;
       stands = stands_new_tag c.args.self.now c.push.new.self c.args.p.now _ s c.args.kind c.in_ok-tag.tag c.in_ok-of.of
-          h (record { added = _; types = c.in_ok-append.ensures.ok; rest = refl }) c.in_ok-append.ensures.ok
+          h c.in_ok-append.ensures.ok refl
           (c.in_ok-of.ensures ∙ ap length c.as_slice-2.ensures) n
           (rw c.in_ok-reserve.ensures.items at c.in_ok-push.ensures.items);
       fits = sym (n ∙ seen_length (tag_kept c.args.p.now.types (types_of c.args.p.now.types)) tag_seen
@@ -24,4 +24,4 @@ returns-clause-ok c s h =
 
 pub returns-clause-extends : goal.returns-clause-extends
 returns-clause-extends c =
-    extends_types c.args.p.now _ (record { added = _; types = c.in_ok-append.ensures.ok; rest = refl })
+    extends_longer c.args.p.now _ _ c.in_ok-append.ensures.ok refl

@@ -1,9 +1,12 @@
-use Rattle.std.proofs.Common.{refl, sym, ap, set, subst}
+use Rattle.std.proofs.Common.{refl, sym, ap, set, subst, ◌∙◌}
+use Rattle.std.specs.Prelude.{◌||◌, is_some}
 use Rattle.c_types.specs.declared.scopes.Scopes.{Scopes}
 use Rattle.cap_layout.specs.Answers.{Exceeds}
 use Rattle.c_tree.specs.Declarators.{record_extent}
 use Rattle.c_types.proofs.Extending.{completed_extends}
-use Rattle.c_types.proofs.Records.{over_fails, completed_now, kind_is}
+use Rattle.std.proofs.lemmas.Bool.{false≢true}
+use Rattle.std.proofs.lemmas.Result.{err_from_is_err_and}
+use Rattle.c_types.proofs.Records.{over_fails, tag_there, none_there, named_same, completed_now, kind_is}
 use Rattle.c_types.proofs.scopes.Scopes.complete_tag.Goals as goal
 
 pub returns-in-Err-clause-answers : goal.returns-in-Err-clause-answers
@@ -20,8 +23,9 @@ pub returns-in_ok-note_members-in-Ok-clause-answers : goal.returns-in_ok-note_me
 returns-in_ok-note_members-in-Ok-clause-answers c kind parts has s h k =
     rw (c.replace.ensures, c.completed.ensures)
     (completed_now c.args.self.now c.note_members.new.self _ c.args.p.now s kind c.args.tag c.in-Some.info c.in-Ok.room
-    c.in_ok-table-in-Ok.table c.args.members.items parts c.args.pos h (sym c.in-Some.ensures)
-    (c.is_open.ensures c.if-not-is_open.false)
+    c.in_ok-table-in-Ok.table c.args.members.items parts c.args.pos _ h (sym c.in-Some.ensures)
+    (c.is_stale-self.ensures
+    ∙ ap (λ (x : Scopes). x.stale || is_some c.in-Some.info.room) c.note_members.ensures.others)
     c.note_members.ensures.others
     c.in_ok-note_members-in-Ok.ensures.ok
     (record {
@@ -37,4 +41,23 @@ pub returns-in_ok-note_members-in-Ok-clause-extends : goal.returns-in_ok-note_me
 returns-in_ok-note_members-in-Ok-clause-extends c =
     rw (c.replace.ensures, c.completed.ensures)
     (completed_extends c.args.p.now c.in-Some.info.of c.args.tag c.in-Some.info.kind c.args.members.items
-    (c.is_open.ensures c.if-not-is_open.false))
+    (sym c.is_type_of.ensures ∙ c.if-not-is_type_of.false))
+
+pub returns-then-not-is_type_of-clause-answers : goal.returns-then-not-is_type_of-clause-answers
+returns-then-not-is_type_of-clause-answers c kind parts has s h k =
+    absurd (false≢true (sym c.if-not-is_type_of.true ∙ c.is_type_of.ensures
+    ∙ tag_there c.args.self.now c.args.p.now s c.args.tag c.in-Some.info h (sym c.in-Some.ensures)))
+
+pub returns-in-None-clause-answers : goal.returns-in-None-clause-answers
+returns-in-None-clause-answers c kind parts has s h k =
+    absurd (none_there c.args.self.now c.args.p.now s c.args.tag kind h (sym c.in-None.ensures) k)
+
+pub returns-in_err-note_members-in-Ok-clause-answers : goal.returns-in_err-note_members-in-Ok-clause-answers
+returns-in_err-note_members-in-Ok-clause-answers c kind parts has =
+    let q = err_from_is_err_and c.from_residual-in_err-note_members-in-Ok.result
+    c.from_residual-in_err-note_members-in-Ok.ensures.1 in
+    rw (q.1, q.2) (
+      refl,
+      λ s h. named_same c.args.self.now c.note_members.new.self c.args.p.now s
+          c.note_members.ensures.others c.in_err-note_members-in-Ok.ensures.err h,
+    )
