@@ -1,6 +1,11 @@
 pub mod Allocating
 pub mod Beginning
 pub mod Fitting
+pub mod Low
+pub mod Mapped
+pub mod Planned
 pub mod Roomy
 pub mod Sizes
+pub mod Slots
 pub mod Started
+pub mod Whole

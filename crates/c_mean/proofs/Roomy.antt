@@ -1,5 +1,5 @@
 -- The objects of a program that typing gives, and which has room, can begin.
-use Rattle.std.proofs.Common.{◌≡◌, ℕ, zero, suc, ◌^◌, ◌<◌, ◌≤◌, List, [], ◌∷◌, length, Some, refl, ap, arith}
+use Rattle.std.proofs.Common.{◌≡◌, ℕ, zero, suc, ◌+◌, ◌^◌, ◌<◌, ◌≤◌, List, [], ◌∷◌, length, Some, refl, ap, arith}
 use Rattle.std.specs.Prelude.{slice_get, sum_by}
 use Rattle.std.proofs.lemmas.List.Sums.{sum_by-cons}
 use Rattle.std.proofs.lemmas.Option.{none-some, same_Some}
@@ -9,6 +9,7 @@ use Rattle.c_tree.specs.Layout.{size_limit}
 use Rattle.c_tree.specs.Typing.{Sound}
 use Rattle.c_tree.specs.WellTyped.{WellTyped, OwnsBytes}
 use Rattle.c_tree.specs.declared.typed.GlobalDef.{GlobalDef}
+use Rattle.c_tree.specs.declared.typed.Link.{Link}
 use Rattle.c_tree.specs.declared.typed.Literal.{Literal}
 use Rattle.c_tree.specs.declared.typed.Target.{Target}
 use Rattle.c_tree.specs.declared.typed.Target.TheVariants as target
@@ -67,16 +68,20 @@ module _ (p : Typed) (w : WellTyped p) (room : HasRoom p) where
       omega (arith, owned_small (length owns.0.bytes) (omega (arith, short k owns.0 owns.1)))
   owns_few (target.Fun f) n owns = let none = owns.1 in omega arith
 
+  pub links_low : (k : ℕ) (g : GlobalDef) → slice_get p.globals k ≡ Some g → (j : ℕ) (l : Link) →
+      slice_get g.links j ≡ Some l → l.low + l.length ≤ size_limit
+  links_low k g e j l i =
+      let link = (w.globals k g e).links j l i in
+      let bounds = link.bounds in
+      omega (arith, bounds, owns_few l.target link.target link.owns)
+
   pub begins : IsStartable p
   begins = record {
     sizes = sized;
     literals = short;
     few = few;
     few_literals = few_literals;
-    links = λ k g e j l i.
-        let link = (w.globals k g e).links j l i in
-        let bounds = link.bounds in
-        omega (arith, bounds, owns_few l.target link.target link.owns);
+    links = λ k g e j l i. omega (arith, links_low k g e j l i);
   }
 
 pub startable : (p : Typed) → Sound p → HasRoom p → IsStartable p

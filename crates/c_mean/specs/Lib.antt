@@ -1,2 +1,3 @@
 pub mod HeldMemory
+pub mod Modes
 pub mod Starting

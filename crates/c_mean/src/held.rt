@@ -1,45 +1,84 @@
-//! Memory with no addresses, as the operations that the strict meaning of programs stands on.
+//! Memory under a map, or with no addresses, as the operations that the meaning of programs stands on.
 
 ghost use Rattle.std.specs.Prelude.{◌≡◌, IfOk, Ok};
 ghost use Rattle.obj_mem.specs.Access.{onward};
 ghost use Rattle.obj_mem.specs.Objects.{Strict};
 ghost use Rattle.obj_mem.specs.Values as value;
-ghost use Rattle.cheri_c_sem.specs.Modes.{operations, strict_plan};
+ghost use Rattle.cheri_c_sem.specs.Modes.{operations};
 ghost use Rattle.cheri_c_sem.specs.Modes.{number_answer};
 ghost use Rattle.obj_mem.specs.Pointers.{get_base};
 ghost use Rattle.obj_mem.specs.Values.{value_of};
-ghost use Rattle.object_memory.specs.State.{memory_of};
+ghost use Rattle.object_memory.specs.State.{base_or, memory_of};
 ghost use Rattle.mean_operations.specs.Answers.{seen, number_seen};
+ghost use Rattle.mean_run.specs.Allocated.{IsEntered};
 ghost use Rattle.object_memory.specs.Answers.{mode_of};
-ghost use Rattle.c_mean.specs.HeldMemory.{store_of};
+ghost use Rattle.c_mean.specs.HeldMemory.{IsRoomyIn, plan_of, store_of};
 
 use ck_base::NoMemory;
 use ck_int::{CmpOp, IntKind, IntOp};
 use mean_operations::{Operations, Work};
 use mean_run::{AllocateFault, Storage};
-use mean_types::{Kind, number_of, truth};
+use mean_types::{Kind, number_of, truth, zero_of};
 use obj_mem::{Fault, Mode, Reason, UnitFault, Value};
 use object_memory::{
-    AllocateFault as NotAllocated, Memory, alignment_mask_of, has_tag, permissions_of, rounded,
+    AllocateFault as NotAllocated, Memory, alignment_mask_of, base_at, frame_of, has_tag,
+    local_offset, permissions_of, rounded,
 };
 use std::alloc::Global;
 
-/// Memory of the strict mode.
+/// Memory in a mode.
 #[derive(Drop)]
 pub struct Held<'a> {
+    mode: Mode<'a>,
     memory: Memory<'a>,
-    ghost strict: { mode_of memory.mode ≡ Strict },
+    ghost same: { mode_of memory.mode ≡ (plan_of mode).mode },
+    ghost roomy: { IsRoomyIn mode },
 }
 
-impl Held<'_> {
+impl<'a> Held<'a> {
     /// Memory with no objects.
-    #[tactic(auto, unfolding(cheri_c_sem::specs::Modes::operations))]
-    pub fn new(alloc: Global) -> Result<Self, NoMemory>
-        ensures { IfOk result (λ h. store_of h.memory ≡ (operations strict_plan).empty) }
+    #[tactic(auto, unfolding(cheri_c_sem::specs::Modes::operations), using(crate::proofs::Planned::mode_is))]
+    pub fn new(alloc: Global, mode: Mode<'a>) -> Result<Self, NoMemory>
+        requires { IsRoomyIn mode }
+        ensures held { IfOk result (λ h. store_of h.memory ≡ (operations (plan_of mode.entry)).empty) }
+        ensures plan { IfOk result (λ h. plan_of h.mode ≡ plan_of mode.entry) }
     {
         Ok(Held {
-            memory: Memory::new(alloc, Mode::Strict)?,
+            mode,
+            memory: Memory::new(alloc, mode)?,
         })
+    }
+}
+
+/// The base of a global, where there are addresses.
+fn global_base(mode: Mode<'_>, k: u64) -> Option<u64>
+    ensures { base_or result ≡ (plan_of mode.entry).global k }
+{
+    match mode {
+        Mode::Placed(map) => Some(base_at(map.globals.as_slice(), k)),
+        Mode::Strict => None,
+    }
+}
+
+/// That of a literal.
+fn literal_base(mode: Mode<'_>, k: u64) -> Option<u64>
+    ensures { base_or result ≡ (plan_of mode.entry).literal k }
+{
+    match mode {
+        Mode::Placed(map) => Some(base_at(map.literals.as_slice(), k)),
+        Mode::Strict => None,
+    }
+}
+
+/// That of a local, in a frame that was entered.
+fn local_base(mode: Mode<'_>, frame: u64, f: u32, n: u64) -> Option<u64>
+    requires roomy { IsRoomyIn mode }
+    requires entered { IsEntered (operations (plan_of mode)) f frame }
+    ensures { base_or result ≡ (plan_of mode.entry).local frame f n }
+{
+    match mode {
+        Mode::Placed(map) => Some(frame + local_offset(map, f, n)),
+        Mode::Strict => None,
     }
 }
 
@@ -53,7 +92,7 @@ fn number(answer: Result<u64, Fault>) -> Result<Value, Fault>
 }
 
 /// The base of the bounds of a value, where there are no addresses.
-fn base_of(memory: &Memory<'_>, v: Value) -> Result<u64, Fault>
+fn strict_base(memory: &Memory<'_>, v: Value) -> Result<u64, Fault>
     ensures { number_seen result ≡ number_answer (get_base Strict (memory_of memory.now).shapes (value_of v)) }
 {
     match v {
@@ -65,7 +104,7 @@ fn base_of(memory: &Memory<'_>, v: Value) -> Result<u64, Fault>
 
 #[tactic(auto, unfolding(cheri_c_sem::specs::Modes::operations))]
 impl Operations for Held<'_> {
-    ghost meaning = { λ h. operations strict_plan };
+    ghost meaning = { λ h. operations (plan_of h.mode) };
 
     ghost held = { λ h. store_of h.memory };
 
@@ -101,7 +140,10 @@ impl Operations for Held<'_> {
     }
 
     fn base(&self, v: Value) -> Result<u64, Fault> {
-        base_of(&self.memory, v)
+        match self.mode {
+            Mode::Placed(_) => self.memory.base(v),
+            Mode::Strict => strict_base(&self.memory, v),
+        }
     }
 
     fn work(&self, work: Work, v: Value, x: Value) -> Result<Value, Fault> {
@@ -138,12 +180,18 @@ impl Operations for Held<'_> {
         self.memory.overlap(from, to, bytes)
     }
 
-    fn unset(&self, _: Kind) -> Result<Value, Fault> {
-        Err(Fault::Unspecified(Reason::Unwritten))
+    fn unset(&self, kind: Kind) -> Result<Value, Fault> {
+        match self.mode {
+            Mode::Placed(_) => Ok(zero_of(kind)),
+            Mode::Strict => Err(Fault::Unspecified(Reason::Unwritten)),
+        }
     }
 
-    fn falls(&self, _: Kind) -> Result<Value, Fault> {
-        Err(Fault::Unspecified(Reason::Undefined))
+    fn falls(&self, kind: Kind) -> Result<Value, Fault> {
+        match self.mode {
+            Mode::Placed(_) => Ok(zero_of(kind)),
+            Mode::Strict => Err(Fault::Unspecified(Reason::Undefined)),
+        }
     }
 
     fn whole(&self, object: u64, permissions: u16) -> Value {
@@ -169,22 +217,18 @@ impl Storage for Held<'_> {
         self.memory.note_member(p, own)
     }
 
-    fn base_of(&self, v: Value) -> Result<u64, Fault> {
-        base_of(&self.memory, v)
-    }
-
-    fn add_global(&mut self, _: u64, length: u64) -> Result<(), NoMemory> {
-        self.memory.add(length, None)?;
+    fn add_global(&mut self, k: u64, length: u64) -> Result<(), NoMemory> {
+        self.memory.add(length, global_base(self.mode, k))?;
         Ok(())
     }
 
-    fn add_literal(&mut self, _: u64, length: u64) -> Result<(), NoMemory> {
-        self.memory.add(length, None)?;
+    fn add_literal(&mut self, k: u64, length: u64) -> Result<(), NoMemory> {
+        self.memory.add(length, literal_base(self.mode, k))?;
         Ok(())
     }
 
-    fn add_local(&mut self, _: u64, _: u32, _: u64, length: u64) -> Result<(), NoMemory> {
-        let object = self.memory.add(length, None)?;
+    fn add_local(&mut self, frame: u64, f: u32, n: u64, length: u64) -> Result<(), NoMemory> {
+        let object = self.memory.add(length, local_base(self.mode, frame, f, n))?;
         self.memory.rest(object);
         Ok(())
     }
@@ -202,10 +246,16 @@ impl Storage for Held<'_> {
     }
 
     fn stack_top(&self) -> u64 {
-        0
+        match self.mode {
+            Mode::Placed(map) => map.stack.0 + map.stack.1,
+            Mode::Strict => 0,
+        }
     }
 
-    fn enter(&self, _: u32, address: u64) -> Option<u64> {
-        Some(address)
+    fn enter(&self, f: u32, address: u64) -> Option<u64> {
+        match self.mode {
+            Mode::Placed(map) => frame_of(map, f, address),
+            Mode::Strict => Some(address),
+        }
     }
 }

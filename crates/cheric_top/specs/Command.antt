@@ -87,7 +87,8 @@ NotRead before after name answer = WhyNotRead before after name answer × (after
 
 -- ---- running
 
--- a loaded image was run, and its ending answered
+-- A loaded image was run, and its ending answered. (A source tells a list of numbers: that they are bytes, as
+-- `RunsAsMeant` asks of a world, is to be known of the source, as of one in memory it is.)
 pub record RanLoaded (before after : Seen) (loaded : Loaded) (steps : ℕ) (answer : Answer) : Type 0 where
   pub ending : End
   pub ran : IsRun (outcome limits act ending_alone loaded.machine steps) before after ending

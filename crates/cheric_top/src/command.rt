@@ -170,9 +170,10 @@ fn work<F: Files, I: Source, O: Sink>(
 /// `--stack N`, in any order and each at most once; an option that a mode does not use has no effect. `run` builds a C
 /// file, loads the bytes and runs them over `input` and `out`; `build` puts them under NAME, or under FILE followed by
 /// `.elf`; `exec` loads and runs such a file, and `audit` says whether a run of it can leave its text, or which word or
-/// relocation first breaks a rule. `map` and `list` put to `out` where the parts of a C file's program stand, and the
-/// listing of its text. `gen` generates a C file of N functions, runs it and puts a summary to `out`. But for these
-/// three where they succeed, one line of text on the outcome goes to `notes`.
+/// relocation first breaks a rule. `mean` runs the strict meaning of a C file over `input` and `out`. `map` and `list`
+/// put to `out` where the parts of a C file's program stand, and the listing of its text. `gen` generates a C file of N
+/// functions, runs it and puts a summary to `out`. But for these three where they succeed, one line of text on the
+/// outcome goes to `notes`.
 pub fn cheric<F: Files, I: Source, O: Sink, N: Sink>(
     alloc: Global,
     words: &Vec<String>,

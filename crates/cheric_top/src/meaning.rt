@@ -9,7 +9,7 @@ use crate::running::not_built;
 use c_mean::mean;
 use cheric_build::accepted;
 use ck_base::{NoMemory, Sink, Source};
-use obj_mem::Ending;
+use obj_mem::{Ending, Mode};
 use std::alloc::Global;
 
 /// The answer of a run of the meaning.
@@ -45,7 +45,7 @@ pub fn mean_file<I: Source, O: Sink>(
         Ok(program) => program,
         Err(refusal) => return not_built(refusal),
     };
-    match mean(alloc, &program, input, out, turns) {
+    match mean(alloc, &program, Mode::Strict, input, out, turns) {
         Ok(ending) => meant(ending),
         Err(NoMemory) => Answer::Memory,
     }

@@ -1,5 +1,6 @@
 //! The operations on values and memory that the meaning of programs stands on.
 ghost use Rattle.std.specs.Prelude.{◌≡◌, ◌⊎◌, ℕ};
+ghost use Rattle.obj_mem.specs.Values as values;
 ghost use Rattle.obj_mem.specs.Values.{value_of};
 ghost use Rattle.cheri_c_sem.specs.Kinds.{nothing};
 ghost use Rattle.cheri_c_sem.specs.Modes.{Store};
@@ -69,7 +70,7 @@ pub trait Operations {
     /// The base of the bounds of a capability, which is a number of 64 bits.
     fn base(&self, v: Value) -> Result<u64, Fault>
         requires { IsWord ((meaning self.now).work (held self.now) sem.Base (value_of v) nothing) }
-        ensures { number_seen result ≡ (meaning self.now).work (held self.now) sem.Base (value_of v) nothing };
+        ensures { (x : values.Value) → number_seen result ≡ (meaning self.now).work (held self.now) sem.Base (value_of v) x };
 
     /// What else is asked of a capability, or made of it.
     fn work(&self, work: Work, v: Value, x: Value) -> Result<Value, Fault>

@@ -17,7 +17,6 @@ pub mod Copying
 pub mod Finishing
 pub mod Finishes
 pub mod Computed
-pub mod Agreement
 pub mod Calling
 pub mod Stating
 pub mod Serving

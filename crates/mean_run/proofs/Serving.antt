@@ -1,5 +1,6 @@
 -- Library functions and intrinsics do what the machine does.
-use Rattle.std.proofs.Common.{◌≡◌, ℕ, zero, suc, ◌%◌, ◌<◌, ◌≤◌, true, false, List, [], ◌∷◌, length, Some, None, Result, Ok, Err}
+use Rattle.std.proofs.Common.{◌≡◌, ℕ, zero, suc, ◌%◌, ◌<◌, ◌≤◌, true, false, List, [], ◌∷◌, length, Some, None, Result}
+use Rattle.std.proofs.Common.{Ok, Err}
 use Rattle.std.proofs.Common.{refl, sym, subst, arith}
 use Rattle.std.specs.Prelude.{slice_index_or}
 use Rattle.ck_base.specs.Calls.{Seen, Acted}
@@ -8,7 +9,7 @@ use Rattle.ck_base.specs.declared.positions.Pos.{Pos}
 use Rattle.obj_mem.specs.declared.ending.Ending.{Ending}
 use Rattle.obj_mem.specs.declared.ending.Fault.{Fault}
 use Rattle.obj_mem.specs.Values.{Value, Int}
-use Rattle.cheri_c_sem.specs.Kinds.{number_of}
+use Rattle.cheri_c_sem.specs.Kinds.{nothing, number_of}
 use Rattle.cheri_c_sem.specs.Meaning.{first_of, second_of}
 use Rattle.cheri_c_sem.specs.Modes.{Store}
 use Rattle.cheri_c_sem.specs.Operations.{Operations}
@@ -16,7 +17,8 @@ use Rattle.cheri_c_sem.specs.Operations as meaning
 use Rattle.cheri_c_sem.specs.Steps.{byte_or_end}
 use Rattle.cheri_c_sem.specs.Tree.{Service, Put_char, Get_char, Malloc, Exit, Address, Bounds, Works, Fun}
 use Rattle.cheri_c_sem.specs.Types.{service_of}
-use Rattle.mean_steps.specs.Machine.{Moment, limits, serve, with_value}
+use Rattle.mean_bases.specs.Bases.{HasBase, HaveBases}
+use Rattle.mean_steps.specs.Machine.{Moment, limits, serve, turned, with_value}
 use Rattle.mean_steps.specs.Parts.{allocate, answer}
 use Rattle.mean_run.specs.Acts.{Stepped}
 use Rattle.mean_run.specs.Parts.{Does, given_in}
@@ -70,6 +72,28 @@ is_asked (suc (suc zero)) a b = absurd (omega arith)
 is_asked (suc (suc (suc zero))) a b = absurd (omega arith)
 is_asked (suc (suc (suc (suc k)))) a b =
     asked_in intrinsics k all_asked (omega arith)
+
+-- ---- bases of arguments
+
+module _ (ops : Operations Store) (s : Store) where
+  none_base : (vs : List Value) → HaveBases ops s vs → HasBase ops s nothing
+  none_base [] h = h
+  none_base (v ∷ vs) h = none_base vs h.1
+
+  first_base : (vs : List Value) → HaveBases ops s vs → HasBase ops s (first_of vs)
+  first_base [] h = h
+  first_base (v ∷ vs) h = h.0
+
+  turned_bases : (n : ℕ) (vs others : List Value) → HaveBases ops s vs → HaveBases ops s others →
+      HaveBases ops s (turned n vs others)
+  turned_bases zero vs others h i = i
+  turned_bases (suc n) [] others h i = i
+  turned_bases (suc n) (v ∷ vs) others h i = turned_bases n vs (v ∷ others) h.1 (h.0, i)
+
+  pub argument_base : (n : ℕ) (vs : List Value) (v : Value) → v ≡ first_of (turned n vs []) → HaveBases ops s vs →
+      HasBase ops s v
+  argument_base n vs v e h =
+      subst (HasBase ops s) (sym e) (first_base (turned n vs []) (turned_bases n vs [] h (none_base vs h)))
 
 module _ (ops : Operations Store) (funs : List Fun) (pos : Pos) (vs : List Value) (t m : Moment Store)
     (same : t ≡ m) where

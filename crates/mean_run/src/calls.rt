@@ -14,6 +14,7 @@ ghost use Rattle.c_tree.specs.Layout.{bare};
 ghost use Rattle.mean_steps.specs.Machine.{beyond, call, closed, opened, turn_behind, turned};
 ghost use Rattle.mean_steps.specs.Machine as machine;
 ghost use Rattle.mean_steps.specs.Parts.{Now, at_end, called, pass, pass_one};
+ghost use Rattle.mean_run.specs.Allocated.{IsEntered};
 ghost use Rattle.mean_run.specs.Calls.{Ended, Enters, given_behind};
 ghost use Rattle.mean_run.specs.Views.{moment_of, caller_of, fun_of, funs_of, now_of};
 ghost use Rattle.mean_run.specs.Parts.{Did, Does, Gives, Unless_wanting};
@@ -21,7 +22,6 @@ ghost use Rattle.mean_run.specs.Sizes.{AreSizedVariables, IsSmall};
 ghost use Rattle.mean_run.specs.Sources.{IsFit, IsSource};
 
 use crate::call::Call;
-use crate::compatibility::compatible;
 use crate::locals::{function, is_object};
 use crate::places::{DATA, type_of, within_limit};
 use crate::state::{Source, State};
@@ -31,7 +31,7 @@ use c_tree::{FunDef, Typed, VarDef};
 use cap_ops::Cause;
 use ck_base::{NoMemory, Pos};
 use mean_operations::Operations;
-use mean_types::NOTHING;
+use mean_types::{NOTHING, compatible};
 use obj_mem::{Ending, Value};
 use std::alloc::Global;
 
@@ -89,7 +89,8 @@ fn add_objects<B: Storage>(
     g: u32,
     vars: &[VarDef],
 ) -> Result<(), NoMemory>
-    requires { IsSource s.now }
+    requires source { IsSource s.now }
+    requires entered { IsEntered (B.meaning m.old) g frame }
     ensures same { B.meaning m.new ≡ B.meaning m.old }
     ensures did { AreSizedVariables s.now.p.now vars.now → OnOk result (B.held m.new
         ≡ add_locals (B.meaning m.old) (B.held m.old) frame g 0 (lengths_of s.now.p.now vars.now)) }
@@ -113,7 +114,8 @@ fn add_object<B: Storage>(
     n: u64,
     v: &VarDef,
 ) -> Result<u64, NoMemory>
-    requires { IsSource s.now }
+    requires source { IsSource s.now }
+    requires entered { IsEntered (B.meaning m.old) g frame }
     ensures same { B.meaning m.new ≡ B.meaning m.old }
     ensures next { n + 1 < 2 ^ 64 → IfOk result (λ k. k ≡ n + (if v.now.simple then 0 else 1)) }
     ensures did { IsSmall s.now.p.now v.now.of → OnOk result (B.held m.new ≡ (if v.now.simple then B.held m.old
@@ -262,7 +264,8 @@ impl State {
         d: &FunDef,
         address: u64,
     ) -> Result<(), Stop>
-        requires { IsSource s.now }
+        requires source { IsSource s.now }
+        requires entered { IsEntered (B.meaning m.old) g address }
         ensures same { B.meaning m.new ≡ B.meaning m.old }
         ensures did { AreSizedVariables s.now.p.now d.now.vars →
             Enters (B.meaning m.old) s.now.p.now g d.now self.old self.new (B.held m.old)

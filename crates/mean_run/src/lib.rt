@@ -15,7 +15,6 @@ mod branches;
 mod call;
 mod calls;
 mod choices;
-mod compatibility;
 mod finish;
 mod locals;
 mod offsets;

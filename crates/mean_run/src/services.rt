@@ -15,6 +15,7 @@ ghost use Rattle.cheri_c_sem.specs.Types.{service_of};
 ghost use Rattle.mean_operations.specs.Answers.{number_seen, seen as value_seen};
 ghost use Rattle.mean_steps.specs.Machine.{Moment, beyond, serve, turned, with_value};
 ghost use Rattle.mean_steps.specs.Parts.{allocate};
+ghost use Rattle.mean_bases.specs.Bases.{HasBase, HaveBases};
 ghost use Rattle.mean_run.specs.Acts.{Stepped};
 ghost use Rattle.mean_run.specs.Parts.{Does, given_in};
 ghost use Rattle.mean_run.specs.Services.{asked_of};
@@ -40,13 +41,14 @@ fn number(answer: Result<u64, Fault>) -> Result<Value, Fault>
 
 /// What an intrinsic on capabilities gives, by its number.
 fn intrinsic<B: Storage>(m: &B, n: u8, v: Value, x: Value) -> Result<Value, Fault>
+    requires base { HasBase (B.meaning m.now) (B.held m.now) (value_of v) }
     requires from { 4 ≤ n }
     requires to { n ≤ 17 }
     ensures { value_seen result ≡ asked_of (B.meaning m.now) (B.held m.now) (service_of n) (value_of v) (value_of x) }
 {
     match n {
         4 => number(m.address(v)),
-        5 => number(m.base_of(v)),
+        5 => number(m.base(v)),
         6 => m.work(Work::Offset, v, x),
         7 => m.work(Work::Length, v, x),
         8 => m.work(Work::Tag, v, x),
@@ -95,6 +97,7 @@ impl State {
         input: &mut I,
         out: &mut O,
     ) -> Result<(), Stop>
+        requires bases { HaveBases (B.meaning m.old) (B.held m.old) (map value_of self.old.values) }
         ensures same { B.meaning m.new ≡ B.meaning m.old }
         ensures does { (p : Typed) (before : Moment Store) → Stepped (serve (B.meaning m.old) (funs_of p) pos
             (service_of n)

@@ -4,6 +4,7 @@ ghost use Rattle.std.specs.Prelude.{◌≡◌, ◌∷◌, ◌<◌, ◌-◌, ◌^
 ghost use Rattle.ck_base.specs.Calls.{seen, IsRun, Counted};
 ghost use Rattle.stopped_runs.specs.Stopping.{StoppedShort};
 ghost use Rattle.c_tree.specs.declared.typed.Typed.{Typed};
+ghost use Rattle.obj_mem.specs.Values.{value_of};
 ghost use Rattle.cheri_c_sem.specs.Calls.{meant};
 ghost use Rattle.cheri_c_sem.specs.Expressions.{expr_tree};
 ghost use Rattle.cheri_c_sem.specs.Modes.{Store};
@@ -13,6 +14,8 @@ ghost use Rattle.cheri_c_sem.specs.Programs.{program_tree, stmt_tree};
 ghost use Rattle.mean_steps.specs.Machine as machine;
 ghost use Rattle.mean_steps.specs.Machine.{Moment, act, act_on, at_test, designate, evaluate, execs_behind};
 ghost use Rattle.mean_steps.specs.Machine.{finish_item, first_moment, limits, proceed};
+ghost use Rattle.mean_bases.specs.Bases.{HaveBases};
+ghost use Rattle.mean_bases.specs.Moments.{IsReached};
 ghost use Rattle.mean_run.specs.Acts.{Stepped};
 ghost use Rattle.mean_run.specs.Views.{funs_of, item_of, loop_of, moment_of, parts_of, vars_at};
 ghost use Rattle.mean_run.specs.Parts.{Does, Unless_wanting};
@@ -40,7 +43,8 @@ impl State {
         input: &mut I,
         out: &mut O,
     ) -> Result<(), Stop>
-        requires { IsSource s.now }
+        requires source { IsSource s.now }
+        requires bases { HaveBases (B.meaning m.old) (B.held m.old) (map value_of self.old.values) }
         ensures same { B.meaning m.new ≡ B.meaning m.old }
         ensures does { IsFit s.now.p.now → (before : Moment Store) → Stepped (finish_item (B.meaning m.old)
             (funs_of s.now.p.now) (expr_tree s.now.p.now (vars_at s.now.p.now f) k)
@@ -65,7 +69,8 @@ impl State {
         input: &mut I,
         out: &mut O,
     ) -> Result<(), Stop>
-        requires { IsSource s.now }
+        requires source { IsSource s.now }
+        requires bases { HaveBases (B.meaning m.old) (B.held m.old) (map value_of self.old.values) }
         ensures same { B.meaning m.new ≡ B.meaning m.old }
         ensures does { IsFit s.now.p.now → IsNode s.now.p.now k e.now →
             IsPeeled s.now.p.now (vars_at s.now.p.now f) e.now → IsSizedBy s.now.p.now e.now.of e.now.kind →
@@ -99,7 +104,8 @@ impl State {
         input: &mut I,
         out: &mut O,
     ) -> Result<(), Stop>
-        requires { IsSource s.now }
+        requires source { IsSource s.now }
+        requires bases { HaveBases (B.meaning m.old) (B.held m.old) (map value_of self.old.values) }
         ensures same { B.meaning m.new ≡ B.meaning m.old }
         ensures does { IsFit s.now.p.now → (before : Moment Store) → Stepped (act_on (B.meaning m.old)
             (funs_of s.now.p.now) (item_of s.now.p.now work) (moment_of s.now.p.now self.old (B.held m.old)))
@@ -206,7 +212,8 @@ impl State {
         input: &mut I,
         out: &mut O,
     ) -> Result<(), Stop>
-        requires { IsSource s.now }
+        requires source { IsSource s.now }
+        requires bases { HaveBases (B.meaning m.old) (B.held m.old) (map value_of self.old.values) }
         ensures same { B.meaning m.new ≡ B.meaning m.old }
         ensures does { IsFit s.now.p.now → Stepped (act (B.meaning m.old) (funs_of s.now.p.now)
             (moment_of s.now.p.now self.old (B.held m.old)))
@@ -229,7 +236,8 @@ impl State {
         Err(Stop::Ended(Ending::Exit((number_of(v) % 256) as u8)))
     }
 
-    /// Runs from the first moment to the end, or to want of memory.
+    /// Runs from the first moment to the end, or to want of memory. At each moment that the run comes to, the bases of
+    /// the values that stand ready are numbers of 64 bits.
     pub fn run<B: Storage, I: Input, O: Sink>(
         &mut self,
         m: &mut B,
@@ -241,6 +249,9 @@ impl State {
         requires fit { IsFit s.now.p.now }
         requires first { moment_of s.now.p.now self.old (B.held m.old)
             ≡ first_moment (B.meaning m.old) (program_tree s.now.p.now) self.old.left }
+        requires bases { (t : Moment Store) → IsReached (act (B.meaning m.old) (funs_of s.now.p.now))
+            (first_moment (B.meaning m.old) (program_tree s.now.p.now) self.old.left) t →
+            HaveBases (B.meaning m.old) t.now.mem t.values }
         requires source_room { I.faults input.old < 2 ^ 64 - 1 }
         requires sink_room { O.faults out.old < 2 ^ 64 - 1 }
         ensures run { IfOk result (λ e. IsRun (λ w. meant (B.meaning m.old) (program_tree s.now.p.now) w self.old.left)

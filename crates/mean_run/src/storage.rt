@@ -1,10 +1,7 @@
 //! Memory that makes room for objects, and knows of frames.
-ghost use Rattle.std.specs.Prelude.{◌≡◌, ℕ, ◌<◌, ◌≤◌, ◌^◌, Some, OnOk};
+ghost use Rattle.std.specs.Prelude.{◌≡◌, ◌≤◌, OnOk};
 ghost use Rattle.obj_mem.specs.Values.{value_of};
-ghost use Rattle.obj_mem.specs.Values as values;
-ghost use Rattle.cheri_c_sem.specs.Operations as sem;
-ghost use Rattle.mean_operations.specs.Answers.{number_seen};
-ghost use Rattle.mean_run.specs.Allocated.{Allocated};
+ghost use Rattle.mean_run.specs.Allocated.{Allocated, IsEntered};
 
 use ck_base::NoMemory;
 use mean_operations::Operations;
@@ -26,11 +23,6 @@ pub trait Storage: Operations {
             ≡ (Self.meaning self.old).note_member (Self.held self.old) (value_of p) own) }
         ensures same { Self.meaning self.new ≡ Self.meaning self.old };
 
-    /// The base of the bounds of a capability.
-    fn base_of(&self, v: Value) -> Result<u64, Fault>
-        ensures { (x : values.Value) → number_seen result
-            ≡ (Self.meaning self.now).work (Self.held self.now) sem.Base (value_of v) x };
-
     /// The next object: global or literal k, of a length.
     fn add_global(&mut self, k: u64, length: u64) -> Result<(), NoMemory>
         requires { length ≤ 67108864 }
@@ -47,7 +39,8 @@ pub trait Storage: Operations {
     /// The next object: local `n` of function `f` whose frame, which was entered below an address, has this one; of a
     /// length; it is dead.
     fn add_local(&mut self, frame: u64, f: u32, n: u64, length: u64) -> Result<(), NoMemory>
-        requires { length ≤ 67108864 }
+        requires length { length ≤ 67108864 }
+        requires entered { IsEntered (Self.meaning self.old) f frame }
         ensures changes { OnOk result (Self.held self.new
             ≡ (Self.meaning self.old).add_local (Self.held self.old) frame f n length) }
         ensures same { Self.meaning self.new ≡ Self.meaning self.old };

@@ -3,7 +3,7 @@
 ghost use Rattle.std.specs.Prelude.{◌≡◌, ◌≢◌, ◌*◌, ◌%◌, ◌-◌, ◌^◌, ◌<◌, ◌≤◌, ◌&&◌, ◌||◌, nat_lt, not, if◌then◌else◌};
 ghost use Rattle.std.specs.Prelude.{pos, ◌+ℤ◌, ◌-ℤ◌, ◌*ℤ◌, int_le, int_div};
 ghost use Rattle.cap_concentrate.specs.Rounding.{alignment, owned};
-ghost use Rattle.cheri_c_sem.specs.Modes.{int_of, is_outside as is_outside_of, is_undefined as is_undefined_of};
+ghost use Rattle.cheri_c_sem.specs.Modes.{int_of, outside_width as is_outside_of, is_undefined as is_undefined_of};
 ghost use Rattle.cheri_c_sem.specs.Modes.{loses as loses_of, overflows as overflows_in};
 ghost use Rattle.ck_int.specs.Arithmetic.{promoted_width_of};
 ghost use Rattle.ck_int.specs.Kinds.{form_of, is_signed as is_signed_form, modulo, value_of};

@@ -10,6 +10,7 @@ mod access;
 mod bytes;
 mod capabilities;
 mod comparisons;
+mod frames;
 mod integers;
 mod memory;
 mod notes;
@@ -19,6 +20,7 @@ mod reach;
 mod words;
 
 pub use comparisons::callee;
+pub use frames::{base_at, frame_of, local_offset};
 pub use integers::{alignment_mask_of, rounded};
 pub use memory::{AllocateFault, Memory};
 pub use pointers::{has_tag, permissions_of};

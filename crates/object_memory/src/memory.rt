@@ -127,11 +127,6 @@ impl<'a> Memory<'a> {
         })
     }
 
-    /// What the run knows of addresses.
-    pub fn mode(&self) -> Mode<'a> {
-        self.mode
-    }
-
     /// How many objects there are: the number of the next one.
     #[tactic(auto, using(crate::proofs::Puts::changes))]
     pub fn count(&self) -> u64

@@ -1,4 +1,3 @@
-mod Agreement
 mod Listed
 mod Folding
 mod Pointers

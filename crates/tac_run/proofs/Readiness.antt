@@ -22,7 +22,7 @@ use Rattle.obj_mem.specs.declared.map.Frame.{Frame}
 use Rattle.obj_mem.specs.declared.map.Map.{Map}
 use Rattle.obj_mem.specs.Legal.{ObjectNeed}
 use Rattle.obj_mem.specs.Needs.{Legal, literal_need, needs_of, weight_in}
-use Rattle.obj_mem.specs.Standing.{AreExact}
+use Rattle.obj_mem.specs.Standing.{HaveBounds}
 use Rattle.obj_mem.proofs.Spread.{objects_are_exact_law}
 use Rattle.cheri_c_sem.specs.Modes.{local_offset}
 use Rattle.cheri_c_sem.specs.Programs.{function_trees, program_tree}
@@ -39,14 +39,14 @@ there [] k x e = absurd (none-some x e)
 there (y ∷ xs) zero x e = omega arith
 there (y ∷ xs) (suc k) x e = let l = there xs k x e in omega arith
 
-base_small : (ns : List ObjectNeed) (bs : List ℕ) → AreExact ns bs → (k : ℕ) → slice_index_or bs k 0 ≤ 2 ^ 40
+base_small : (ns : List ObjectNeed) (bs : List ℕ) → HaveBounds ns bs → (k : ℕ) → slice_index_or bs k 0 ≤ 2 ^ 40
 base_small [] [] x k = omega arith
 base_small [] (b ∷ bs) x k = absurd x
 base_small (n ∷ ns) [] x k = absurd x
 base_small (n ∷ ns) (b ∷ bs) x zero = let to = x.0.based.to in omega arith
 base_small (n ∷ ns) (b ∷ bs) x (suc k) = base_small ns bs x.1 k
 
-literal_owned : (ls : List Literal) (bs : List ℕ) → AreExact (map literal_need ls) bs → (k : ℕ) (l : Literal) →
+literal_owned : (ls : List Literal) (bs : List ℕ) → HaveBounds (map literal_need ls) bs → (k : ℕ) (l : Literal) →
     slice_get ls k ≡ Some l → owned (length l.bytes) ≤ 2 ^ 40
 literal_owned [] bs x k l e = absurd (none-some l e)
 literal_owned (y ∷ ls) [] x k l e = absurd x
@@ -58,8 +58,8 @@ literal_owned (y ∷ ls) (b ∷ bs) x (suc k) l e = literal_owned ls bs x.1 k l 
 
 module _ (p : Typed) (q : Program) (o : IsOrdered p) (s : Shows p q) (w : WellTyped p) (m : Map)
     (legal : Legal p m) where
-  exact : AreExact (needs_of (weight_in p) p).globals m.globals ×
-      AreExact (needs_of (weight_in p) p).literals m.literals
+  exact : HaveBounds (needs_of (weight_in p) p).globals m.globals ×
+      HaveBounds (needs_of (weight_in p) p).literals m.literals
   exact = objects_are_exact_law (weight_in p) p m legal
 
   size_small : (t : ℕ) → t < length p.types → (x : Extent) → HasExtent p (type_in p t) x →

@@ -1,7 +1,5 @@
 -- Lists of a program's parts.
-use Rattle.std.specs.Prelude.{ℕ, Bool, true, false, List, [], Option, Some, None, slice_get}
-use Rattle.c_tree.specs.Layout.{bare}
-use Rattle.c_tree.specs.declared.typed.CType.{CType}
+use Rattle.std.specs.Prelude.{ℕ, List, [], Option, Some, None}
 use Rattle.c_tree.specs.declared.typed.FunDef.{FunDef}
 use Rattle.c_tree.specs.declared.typed.Link.{Link}
 use Rattle.c_tree.specs.declared.typed.Literal.{Literal}
@@ -22,8 +20,3 @@ bytes_of l = l.bytes
 -- the pointer that a link is
 abbrev pub starting_of : Typed → Link → Starting
 starting_of p l = record { at = l.at; value = value_at p l l.target }
-
--- a type; that of a parameter behind its own const
-abbrev pub looked_up : List CType → Bool → ℕ → Option CType
-looked_up types true t = bare types t
-looked_up types false t = slice_get types t

@@ -18,7 +18,6 @@ ghost use Rattle.tac_run.specs.Holdings.{ops_of};
 ghost use Rattle.tac_run.specs.Views.{now_of, next_of, fits_of, on_done, read_answer, Comes, Asks, Finds, IsGiving};
 ghost use Rattle.tac_run.specs.Views.{IsComputing, IsInside};
 
-use crate::compatibility::compatible;
 use crate::faults::{NO_POSITION, Stop, fault_end, unit_end};
 use crate::operations::{compared, converted, is_true, kind_at, kind_of, whole};
 use crate::places::further;
@@ -26,7 +25,7 @@ use crate::program::{CONST, DATA, Program};
 use crate::state::{Next, State};
 use cap_ops::Cause;
 use ck_base::{NoMemory, Pos};
-use mean_types::{bytes_of, null_at, read_as, truth};
+use mean_types::{bytes_of, compatible, null_at, read_as, truth};
 use obj_mem::{Ending, Fault, Value};
 use object_memory::AllocateFault;
 use tac_ir::{LibOp, TacInstr, TacKind};

@@ -6,7 +6,7 @@ use ck_base::Pos;
 use obj_mem::{Ending, Fault, UnitFault};
 
 /// Why a run goes no further.
-#[derive(Clone, Copy, Debug)]
+#[derive(Clone, Copy)]
 pub enum Stop {
     /// It ends.
     Ended(Ending),

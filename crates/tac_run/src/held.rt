@@ -1,6 +1,6 @@
 //! Memory under a map, as the operations that the meaning of code stands on.
 ghost use Rattle.std.specs.Prelude.{◌≡◌, ◌+◌, ◌^◌, ◌<◌, ◌≤◌, slice_get, IfOk, OnOk};
-ghost use Rattle.cheri_c_sem.specs.Modes.{local_offset, number_answer, truth_answer};
+ghost use Rattle.cheri_c_sem.specs.Modes.{local_offset as offset_of, number_answer, truth_answer};
 ghost use Rattle.obj_mem.specs.Table.{addresses_of};
 ghost use Rattle.obj_mem.specs.Values.{value_of};
 ghost use Rattle.object_memory.specs.Answers.{HasBase, seen};
@@ -8,12 +8,14 @@ ghost use Rattle.object_memory.specs.Memories.{IsSize};
 ghost use Rattle.tac_ir.specs.Effects.{work_of};
 ghost use Rattle.tac_run.specs.Holdings.{ops_of, with_store, Changes, Takes};
 
-use crate::frames::{base_at, frame_below, slot_offset};
 use ck_base::NoMemory;
 use ck_int::{CmpOp, IntKind, IntOp};
 use mean_types::{number_of, truth};
 use obj_mem::{Fault, Map, Mode, UnitFault, Value};
-use object_memory::{AllocateFault, Memory, alignment_mask_of, has_tag, permissions_of, rounded};
+use object_memory::{
+    AllocateFault, Memory, alignment_mask_of, base_at, frame_of, has_tag, local_offset,
+    permissions_of, rounded,
+};
 use std::alloc::Global;
 use std::marker::Model;
 use tac_ir::CapWork;
@@ -201,23 +203,14 @@ impl<'a> Held<'a> {
         Ok(())
     }
 
-    fn local_offset(&self, fun: u32, n: u64) -> u64
-        ensures { result ≡ local_offset (slice_get self.now.map.frames fun) n }
-    {
-        match self.map.frames.as_slice().get(fun as usize) {
-            None => 0,
-            Some(f) => slot_offset(f, n),
-        }
-    }
-
     /// The next object: local n of a function whose frame has this address. It is dead before its block is entered.
     pub fn add_local(&mut self, frame: u64, fun: u32, n: u64, length: u64) -> Result<(), NoMemory>
         requires length { length ≤ 67108864 }
-        requires base { frame + local_offset (slice_get self.old.map.frames fun) n < 2 ^ 64 }
+        requires base { frame + offset_of (slice_get self.old.map.frames fun) n < 2 ^ 64 }
         ensures { OnOk result (self.new ≡ with_store self.old
             ((ops_of self.old).add_local self.old.store frame fun n length)) }
     {
-        let base = frame + self.local_offset(fun, n);
+        let base = frame + local_offset(self.map, fun, n);
         let object = self.memory.add(length, Some(base))?;
         self.memory.rest(object);
         Ok(())
@@ -244,9 +237,6 @@ impl<'a> Held<'a> {
     pub fn enter(&self, fun: u32, address: u64) -> Option<u64>
         ensures { result ≡ (ops_of self.now).enter fun address }
     {
-        match self.map.frames.as_slice().get(fun as usize) {
-            None => None,
-            Some(f) => frame_below(f, self.map.stack.0, address),
-        }
+        frame_of(self.map, fun, address)
     }
 }

@@ -7,10 +7,8 @@
 #![tactic(auto)]
 
 mod calls;
-mod compatibility;
 mod effects;
 mod faults;
-mod frames;
 mod held;
 mod operations;
 mod places;

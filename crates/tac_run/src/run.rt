@@ -4,8 +4,7 @@ ghost use Rattle.std.specs.Prelude.{◌≡◌, ℕ, ◌+◌, ◌^◌, ◌<◌, t
 ghost use Rattle.ck_base.specs.Calls.{seen};
 ghost use Rattle.obj_mem.specs.Values.{value_of};
 ghost use Rattle.mean_types.specs.Facts.{AreTypesOf};
-ghost use Rattle.tac_ir.specs.Integers.{up_to};
-ghost use Rattle.tac_ir.specs.Meaning.{code_of, is_label};
+ghost use Rattle.tac_ir.specs.Meaning.{code_of, is_label, up_to};
 ghost use Rattle.tac_ir.specs.WellFormed.{is_well_formed};
 ghost use Rattle.tac_steps.specs.Machine.{arrived, onward, jumped, paused, leads, with_answer, act_on, act};
 ghost use Rattle.tac_run.specs.Moments.{IsSound, Names};

@@ -1,7 +1,6 @@
 use Rattle.std.proofs.Common.{Ok, Err, rules}
 use Rattle.cheric_build.proofs.FileAnswers.{broken_file, built_of, refused_of}
 use Rattle.cheric_build.proofs.Once.{once}
-use Rattle.cheric_build.proofs.Rooms.{has_room}
 use Rattle.cheric_top.proofs.showing.build_program.Goals as goal
 
 pub returns-in_err-p-clause-refused : goal.returns-in_err-p-clause-refused
@@ -28,7 +27,7 @@ returns-clause-program c =
         syntax = t.syntax;
         reads = t.reads;
         types = t.types;
-        room = has_room c.in_ok-p.p t.syntax t.types front.sound built.within;
+        room = built.within;
         light = built.light;
       };
       built = built.built;

@@ -8,6 +8,9 @@ use Rattle.mean_run.proofs.calls.add_objects.Goals as goal
 pub vars-init : goal.vars-init
 vars-init g c = record { same = refl; count = sym (before_none c.args.vars.now); left = λ sized. refl }
 
+pub add_object-requires-clause-entered : goal.add_object-requires-clause-entered
+add_object-requires-clause-entered g c = rw c.vars.invariant.same c.requires.entered
+
 pub vars-preserved : goal.vars-preserved
 vars-preserved g c =
     let vars = c.args.vars.now in

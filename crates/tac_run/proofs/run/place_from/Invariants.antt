@@ -1,5 +1,5 @@
 use Rattle.std.proofs.Common.{◌≡◌, ◌+◌, ◌-◌, length, drop}
-use Rattle.tac_ir.specs.Integers.{up_to}
+use Rattle.tac_ir.specs.Meaning.{up_to}
 use Rattle.tac_run.proofs.run.place_from.Given as goal
 
 abbrev pub invariant-loop-i : goal.invariant-loop-i

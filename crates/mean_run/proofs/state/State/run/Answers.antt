@@ -1,11 +1,11 @@
 use Rattle.std.proofs.Common.{refl, ◌∙◌}
 use Rattle.ck_base.specs.Calls.{seen}
 use Rattle.mean_run.specs.Views.{moment_of}
-use Rattle.mean_run.proofs.Going.{begun, fewer, further, over, short}
+use Rattle.mean_run.proofs.Going.{bases_at, begun, fewer, further, over, reached, short}
 use Rattle.mean_run.proofs.state.State.run.Goals as goal
 
 pub acts-init : goal.acts-init
-acts-init g c = record { same = refl; going = begun _ _ _ _ _ c.requires.first }
+acts-init g c = record { same = refl; going = begun _ _ _ _ _ c.requires.first; reached = (0, c.requires.first) }
 
 pub acts-smaller : goal.acts-smaller
 acts-smaller g c =
@@ -23,7 +23,17 @@ acts-preserved g c =
       same = c.step.ensures.same ∙ c.acts.invariant.same;
       going = further _ _ _ _ _ next _ c.acts.invariant.going _ c.acts.invariant.same m'
           (c.in-Ok.ensures.does c.requires.fit);
+      reached = reached _ _ _ _ _ next _ c.acts.invariant.going _ c.acts.invariant.same m' c.acts.invariant.reached
+          (c.in-Ok.ensures.does c.requires.fit);
     }
+
+pub step-requires-clause-bases : goal.step-requires-clause-bases
+step-requires-clause-bases g c =
+    let ops = g.B.Operations.meaning c.args.m.now in
+    let held = g.B.Operations.held c.acts.m in
+    let t = moment_of c.args.s.now.p.now c.acts.self held in
+    bases_at ops c.args.s.now.p.now c.args.self.now.left (g.B.Operations.meaning c.acts.m) held t.values
+    c.acts.invariant.same (c.requires.bases t c.acts.invariant.reached)
 
 pub returns-in-Err-Ended : goal.returns-in-Err-Ended
 returns-in-Err-Ended g c =

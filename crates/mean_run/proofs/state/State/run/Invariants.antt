@@ -2,7 +2,7 @@ use Rattle.std.proofs.Common.{◌≡◌}
 use Rattle.ck_base.specs.Calls.{seen}
 use Rattle.mean_steps.specs.Weights.{acts_left}
 use Rattle.mean_run.specs.Views.{funs_of, moment_of}
-use Rattle.mean_run.proofs.Going.{Going}
+use Rattle.mean_run.proofs.Going.{Going, Reached}
 use Rattle.mean_run.proofs.state.State.run.Given as goal
 
 abbrev pub invariant-acts : goal.invariant-acts
@@ -16,6 +16,7 @@ invariant-acts g l =
     record {
       same : g.B.Operations.meaning l.m ≡ ops;
       going : Going ops p l.fn.self.left before after (moment_of p l.self (g.B.Operations.held l.m));
+      reached : Reached ops p l.fn.self.left (moment_of p l.self (g.B.Operations.held l.m));
     }
 
 abbrev pub decreases-acts : goal.decreases-acts

@@ -6,8 +6,16 @@ use Rattle.cheri_c_sem.specs.Types.{service_of}
 use Rattle.mean_steps.specs.Machine.{turned}
 use Rattle.mean_run.specs.Views.{funs_of, moment_of}
 use Rattle.mean_run.proofs.Finishing.{same_act}
-use Rattle.mean_run.proofs.Serving.{allocated_is, asked_is, does_stepped, is_asked, put_is, read_is, stepped_as}
+use Rattle.mean_run.proofs.Serving.{allocated_is, argument_base, asked_is, does_stepped, is_asked, put_is, read_is}
+use Rattle.mean_run.proofs.Serving.{stepped_as}
 use Rattle.mean_run.proofs.state.State.serve.Goals as goal
+
+pub intrinsic-requires-clause-base : goal.intrinsic-requires-clause-base
+intrinsic-requires-clause-base g c =
+    let ops = g.B.Operations.meaning c.args.m.now in
+    let held = g.B.Operations.held c.args.m.now in
+    argument_base ops held c.args.count (map value_of c.args.self.now.values) (value_of c.take_arguments-first.result.0)
+    c.take_arguments-first.ensures.first c.requires.bases
 
 pub returns-in-0-clause-does : goal.returns-in-0-clause-does
 returns-in-0-clause-does g c = λ p before.

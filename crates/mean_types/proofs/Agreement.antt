@@ -5,7 +5,7 @@ use Rattle.c_tree.specs.declared.typed.CType.{CType}
 use Rattle.c_tree.specs.declared.typed.CType.TheVariants.{Void, Int, Cap, Pointer, Array, Struct, Union, Function}
 use Rattle.c_tree.specs.declared.typed.CType.TheVariants.{Const, Incomplete}
 use Rattle.cheri_c_sem.specs.Compatible.{agree_of, agree_within}
-use Rattle.mean_run.specs.Variables.{looked_up}
+use Rattle.mean_types.specs.Parameters.{looked_up}
 
 level : (n : ℕ) (types : List CType) (b : Bool) (t u : ℕ) → (n ≡ 0 → ⊥)
     → agree_within n types b t u ≡ agree_of (agree_within (n - 1) types false) (agree_within (n - 1) types true)

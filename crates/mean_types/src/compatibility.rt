@@ -2,7 +2,7 @@
 ghost use Rattle.std.specs.Prelude.{◌≡◌, true, false, None, Some, MatchOption};
 ghost use Rattle.cheri_c_sem.specs.Compatible.{kind_number, same_bool, lengths_agree, all_agree, agree_of};
 ghost use Rattle.cheri_c_sem.specs.Compatible.{agree_within, compatible};
-ghost use Rattle.tac_run.specs.Lists.{looked_up};
+ghost use Rattle.mean_types.specs.Parameters.{looked_up};
 
 use c_tree::CType;
 use ck_int::IntKind;

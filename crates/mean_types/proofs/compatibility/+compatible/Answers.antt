@@ -1,5 +1,5 @@
-use Rattle.tac_run.proofs.Agreement.{none_within, none_first, none_second, both_there}
-use Rattle.tac_run.proofs.compatibility.+compatible.Goals as goal
+use Rattle.mean_types.proofs.Agreement.{none_within, none_first, none_second, both_there}
+use Rattle.mean_types.proofs.compatibility.+compatible.Goals as goal
 
 pub agree_within-returns-then-depth-eq0 : goal.agree_within-returns-then-depth-eq0
 agree_within-returns-then-depth-eq0 t c =

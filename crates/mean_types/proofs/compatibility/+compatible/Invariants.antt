@@ -1,6 +1,6 @@
 use Rattle.std.proofs.Common.{◌≡◌, true, ◌+◌, ◌*◌, length}
 use Rattle.cheri_c_sem.specs.Compatible.{all_agree, agree_within}
-use Rattle.tac_run.proofs.compatibility.+compatible.Given as goal
+use Rattle.mean_types.proofs.compatibility.+compatible.Given as goal
 
 abbrev pub decreases-agree_at : goal.decreases-agree_at
 decreases-agree_at l = 3 * l.depth + 2
