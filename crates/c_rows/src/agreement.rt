@@ -2,7 +2,7 @@
 //! leaves.
 ghost use Rattle.std.specs.Prelude.{◌≡◌, ◌<◌, true, length};
 
-use crate::given::{got, with_types};
+use crate::given::with_types;
 use c_interner::{Lengths, Numbers, agree, append, next_number};
 use c_tree::{CType, Typed};
 use ck_base::{NoMemory, Sequence};
@@ -97,20 +97,25 @@ fn small_types(alloc: Global) -> Result<Typed, NoMemory> {
     Ok(with_types(alloc, types))
 }
 
-fn numbers_of(numbers: &mut Numbers, p: &mut Typed, of: u32) -> Result<(u32, u32), NoMemory> {
-    let int = numbers.number_of(p, INT)?;
-    let pointer = numbers.number_of(p, CType::Pointer(of))?;
-    Ok((int, pointer))
+// The pointed types of a call and the numbers of the pointers.
+const NUMBERED: [(u32, u32); 4] = [(0, 1), (1, 2), (0, 1), (1, 2)];
+
+fn have_one_number(alloc: Global) -> Result<bool, NoMemory> {
+    let mut p = with_types(alloc, Vec::new(alloc));
+    let mut numbers = Numbers::new(alloc);
+    for &(of, expected) in &NUMBERED {
+        let int = numbers.number_of(&mut p, CType::Int(IntKind::I32, 0))?;
+        let pointer = numbers.number_of(&mut p, CType::Pointer(of))?;
+        if int != 0 || pointer != expected {
+            return Ok(false);
+        }
+    }
+    Ok(true)
 }
 
 #[test]
 fn equal_types_have_one_number(rt: HostRuntime) {
-    let mut p = with_types(rt.alloc(), Vec::new(rt.alloc()));
-    let mut numbers = Numbers::new(rt.alloc());
-    for (of, expected) in [(0, 1), (1, 2), (0, 1), (1, 2)] {
-        let (int, pointer) = got(&rt, numbers_of(&mut numbers, &mut p, of));
-        assert!(rt; int == 0 && pointer == expected, "a pointer to {of}");
-    }
+    assert!(rt; have_one_number(rt.alloc()).unwrap_or(false));
 }
 
 // Two of the small types, and whether they are equal, and compatible.
@@ -130,13 +135,19 @@ fn agreements(alloc: Global, p: &Typed, a: u32, b: u32) -> Result<(bool, bool), 
     Ok((equal, compatible))
 }
 
+fn are_agreed(alloc: Global) -> Result<bool, NoMemory> {
+    let p = small_types(alloc)?;
+    for &(a, b, equal, compatible) in &AGREEMENTS {
+        if agreements(alloc, &p, a, b)? != (equal, compatible) {
+            return Ok(false);
+        }
+    }
+    Ok(true)
+}
+
 #[test]
 fn types_agree(rt: HostRuntime) {
-    let p = got(&rt, small_types(rt.alloc()));
-    for &(a, b, equal, compatible) in &AGREEMENTS {
-        let found = got(&rt, agreements(rt.alloc(), &p, a, b));
-        assert!(rt; found == (equal, compatible), "{a} and {b}");
-    }
+    assert!(rt; are_agreed(rt.alloc()).unwrap_or(false));
 }
 
 // Two of the small types, and the length at the bottom of their composite.
@@ -162,14 +173,20 @@ fn composed(
     Ok((bottom(p.types.as_slice(), c).0, compatible))
 }
 
+fn are_composed(alloc: Global) -> Result<bool, NoMemory> {
+    let mut p = small_types(alloc)?;
+    let mut numbers = Numbers::new(alloc);
+    for &(a, b, length) in &COMPOSITES {
+        if composed(alloc, &mut numbers, &mut p, a, b)? != (length, true) {
+            return Ok(false);
+        }
+    }
+    Ok(true)
+}
+
 #[test]
 fn a_composite_knows_each_length(rt: HostRuntime) {
-    let mut p = got(&rt, small_types(rt.alloc()));
-    let mut numbers = Numbers::new(rt.alloc());
-    for &(a, b, length) in &COMPOSITES {
-        let found = got(&rt, composed(rt.alloc(), &mut numbers, &mut p, a, b));
-        assert!(rt; found == (length, true), "{a} and {b}");
-    }
+    assert!(rt; are_composed(rt.alloc()).unwrap_or(false));
 }
 
 // What is said of two types, and the bottom of their composite.
@@ -197,29 +214,27 @@ fn only_lengths_differ(c: Compared, levels: usize) -> bool {
     !c.equal && c.compatible && c.length == 4 && c.levels == levels
 }
 
-fn doublings_compared(alloc: Global, p: &mut Typed) -> Result<Compared, NoMemory> {
-    let a = doubling(alloc, p, 1)?;
-    let b = doubling(alloc, p, 2)?;
-    compare(alloc, p, a, b)
+fn doublings_compared(alloc: Global) -> Result<bool, NoMemory> {
+    let mut p = small_types(alloc)?;
+    let a = doubling(alloc, &mut p, 1)?;
+    let b = doubling(alloc, &mut p, 2)?;
+    let compared = compare(alloc, &mut p, a, b)?;
+    Ok(only_lengths_differ(compared, 121) && p.types.as_slice().len() < 400)
 }
 
 #[test]
 fn types_with_many_leaves(rt: HostRuntime) {
-    let mut p = got(&rt, small_types(rt.alloc()));
-    let compared = got(&rt, doublings_compared(rt.alloc(), &mut p));
-    assert!(rt; only_lengths_differ(compared, 121));
-    assert!(rt; p.types.as_slice().len() < 400);
+    assert!(rt; doublings_compared(rt.alloc()).unwrap_or(false));
 }
 
-fn pointers_compared(alloc: Global, p: &mut Typed) -> Result<Compared, NoMemory> {
-    let a = pointers(alloc, p, 1)?;
-    let b = pointers(alloc, p, 2)?;
-    compare(alloc, p, a, b)
+fn pointers_compared(alloc: Global) -> Result<bool, NoMemory> {
+    let mut p = small_types(alloc)?;
+    let a = pointers(alloc, &mut p, 1)?;
+    let b = pointers(alloc, &mut p, 2)?;
+    Ok(only_lengths_differ(compare(alloc, &mut p, a, b)?, 100_000))
 }
 
 #[test]
 fn deep_types(rt: HostRuntime) {
-    let mut p = got(&rt, small_types(rt.alloc()));
-    let compared = got(&rt, pointers_compared(rt.alloc(), &mut p));
-    assert!(rt; only_lengths_differ(compared, 100_000));
+    assert!(rt; pointers_compared(rt.alloc()).unwrap_or(false));
 }

@@ -1,12 +1,11 @@
 //! Types, tags and declarations: each call on known values, and types that are large in number or depth.
-use crate::given::{got, none, with_types};
+use crate::given::{none, with_types};
 use c_tree::{CType, Member, RecordKind, Typed, VarDef};
 use c_types::{Decl, DeclKind, Entry, Faults, Scopes, Storage, TagKind};
 use cap_layout::{Layout, LayoutFault};
-use ck_base::{Pos, Refusal, Span};
+use ck_base::{NoMemory, Pos, Refusal, Span};
 use ck_int::IntKind;
 use std::alloc::Global;
-use std::process::Abort;
 
 const PLACE: Pos = Pos { line: 1, col: 1 };
 
@@ -18,20 +17,16 @@ const SOUND: Faults = Faults {
     too_large: false,
 };
 
-// A program with no types of its own.
-fn nothing(alloc: Global) -> Typed {
-    with_types(alloc, Vec::new(alloc))
+// Scopes of a file, and a program with the types that they begin with.
+fn begun<'a>(alloc: Global, file: &'a [u8]) -> Result<(Scopes<'a>, Typed), NoMemory> {
+    let mut p = with_types(alloc, Vec::new(alloc));
+    let scopes = Scopes::new(alloc, &mut p, file)?;
+    Ok((scopes, p))
 }
 
-fn begun<'a>(rt: &impl Abort, alloc: Global, p: &mut Typed, file: &'a [u8]) -> Scopes<'a> {
-    got(rt, Scopes::new(alloc, p, file))
-}
-
-// The scopes are let go, here for all tests.
-fn end(_scopes: Scopes) {}
-
-fn number(rt: &impl Abort, scopes: &mut Scopes, p: &mut Typed, c: CType) -> u32 {
-    got(rt, scopes.number_of(p, c))
+// Whether a test of scopes passes, with an answer for want of memory and refusals.
+fn passes(answer: Result<bool, Refusal>) -> bool {
+    answer == Ok(true)
 }
 
 // The type of a struct or union by the number of its tag, if it is the newest type.
@@ -62,6 +57,15 @@ const KNOWN: [(&[u8], Option<Entry>); 4] = [
     (b"__builtin_putchar", None),
 ];
 
+fn are_known(scopes: &Scopes) -> bool {
+    for &(name, entry) in &KNOWN {
+        if !denotes(scopes, name, entry) {
+            return false;
+        }
+    }
+    matches!(scopes.find(b"uint16_t"), Some(Entry::Typedef(_)))
+}
+
 fn answers_constant(scopes: &mut Scopes, value: i32, answer: Result<Entry, Refusal>) -> bool {
     let name = Decl {
         name: NAME,
@@ -75,149 +79,143 @@ fn answers_constant(scopes: &mut Scopes, value: i32, answer: Result<Entry, Refus
     scopes.declare_constant(name, value) == answer
 }
 
-fn a_constant_is_declared_once(rt: &impl Abort, scopes: &mut Scopes) {
-    assert!(rt; answers_constant(scopes, -7, Ok(Entry::Constant(-7))));
-    assert!(rt; denotes(scopes, b"x", Some(Entry::Constant(-7))));
-    assert!(rt; answers_constant(scopes, 8, Err(Refusal::Code(131, PLACE))));
+fn is_constant_declared_once(scopes: &mut Scopes) -> bool {
+    answers_constant(scopes, -7, Ok(Entry::Constant(-7)))
+        && denotes(scopes, b"x", Some(Entry::Constant(-7)))
+        && answers_constant(scopes, 8, Err(Refusal::Code(131, PLACE)))
 }
 
-// A name of the outermost scope is not of the block's, which is closed, open again and left.
-fn a_block_ends(rt: &impl Abort, scopes: &mut Scopes) {
-    assert!(rt; denotes(scopes, b"exit", Some(Entry::Library(3))));
-    assert!(rt; scopes.look_here(b"exit").is_none());
-    assert!(rt; scopes.find_tag(b"exit").is_none());
-    let scope = scopes.close();
-    assert!(rt; scopes.look_here(b"exit").is_some());
-    if let Some(scope) = scope {
-        got(rt, scopes.reopen(scope));
+// A name of the outermost scope is not of the block's.
+fn is_in_block(scopes: &Scopes) -> bool {
+    denotes(scopes, b"exit", Some(Entry::Library(3)))
+        && scopes.look_here(b"exit").is_none()
+        && scopes.find_tag(b"exit").is_none()
+}
+
+fn is_outside(scopes: &Scopes) -> bool {
+    scopes.look_here(b"exit").is_some()
+        && scopes.look_tag(b"exit").is_none()
+        && scopes.look_tag_here(b"exit").is_none()
+}
+
+// The block is closed, open again and left.
+fn closes(scopes: &mut Scopes) -> Result<bool, NoMemory> {
+    let closed = scopes.close();
+    let is_closed = scopes.look_here(b"exit").is_some();
+    if let Some(scope) = closed {
+        scopes.reopen(scope)?;
     }
     scopes.leave();
-    assert!(rt; scopes.look_here(b"exit").is_some());
-    assert!(rt; scopes.look_tag(b"exit").is_none());
-    assert!(rt; scopes.look_tag_here(b"exit").is_none());
+    Ok(is_closed)
+}
+
+fn knows_names(alloc: Global) -> Result<bool, Refusal> {
+    let (mut scopes, _p) = begun(alloc, b"x")?;
+    let known = are_known(&scopes);
+    scopes.enter()?;
+    let in_block = is_constant_declared_once(&mut scopes) && is_in_block(&scopes);
+    let closed = closes(&mut scopes)?;
+    Ok(known && in_block && closed && is_outside(&scopes))
 }
 
 #[test]
 fn names_are_known(rt: HostRuntime) {
-    let mut p = nothing(rt.alloc());
-    let mut scopes = begun(&rt, rt.alloc(), &mut p, b"x");
-    for &(name, entry) in &KNOWN {
-        assert!(rt; denotes(&scopes, name, entry), "{name:?}");
-    }
-    assert!(rt; matches!(scopes.find(b"uint16_t"), Some(Entry::Typedef(_))));
-    got(&rt, scopes.enter());
-    a_constant_is_declared_once(&rt, &mut scopes);
-    a_block_ends(&rt, &mut scopes);
-    end(scopes);
+    assert!(rt; passes(knows_names(rt.alloc())));
 }
 
 // Pointers in one another to a type, made by turns in two rows of the same.
-fn rows_of_pointers(rt: &impl Abort, scopes: &mut Scopes, p: &mut Typed, of: u32) -> (u32, u32) {
+fn rows_of_pointers(scopes: &mut Scopes, p: &mut Typed, of: u32) -> Result<(u32, u32), NoMemory> {
     let mut first = of;
     let mut second = of;
     for _ in 0..100_000 {
-        first = number(rt, scopes, p, CType::Pointer(first));
-        second = number(rt, scopes, p, CType::Pointer(second));
+        first = scopes.number_of(p, CType::Pointer(first))?;
+        second = scopes.number_of(p, CType::Pointer(second))?;
     }
-    (first, second)
+    Ok((first, second))
 }
 
 // Arrays and the words `const` in one another around a type.
-fn arrays(rt: &impl Abort, scopes: &mut Scopes, p: &mut Typed, of: u32) -> u32 {
+fn arrays(scopes: &mut Scopes, p: &mut Typed, of: u32) -> Result<u32, NoMemory> {
     let mut inner = of;
     for _ in 0..100_000 {
-        inner = number(rt, scopes, p, CType::Array(inner, 1));
-        inner = number(rt, scopes, p, CType::Const(inner));
+        inner = scopes.number_of(p, CType::Array(inner, 1))?;
+        inner = scopes.number_of(p, CType::Const(inner))?;
     }
-    inner
+    Ok(inner)
 }
 
-fn have_one_number(rt: &impl Abort, scopes: &mut Scopes, p: &mut Typed) {
-    let char = number(rt, scopes, p, CType::Int(IntKind::U8, 0));
-    let other = number(rt, scopes, p, CType::Int(IntKind::U8, 1));
-    assert!(rt; char != other);
-    let (first, second) = rows_of_pointers(rt, scopes, p, char);
-    assert!(rt; first == second);
-    assert!(rt; is_laid_out(scopes, p, first, 16, 16));
-    let array = arrays(rt, scopes, p, second);
-    assert!(rt; is_laid_out(scopes, p, array, 16, 16));
-    assert!(rt; scopes.is_complete(p, array));
+fn have_one_number(alloc: Global) -> Result<bool, Refusal> {
+    let (mut scopes, mut p) = begun(alloc, b"x")?;
+    let char = scopes.number_of(&mut p, CType::Int(IntKind::U8, 0))?;
+    let other = scopes.number_of(&mut p, CType::Int(IntKind::U8, 1))?;
+    let (first, second) = rows_of_pointers(&mut scopes, &mut p, char)?;
+    let array = arrays(&mut scopes, &mut p, second)?;
+    Ok(
+        char != other
+            && first == second
+            && is_laid_out(&scopes, &p, first, 16, 16)
+            && is_laid_out(&scopes, &p, array, 16, 16)
+            && scopes.is_complete(&p, array),
+    )
 }
 
 #[test]
 fn equal_types_have_one_number(rt: HostRuntime) {
-    let mut p = nothing(rt.alloc());
-    let mut scopes = begun(&rt, rt.alloc(), &mut p, b"x");
-    have_one_number(&rt, &mut scopes, &mut p);
-    end(scopes);
+    assert!(rt; passes(have_one_number(rt.alloc())));
 }
 
 // A struct or union of so many members of a type.
 fn record(
-    rt: &impl Abort,
     alloc: Global,
     scopes: &mut Scopes,
     p: &mut Typed,
     kind: RecordKind,
     of: u32,
     times: usize,
-) -> u32 {
-    let tag = got(rt, scopes.new_tag(p, kind));
+) -> Result<u32, Refusal> {
+    let tag = scopes.new_tag(p, kind)?;
     let whole = newest(p);
-    got(rt, scopes.begin_tag(tag, PLACE));
-    let members = got(rt, vec![in alloc; Member { name: NAME, of }; times]);
-    got(rt, scopes.complete_tag(p, tag, members, PLACE));
-    whole
+    scopes.begin_tag(tag, PLACE)?;
+    let members = vec![in alloc; Member { name: NAME, of }; times]?;
+    scopes.complete_tag(p, tag, members, PLACE)?;
+    Ok(whole)
 }
 
-// Structs or unions in one another, each with the one before it as a member so many times.
-fn nested(
-    rt: &impl Abort,
-    alloc: Global,
-    scopes: &mut Scopes,
-    p: &mut Typed,
-    kind: RecordKind,
-    levels: u32,
-    times: usize,
-) -> u32 {
-    let mut of = number(rt, scopes, p, CType::Int(IntKind::I32, 0));
-    for _ in 0..levels {
-        of = record(rt, alloc, scopes, p, kind, of, times);
-    }
-    of
-}
+// The kind of records in one another, how many levels there are of them, how often each has the one before it, and the
+// bytes of the last.
+type Nested = (RecordKind, u32, usize, u64);
 
-// The kind of records, how many levels there are of them, how often each has the one before it, and the bytes of the
-// last.
-const NESTED: [(RecordKind, u32, usize, u64); 3] = [
+const NESTED: [Nested; 3] = [
     (RecordKind::Struct, 10_000, 1, 4),
     (RecordKind::Union, 40, 2, 4),
     (RecordKind::Struct, 2, 3, 36),
 ];
 
-fn have_layouts(rt: &impl Abort, alloc: Global, scopes: &mut Scopes, p: &mut Typed) {
-    for &(kind, levels, times, size) in &NESTED {
-        let whole = nested(rt, alloc, scopes, p, kind, levels, times);
-        assert!(rt; is_laid_out(scopes, p, whole, size, 4), "{levels} levels");
+fn is_nested(alloc: Global, &(kind, levels, times, size): &Nested) -> Result<bool, Refusal> {
+    let (mut scopes, mut p) = begun(alloc, b"x")?;
+    let mut of = scopes.number_of(&mut p, CType::Int(IntKind::I32, 0))?;
+    for _ in 0..levels {
+        of = record(alloc, &mut scopes, &mut p, kind, of, times)?;
     }
+    Ok(is_laid_out(&scopes, &p, of, size, 4))
 }
 
-fn a_struct_is_begun_once(rt: &impl Abort, scopes: &mut Scopes, p: &mut Typed) {
-    let tag = got(rt, scopes.new_tag(p, RecordKind::Struct));
-    let open = newest(p);
-    assert!(rt; scopes.layout(p, open) == Err(LayoutFault::Incomplete));
-    assert!(rt; !scopes.is_complete(p, open));
-    got(rt, scopes.begin_tag(tag, PLACE));
-    assert!(rt; scopes.begin_tag(tag, PLACE).is_err());
+fn is_begun_once(alloc: Global) -> Result<bool, Refusal> {
+    let (mut scopes, mut p) = begun(alloc, b"x")?;
+    let tag = scopes.new_tag(&mut p, RecordKind::Struct)?;
+    let open = newest(&p);
+    let is_open = scopes.layout(&p, open) == Err(LayoutFault::Incomplete);
+    let is_incomplete = !scopes.is_complete(&p, open);
+    scopes.begin_tag(tag, PLACE)?;
+    Ok(is_open && is_incomplete && scopes.begin_tag(tag, PLACE).is_err())
 }
 
 #[test]
 fn records_have_layouts(rt: HostRuntime) {
-    let mut p = nothing(rt.alloc());
-    let mut scopes = begun(&rt, rt.alloc(), &mut p, b"x");
-    have_layouts(&rt, rt.alloc(), &mut scopes, &mut p);
-    a_struct_is_begun_once(&rt, &mut scopes, &mut p);
-    end(scopes);
+    for row in &NESTED {
+        assert!(rt; passes(is_nested(rt.alloc(), row)), "{} levels", row.1);
+    }
+    assert!(rt; passes(is_begun_once(rt.alloc())));
 }
 
 fn declared_tag(scopes: &mut Scopes, p: &mut Typed, kind: TagKind) -> Result<Entry, Refusal> {
@@ -237,11 +235,14 @@ fn is_refused(answer: Result<Entry, Refusal>, code: u16) -> bool {
     answer == Err(Refusal::Code(code, PLACE))
 }
 
-fn a_tag_is_declared_once(rt: &impl Abort, scopes: &mut Scopes, p: &mut Typed) {
-    let entry = got(rt, declared_tag(scopes, p, TagKind::Struct));
-    assert!(rt; scopes.find_tag(b"x") == Some(entry));
-    assert!(rt; is_refused(declared_tag(scopes, p, TagKind::Struct), 131));
-    assert!(rt; is_refused(declared_tag(scopes, p, TagKind::Enum), 133));
+fn is_tag_declared_once(alloc: Global) -> Result<bool, Refusal> {
+    let (mut scopes, mut p) = begun(alloc, b"x")?;
+    let entry = declared_tag(&mut scopes, &mut p, TagKind::Struct)?;
+    Ok(
+        scopes.find_tag(b"x") == Some(entry)
+            && is_refused(declared_tag(&mut scopes, &mut p, TagKind::Struct), 131)
+            && is_refused(declared_tag(&mut scopes, &mut p, TagKind::Enum), 133),
+    )
 }
 
 fn local(of: u32) -> VarDef {
@@ -253,52 +254,91 @@ fn local(of: u32) -> VarDef {
     }
 }
 
-fn locals_are_taken(rt: &impl Abort, scopes: &mut Scopes) {
-    got(rt, scopes.add_parameter(local(0)));
-    got(rt, scopes.complete_local(0, 1, NAME));
-    assert!(rt; denotes(scopes, b"x", Some(Entry::Var(0))));
-    assert!(rt; scopes.take_locals().len() == 1);
-    assert!(rt; scopes.take_locals().is_empty());
+fn are_locals_taken(alloc: Global) -> Result<bool, Refusal> {
+    let (mut scopes, _p) = begun(alloc, b"x")?;
+    scopes.add_parameter(local(0))?;
+    scopes.complete_local(0, 1, NAME)?;
+    Ok(
+        denotes(&scopes, b"x", Some(Entry::Var(0)))
+            && scopes.take_locals().len() == 1
+            && scopes.take_locals().is_empty(),
+    )
 }
 
 #[test]
 fn tags_and_locals_are_declared(rt: HostRuntime) {
-    let mut p = nothing(rt.alloc());
-    let mut scopes = begun(&rt, rt.alloc(), &mut p, b"x");
-    a_tag_is_declared_once(&rt, &mut scopes, &mut p);
-    locals_are_taken(&rt, &mut scopes);
-    end(scopes);
+    assert!(rt; passes(is_tag_declared_once(rt.alloc())));
+    assert!(rt; passes(are_locals_taken(rt.alloc())));
 }
 
-// The names of the table, one byte each, in the file that it is declared over.
+// The names of the tables, one byte each, in the file that they are declared over.
 const NAMES: &[u8] = b"abfgtzuv";
 
+// A type that the tables name.
+#[derive(Clone, Copy)]
+enum Of {
+    Int,
+    Char,
+    // Arrays of `int`: of a length that is not known, and of ten.
+    Open,
+    Ten,
+    // Functions without parameters: that give an `int`, and a `char`.
+    Call,
+    Other,
+}
+
+// The numbers of these types.
 #[derive(Clone, Copy)]
 struct Kinds {
     int: u32,
     char: u32,
-    /// Arrays of `int`: of a length that is not known, and of ten.
     open: u32,
     ten: u32,
-    /// Functions without parameters: that give an `int`, and a `char`.
     call: u32,
     other: u32,
 }
 
-fn known_kinds(rt: &impl Abort, alloc: Global, scopes: &mut Scopes, p: &mut Typed) -> Kinds {
-    let int = number(rt, scopes, p, CType::Int(IntKind::I32, 0));
-    let char = number(rt, scopes, p, CType::Int(IntKind::U8, 0));
-    let open = number(rt, scopes, p, CType::Array(int, 0));
-    let ten = number(rt, scopes, p, CType::Array(int, 10));
-    let call = number(rt, scopes, p, CType::Function(int, none(alloc)));
-    let other = number(rt, scopes, p, CType::Function(char, none(alloc)));
-    Kinds {
+fn known_kinds(alloc: Global, scopes: &mut Scopes, p: &mut Typed) -> Result<Kinds, NoMemory> {
+    let int = scopes.number_of(p, CType::Int(IntKind::I32, 0))?;
+    let char = scopes.number_of(p, CType::Int(IntKind::U8, 0))?;
+    let open = scopes.number_of(p, CType::Array(int, 0))?;
+    let ten = scopes.number_of(p, CType::Array(int, 10))?;
+    let call = scopes.number_of(p, CType::Function(int, none(alloc)))?;
+    let other = scopes.number_of(p, CType::Function(char, none(alloc)))?;
+    Ok(Kinds {
         int,
         char,
         open,
         ten,
         call,
         other,
+    })
+}
+
+fn number(k: Kinds, of: Of) -> u32 {
+    match of {
+        Of::Int => k.int,
+        Of::Char => k.char,
+        Of::Open => k.open,
+        Of::Ten => k.ten,
+        Of::Call => k.call,
+        Of::Other => k.other,
+    }
+}
+
+// What a declaration gives: an entry, or the code at the name.
+#[derive(Clone, Copy)]
+enum Given {
+    Entry(Entry),
+    Typedef(Of),
+    Refused(u16),
+}
+
+fn answer(k: Kinds, at: u32, given: Given) -> Result<Entry, Refusal> {
+    match given {
+        Given::Entry(entry) => Ok(entry),
+        Given::Typedef(of) => Ok(Entry::Typedef(number(k, of))),
+        Given::Refused(code) => Err(Refusal::Code(code, Pos { line: 1, col: at })),
     }
 }
 
@@ -317,303 +357,484 @@ fn named(at: u32, of: u32, what: DeclKind, storage: Storage, defines: bool) -> D
     }
 }
 
-fn refused(code: u16, at: u32) -> Result<Entry, Refusal> {
-    Err(Refusal::Code(code, Pos { line: 1, col: at }))
+// The place of a name, its type, what is declared, its storage and whether it is defined; and what is given.
+type Row = (u32, Of, DeclKind, Storage, bool, Given);
+
+// Scopes of the names, a program, and the numbers of the types.
+#[derive(Drop)]
+struct Declaring {
+    scopes: Scopes<'static>,
+    p: Typed,
+    k: Kinds,
 }
 
-type Row = (Decl, Result<Entry, Refusal>);
-
-fn answers(scopes: &mut Scopes, p: &mut Typed, d: Decl, answer: Result<Entry, Refusal>) -> bool {
-    scopes.declare(p, d) == answer
+fn names_to_declare(alloc: Global) -> Result<Declaring, NoMemory> {
+    let (mut scopes, mut p) = begun(alloc, NAMES)?;
+    let k = known_kinds(alloc, &mut scopes, &mut p)?;
+    Ok(Declaring { scopes, p, k })
 }
 
-// Each declaration has its answer.
-fn declare_all(rt: &impl Abort, scopes: &mut Scopes, p: &mut Typed, rows: &[Row]) {
-    for (d, answer) in rows {
-        let at = d.pos.col;
-        assert!(rt; answers(scopes, p, *d, *answer), "{answer:?} of name {at}");
+fn is_declared(d: &mut Declaring, &(at, of, what, storage, defines, given): &Row) -> bool {
+    let name = named(at, number(d.k, of), what, storage, defines);
+    d.scopes.declare(&mut d.p, name) == answer(d.k, at, given)
+}
+
+fn are_declared(d: &mut Declaring, rows: &[Row]) -> bool {
+    for row in rows {
+        if !is_declared(d, row) {
+            return false;
+        }
     }
+    true
 }
 
-fn objects(k: Kinds) -> [Row; 7] {
-    let object = DeclKind::Object;
-    let plain = Storage::Plain;
-    [
-        (named(0, k.int, object, plain, false), Ok(Entry::Global(0))),
-        (
-            named(0, k.int, object, Storage::Static, true),
-            Ok(Entry::Global(0)),
-        ),
-        (
-            named(0, k.char, object, Storage::Extern, false),
-            refused(131, 0),
-        ),
-        (
-            named(0, k.call, DeclKind::Fun, plain, false),
-            refused(131, 0),
-        ),
-        (
-            named(1, k.open, object, Storage::Extern, false),
-            Ok(Entry::Global(1)),
-        ),
-        (named(1, k.ten, object, plain, false), Ok(Entry::Global(1))),
-        (named(1, k.open, object, plain, false), Ok(Entry::Global(1))),
-    ]
+const OBJECTS: [Row; 7] = [
+    (
+        0,
+        Of::Int,
+        DeclKind::Object,
+        Storage::Plain,
+        false,
+        Given::Entry(Entry::Global(0)),
+    ),
+    (
+        0,
+        Of::Int,
+        DeclKind::Object,
+        Storage::Static,
+        true,
+        Given::Entry(Entry::Global(0)),
+    ),
+    (
+        0,
+        Of::Char,
+        DeclKind::Object,
+        Storage::Extern,
+        false,
+        Given::Refused(131),
+    ),
+    (
+        0,
+        Of::Call,
+        DeclKind::Fun,
+        Storage::Plain,
+        false,
+        Given::Refused(131),
+    ),
+    (
+        1,
+        Of::Open,
+        DeclKind::Object,
+        Storage::Extern,
+        false,
+        Given::Entry(Entry::Global(1)),
+    ),
+    (
+        1,
+        Of::Ten,
+        DeclKind::Object,
+        Storage::Plain,
+        false,
+        Given::Entry(Entry::Global(1)),
+    ),
+    (
+        1,
+        Of::Open,
+        DeclKind::Object,
+        Storage::Plain,
+        false,
+        Given::Entry(Entry::Global(1)),
+    ),
+];
+
+const FUNCTIONS: [Row; 7] = [
+    (
+        2,
+        Of::Call,
+        DeclKind::Fun,
+        Storage::Plain,
+        false,
+        Given::Entry(Entry::Fun(0)),
+    ),
+    (
+        2,
+        Of::Call,
+        DeclKind::Fun,
+        Storage::Plain,
+        true,
+        Given::Entry(Entry::Fun(0)),
+    ),
+    (
+        2,
+        Of::Call,
+        DeclKind::Fun,
+        Storage::Plain,
+        true,
+        Given::Refused(131),
+    ),
+    (
+        2,
+        Of::Call,
+        DeclKind::Object,
+        Storage::Plain,
+        false,
+        Given::Entry(Entry::Fun(0)),
+    ),
+    (
+        2,
+        Of::Other,
+        DeclKind::Fun,
+        Storage::Plain,
+        false,
+        Given::Refused(131),
+    ),
+    (
+        3,
+        Of::Call,
+        DeclKind::Fun,
+        Storage::Typedef,
+        true,
+        Given::Refused(133),
+    ),
+    (
+        3,
+        Of::Call,
+        DeclKind::Fun,
+        Storage::Plain,
+        false,
+        Given::Entry(Entry::Fun(1)),
+    ),
+];
+
+const ALIASES: [Row; 5] = [
+    (
+        4,
+        Of::Open,
+        DeclKind::Typedef,
+        Storage::Typedef,
+        false,
+        Given::Typedef(Of::Open),
+    ),
+    (
+        4,
+        Of::Open,
+        DeclKind::Object,
+        Storage::Typedef,
+        false,
+        Given::Typedef(Of::Open),
+    ),
+    (
+        4,
+        Of::Ten,
+        DeclKind::Object,
+        Storage::Typedef,
+        false,
+        Given::Refused(131),
+    ),
+    (
+        5,
+        Of::Open,
+        DeclKind::Object,
+        Storage::Typedef,
+        true,
+        Given::Refused(133),
+    ),
+    (
+        5,
+        Of::Int,
+        DeclKind::Constant(3),
+        Storage::Plain,
+        false,
+        Given::Entry(Entry::Constant(3)),
+    ),
+];
+
+fn has_two_of_each(d: &Declaring) -> bool {
+    d.scopes.type_of_object(&d.p, 1) == Some(d.k.ten)
+        && d.scopes.type_of_function(&d.p, 1) == Some(d.k.call)
+        && d.scopes.is_defined(1)
+        && d.p.globals.as_slice().len() == 2
+        && d.p.funs.as_slice().len() == 2
 }
 
-fn functions(k: Kinds) -> [Row; 7] {
-    let function = DeclKind::Fun;
-    let plain = Storage::Plain;
-    [
-        (named(2, k.call, function, plain, false), Ok(Entry::Fun(0))),
-        (named(2, k.call, function, plain, true), Ok(Entry::Fun(0))),
-        (named(2, k.call, function, plain, true), refused(131, 2)),
-        (
-            named(2, k.call, DeclKind::Object, plain, false),
-            Ok(Entry::Fun(0)),
-        ),
-        (named(2, k.other, function, plain, false), refused(131, 2)),
-        (
-            named(3, k.call, function, Storage::Typedef, true),
-            refused(133, 3),
-        ),
-        (named(3, k.call, function, plain, false), Ok(Entry::Fun(1))),
-    ]
-}
-
-fn aliases(k: Kinds) -> [Row; 5] {
-    let typedef = DeclKind::Typedef;
-    let storage = Storage::Typedef;
-    let object = DeclKind::Object;
-    let three = DeclKind::Constant(3);
-    [
-        (
-            named(4, k.open, typedef, storage, false),
-            Ok(Entry::Typedef(k.open)),
-        ),
-        (
-            named(4, k.open, object, storage, false),
-            Ok(Entry::Typedef(k.open)),
-        ),
-        (named(4, k.ten, object, storage, false), refused(131, 4)),
-        (named(5, k.open, object, storage, true), refused(133, 5)),
-        (
-            named(5, k.int, three, Storage::Plain, false),
-            Ok(Entry::Constant(3)),
-        ),
-    ]
-}
-
-fn file_scope_has_two_of_each(rt: &impl Abort, scopes: &Scopes, p: &Typed, k: Kinds) {
-    assert!(rt; scopes.type_of_object(p, 1) == Some(k.ten));
-    assert!(rt; scopes.type_of_function(p, 1) == Some(k.call));
-    assert!(rt; scopes.is_defined(1));
-    assert!(rt; p.globals.as_slice().len() == 2);
-    assert!(rt; p.funs.as_slice().len() == 2);
-}
-
-fn declare_at_file_scope(rt: &impl Abort, scopes: &mut Scopes, p: &mut Typed, k: Kinds) {
-    declare_all(rt, scopes, p, &objects(k));
-    declare_all(rt, scopes, p, &functions(k));
-    declare_all(rt, scopes, p, &aliases(k));
+fn is_file_scope_declared(alloc: Global) -> bool {
+    let Ok(mut d) = names_to_declare(alloc) else {
+        return false;
+    };
+    are_declared(&mut d, &OBJECTS)
+        && are_declared(&mut d, &FUNCTIONS)
+        && are_declared(&mut d, &ALIASES)
+        && has_two_of_each(&d)
 }
 
 #[test]
 fn file_scope_is_declared(rt: HostRuntime) {
-    let mut p = nothing(rt.alloc());
-    let mut scopes = begun(&rt, rt.alloc(), &mut p, NAMES);
-    let k = known_kinds(&rt, rt.alloc(), &mut scopes, &mut p);
-    declare_at_file_scope(&rt, &mut scopes, &mut p, k);
-    file_scope_has_two_of_each(&rt, &scopes, &p, k);
-    end(scopes);
+    assert!(rt; is_file_scope_declared(rt.alloc()));
 }
 
-fn outside(k: Kinds) -> [Row; 2] {
-    let plain = Storage::Plain;
-    [
-        (
-            named(0, k.int, DeclKind::Object, plain, false),
-            Ok(Entry::Global(0)),
-        ),
-        (
-            named(2, k.call, DeclKind::Fun, plain, true),
-            Ok(Entry::Fun(0)),
-        ),
-    ]
+const OUTSIDE: [Row; 2] = [
+    (
+        0,
+        Of::Int,
+        DeclKind::Object,
+        Storage::Plain,
+        false,
+        Given::Entry(Entry::Global(0)),
+    ),
+    (
+        2,
+        Of::Call,
+        DeclKind::Fun,
+        Storage::Plain,
+        true,
+        Given::Entry(Entry::Fun(0)),
+    ),
+];
+
+const INSIDE: [Row; 13] = [
+    (
+        0,
+        Of::Int,
+        DeclKind::Object,
+        Storage::Extern,
+        false,
+        Given::Entry(Entry::Global(0)),
+    ),
+    (
+        0,
+        Of::Int,
+        DeclKind::Object,
+        Storage::Plain,
+        false,
+        Given::Refused(131),
+    ),
+    (
+        1,
+        Of::Open,
+        DeclKind::Object,
+        Storage::Extern,
+        false,
+        Given::Entry(Entry::Global(1)),
+    ),
+    (
+        2,
+        Of::Int,
+        DeclKind::Object,
+        Storage::Extern,
+        false,
+        Given::Refused(131),
+    ),
+    (
+        2,
+        Of::Int,
+        DeclKind::Object,
+        Storage::Plain,
+        true,
+        Given::Entry(Entry::Var(0)),
+    ),
+    (
+        3,
+        Of::Open,
+        DeclKind::Object,
+        Storage::Plain,
+        false,
+        Given::Refused(132),
+    ),
+    (
+        3,
+        Of::Open,
+        DeclKind::Object,
+        Storage::Plain,
+        true,
+        Given::Entry(Entry::Var(1)),
+    ),
+    (
+        4,
+        Of::Int,
+        DeclKind::Object,
+        Storage::Static,
+        false,
+        Given::Entry(Entry::Global(2)),
+    ),
+    (
+        4,
+        Of::Ten,
+        DeclKind::Object,
+        Storage::Static,
+        false,
+        Given::Refused(131),
+    ),
+    (
+        5,
+        Of::Call,
+        DeclKind::Fun,
+        Storage::Plain,
+        false,
+        Given::Refused(133),
+    ),
+    (
+        5,
+        Of::Int,
+        DeclKind::Object,
+        Storage::Extern,
+        true,
+        Given::Refused(133),
+    ),
+    (
+        5,
+        Of::Int,
+        DeclKind::Object,
+        Storage::Typedef,
+        false,
+        Given::Typedef(Of::Int),
+    ),
+    (
+        5,
+        Of::Int,
+        DeclKind::Object,
+        Storage::Typedef,
+        false,
+        Given::Refused(131),
+    ),
+];
+
+fn is_left(d: &mut Declaring) -> bool {
+    let is_open = d.scopes.type_of_local(1) == Some(d.k.open);
+    d.scopes.leave();
+    is_open
+        && denotes(&d.scopes, b"a", Some(Entry::Global(0)))
+        && denotes(&d.scopes, b"b", None)
+        && !d.scopes.is_defined(1)
 }
 
-fn inside(k: Kinds) -> [Row; 7] {
-    let object = DeclKind::Object;
-    let plain = Storage::Plain;
-    let external = Storage::Extern;
-    [
-        (
-            named(0, k.int, object, external, false),
-            Ok(Entry::Global(0)),
-        ),
-        (named(0, k.int, object, plain, false), refused(131, 0)),
-        (
-            named(1, k.open, object, external, false),
-            Ok(Entry::Global(1)),
-        ),
-        (named(2, k.int, object, external, false), refused(131, 2)),
-        (named(2, k.int, object, plain, true), Ok(Entry::Var(0))),
-        (named(3, k.open, object, plain, false), refused(132, 3)),
-        (named(3, k.open, object, plain, true), Ok(Entry::Var(1))),
-    ]
-}
-
-fn further(k: Kinds) -> [Row; 6] {
-    let object = DeclKind::Object;
-    let storage = Storage::Static;
-    let typedef = Storage::Typedef;
-    [
-        (
-            named(4, k.int, object, storage, false),
-            Ok(Entry::Global(2)),
-        ),
-        (named(4, k.ten, object, storage, false), refused(131, 4)),
-        (
-            named(5, k.call, DeclKind::Fun, Storage::Plain, false),
-            refused(133, 5),
-        ),
-        (
-            named(5, k.int, object, Storage::Extern, true),
-            refused(133, 5),
-        ),
-        (
-            named(5, k.int, object, typedef, false),
-            Ok(Entry::Typedef(k.int)),
-        ),
-        (named(5, k.int, object, typedef, false), refused(131, 5)),
-    ]
-}
-
-fn declare_outside(rt: &impl Abort, scopes: &mut Scopes, p: &mut Typed, k: Kinds) {
-    declare_all(rt, scopes, p, &outside(k));
-}
-
-fn declare_inside(rt: &impl Abort, scopes: &mut Scopes, p: &mut Typed, k: Kinds) {
-    got(rt, scopes.enter());
-    declare_all(rt, scopes, p, &inside(k));
-    declare_all(rt, scopes, p, &further(k));
-}
-
-fn leave_block(rt: &impl Abort, scopes: &mut Scopes, k: Kinds) {
-    assert!(rt; scopes.type_of_local(1) == Some(k.open));
-    scopes.leave();
-    assert!(rt; denotes(scopes, b"a", Some(Entry::Global(0))));
-    assert!(rt; denotes(scopes, b"b", None));
-    assert!(rt; !scopes.is_defined(1));
+fn is_block_declared(alloc: Global) -> bool {
+    let Ok(mut d) = names_to_declare(alloc) else {
+        return false;
+    };
+    are_declared(&mut d, &OUTSIDE)
+        && d.scopes.enter().is_ok()
+        && are_declared(&mut d, &INSIDE)
+        && is_left(&mut d)
 }
 
 #[test]
 fn blocks_are_declared(rt: HostRuntime) {
-    let mut p = nothing(rt.alloc());
-    let mut scopes = begun(&rt, rt.alloc(), &mut p, NAMES);
-    let k = known_kinds(&rt, rt.alloc(), &mut scopes, &mut p);
-    declare_outside(&rt, &mut scopes, &mut p, k);
-    declare_inside(&rt, &mut scopes, &mut p, k);
-    leave_block(&rt, &mut scopes, k);
-    end(scopes);
+    assert!(rt; is_block_declared(rt.alloc()));
 }
 
-fn a_global_is_filled(
-    rt: &impl Abort,
-    alloc: Global,
-    scopes: &mut Scopes,
-    p: &mut Typed,
-    k: Kinds,
-) {
-    scopes.complete_global(p, 0, k.char);
-    assert!(rt; scopes.type_of_object(p, 0) == Some(k.char));
-    let sevens = got(rt, vec![in alloc; 7u8]);
-    scopes.fill_global(p, 0, sevens, Vec::new(alloc));
-    let again = named(0, k.char, DeclKind::Object, Storage::Plain, true);
-    assert!(rt; answers(scopes, p, again, refused(131, 0)));
+const AGAIN: Row = (
+    0,
+    Of::Char,
+    DeclKind::Object,
+    Storage::Plain,
+    true,
+    Given::Refused(131),
+);
+
+fn is_global_filled(alloc: Global, d: &mut Declaring) -> Result<bool, Refusal> {
+    d.scopes.complete_global(&mut d.p, 0, d.k.char);
+    let is_complete = d.scopes.type_of_object(&d.p, 0) == Some(d.k.char);
+    let sevens = vec![in alloc; 7u8; 1]?;
+    d.scopes.fill_global(&mut d.p, 0, sevens, Vec::new(alloc));
+    Ok(is_complete && is_declared(d, &AGAIN))
 }
 
-fn a_function_is_filled(
-    rt: &impl Abort,
-    alloc: Global,
-    scopes: &mut Scopes,
-    p: &mut Typed,
-    k: Kinds,
-) {
-    got(rt, scopes.add_parameter(local(k.int)));
-    let locals = scopes.take_locals();
-    scopes.fill_function(p, 0, Vec::new(alloc), locals, 5);
-    assert!(rt; p.funs.as_slice().first().map(|f| f.body) == Some(5));
+fn is_function_filled(alloc: Global, d: &mut Declaring) -> Result<bool, Refusal> {
+    d.scopes.add_parameter(local(d.k.int))?;
+    let locals = d.scopes.take_locals();
+    d.scopes
+        .fill_function(&mut d.p, 0, Vec::new(alloc), locals, 5);
+    Ok(matches!(d.p.funs.as_slice(), [f] if f.body == 5))
+}
+
+fn are_filled(alloc: Global) -> bool {
+    let Ok(mut d) = names_to_declare(alloc) else {
+        return false;
+    };
+    are_declared(&mut d, &OUTSIDE)
+        && passes(is_global_filled(alloc, &mut d))
+        && passes(is_function_filled(alloc, &mut d))
 }
 
 #[test]
 fn what_was_declared_is_filled(rt: HostRuntime) {
-    let mut p = nothing(rt.alloc());
-    let mut scopes = begun(&rt, rt.alloc(), &mut p, NAMES);
-    let k = known_kinds(&rt, rt.alloc(), &mut scopes, &mut p);
-    declare_outside(&rt, &mut scopes, &mut p, k);
-    a_global_is_filled(&rt, rt.alloc(), &mut scopes, &mut p, k);
-    a_function_is_filled(&rt, rt.alloc(), &mut scopes, &mut p, k);
-    end(scopes);
+    assert!(rt; are_filled(rt.alloc()));
 }
 
-fn a_union_has_a_member(rt: &impl Abort, alloc: Global, scopes: &mut Scopes, p: &mut Typed) {
-    let of = number(rt, scopes, p, CType::Int(IntKind::I32, 0));
-    let tag = got(rt, scopes.new_tag(p, RecordKind::Union));
-    assert!(rt; scopes.members(p, tag).is_none());
-    let members = got(rt, vec![in alloc; Member { name: NAME, of }]);
-    got(rt, scopes.complete_tag(p, tag, members, PLACE));
-    assert!(rt; scopes.members(p, tag).map(|ms| ms.len()) == Some(1));
-    assert!(rt; matches!(scopes.kind_of_tag(tag), Some(RecordKind::Union)));
-    assert!(rt; scopes.kind_of_tag(1).is_none());
-    assert!(rt; scopes.tag_count() == 1);
+fn has_one_union(scopes: &Scopes, p: &Typed, tag: u32) -> bool {
+    matches!(scopes.members(p, tag), Some([_]))
+        && matches!(scopes.kind_of_tag(tag), Some(RecordKind::Union))
+        && scopes.kind_of_tag(1).is_none()
+        && scopes.tag_count() == 1
+}
+
+fn are_members_known(alloc: Global) -> Result<bool, Refusal> {
+    let (mut scopes, mut p) = begun(alloc, NAMES)?;
+    let of = scopes.number_of(&mut p, CType::Int(IntKind::I32, 0))?;
+    let tag = scopes.new_tag(&mut p, RecordKind::Union)?;
+    let has_none = scopes.members(&p, tag).is_none();
+    let members = vec![in alloc; Member { name: NAME, of }; 1]?;
+    scopes.complete_tag(&mut p, tag, members, PLACE)?;
+    Ok(has_none && has_one_union(&scopes, &p, tag))
 }
 
 #[test]
 fn members_are_known(rt: HostRuntime) {
-    let mut p = nothing(rt.alloc());
-    let mut scopes = begun(&rt, rt.alloc(), &mut p, NAMES);
-    a_union_has_a_member(&rt, rt.alloc(), &mut scopes, &mut p);
-    end(scopes);
+    assert!(rt; passes(are_members_known(rt.alloc())));
 }
 
-// The code of a declaration of an object whose type breaks rules.
-fn code_of(scopes: &mut Scopes, p: &mut Typed, at: u32, faults: Faults) -> u16 {
-    let mut d = named(at, 0, DeclKind::Object, Storage::Plain, false);
-    d.faults = faults;
-    match scopes.declare(p, d) {
-        Err(Refusal::Code(code, _)) => code,
-        _ => 0,
-    }
+// The place of a declaration of an object whose type breaks rules, which of them, in the order of `Faults`, and the code
+// that comes first.
+type Broken = (u32, (bool, bool, bool), u16);
+
+const LOWEST: [Broken; 3] = [
+    (6, (true, true, true), 132),
+    (6, (false, true, true), 133),
+    (6, (false, false, true), 140),
+];
+
+// A name that is declared stands before.
+const DECLARED: Row = (
+    7,
+    Of::Int,
+    DeclKind::Constant(1),
+    Storage::Plain,
+    false,
+    Given::Entry(Entry::Constant(1)),
+);
+
+const TWICE: [Broken; 1] = [(7, (false, false, true), 131)];
+
+fn has_code(d: &mut Declaring, &(at, (lacks, misfits, too_large), code): &Broken) -> bool {
+    let mut object = named(at, 0, DeclKind::Object, Storage::Plain, false);
+    object.faults = Faults {
+        lacks,
+        misfits,
+        too_large,
+    };
+    d.scopes.declare(&mut d.p, object) == Err(Refusal::Code(code, object.pos))
 }
 
-// Which rules a type breaks, in the order of `Faults`, and the code that comes first.
-const LOWEST: [(bool, bool, u16); 3] = [(true, true, 132), (false, true, 133), (false, false, 140)];
-
-fn have_codes(rt: &impl Abort, scopes: &mut Scopes, p: &mut Typed) {
-    for &(lacks, misfits, code) in &LOWEST {
-        let faults = Faults {
-            lacks,
-            misfits,
-            too_large: true,
-        };
-        assert!(rt; code_of(scopes, p, 6, faults) == code, "{code}");
+fn have_codes(d: &mut Declaring, rows: &[Broken]) -> bool {
+    for row in rows {
+        if !has_code(d, row) {
+            return false;
+        }
     }
+    true
+}
+
+fn are_codes_in_order(alloc: Global) -> bool {
+    let Ok(mut d) = names_to_declare(alloc) else {
+        return false;
+    };
+    have_codes(&mut d, &LOWEST)
+        && denotes(&d.scopes, b"u", None)
+        && is_declared(&mut d, &DECLARED)
+        && have_codes(&mut d, &TWICE)
 }
 
 #[test]
 fn the_lowest_code_comes_first(rt: HostRuntime) {
-    let mut p = nothing(rt.alloc());
-    let mut scopes = begun(&rt, rt.alloc(), &mut p, NAMES);
-    have_codes(&rt, &mut scopes, &mut p);
-    assert!(rt; denotes(&scopes, b"u", None));
-    let one = named(7, 0, DeclKind::Constant(1), Storage::Plain, false);
-    got(&rt, scopes.declare(&mut p, one));
-    let faults = Faults {
-        lacks: false,
-        misfits: false,
-        too_large: true,
-    };
-    assert!(rt; code_of(&mut scopes, &mut p, 7, faults) == 131);
-    end(scopes);
+    assert!(rt; are_codes_in_order(rt.alloc()));
 }

@@ -2,13 +2,12 @@
 ghost use Rattle.std.specs.Prelude.{◌<◌, length};
 ghost use Rattle.cap_layout.specs.Kept.{AreLayoutsOf};
 
-use crate::given::{got, none, with_types};
+use crate::given::{none, with_types};
 use c_tree::{CType, Expr, ExprKind, FunDef, Member, Stmt, StmtKind, Typed, VarDef};
 use cap_layout::{Layout, LayoutFault, Layouts, copies, granules, layout, offset_of, owned};
 use ck_base::{Pos, Sequence, Span};
 use ck_int::IntKind;
 use std::alloc::{AllocError, Global};
-use std::process::Abort;
 
 const PLACE: Pos = Pos { line: 1, col: 1 };
 
@@ -151,16 +150,12 @@ fn statements(alloc: Global) -> Result<Vec<Stmt>, AllocError> {
     Ok(vec![in alloc; Stmt { kind, pos: PLACE }]?)
 }
 
-fn program(rt: &impl Abort, alloc: Global) -> Typed {
-    Typed {
-        types: Sequence::from_vec(got(rt, types(alloc))),
-        globals: none(alloc),
-        literals: none(alloc),
-        funs: Sequence::from_vec(got(rt, functions(alloc))),
-        exprs: Sequence::from_vec(got(rt, expressions(alloc))),
-        stmts: Sequence::from_vec(got(rt, statements(alloc))),
-        main: 0,
-    }
+fn program(alloc: Global) -> Result<Typed, AllocError> {
+    let mut p = with_types(alloc, types(alloc)?);
+    p.funs = Sequence::from_vec(functions(alloc)?);
+    p.exprs = Sequence::from_vec(expressions(alloc)?);
+    p.stmts = Sequence::from_vec(statements(alloc)?);
+    Ok(p)
 }
 
 // Where a member of a struct begins, if there is such a member.
@@ -239,37 +234,58 @@ fn is_fault(found: Result<Layout, LayoutFault>, fault: LayoutFault) -> bool {
     found == Err(fault)
 }
 
+// Whether each type of the program has its layout, or its fault.
+fn have_layouts(p: &Typed) -> bool {
+    for &(t, size, align) in &LAYOUTS {
+        if !is_layout(layout(p, t), size, align) {
+            return false;
+        }
+    }
+    for &(t, fault) in &FAULTS {
+        if !is_fault(layout(p, t), fault) {
+            return false;
+        }
+    }
+    true
+}
+
 #[test]
 fn types_have_layouts(rt: HostRuntime) {
-    let p = program(&rt, rt.alloc());
-    for &(t, size, align) in &LAYOUTS {
-        assert!(rt; is_layout(layout(&p, t), size, align), "of {t}");
-    }
-    for &(t, fault) in &FAULTS {
-        assert!(rt; is_fault(layout(&p, t), fault), "of {t}");
-    }
+    let p = program(rt.alloc()).expect(&rt, "a program");
+    assert!(rt; have_layouts(&p));
 }
 
-// The layouts of a program's types.
-fn kept(rt: &impl Abort, alloc: Global, p: &Typed) -> Layouts
-    ensures { AreLayoutsOf p.now.types result }
+// The same of the layouts that are kept.
+fn have_kept_layouts(p: &Typed, layouts: &Layouts) -> bool
+    requires { AreLayoutsOf p.now.types layouts.now }
 {
-    match Layouts::new(alloc, p) {
-        Ok(layouts) => layouts,
-        Err(_) => panic!(rt; "no memory"),
+    for &(t, size, align) in &LAYOUTS {
+        if !is_layout(layouts.layout(p, t), size, align) {
+            return false;
+        }
     }
+    for &(t, fault) in &FAULTS {
+        if !is_fault(layouts.layout(p, t), fault) {
+            return false;
+        }
+    }
+    true
+}
+
+// Whether layouts are kept, and the granules and copies are counted by them.
+fn are_kept(alloc: Global) -> Result<bool, AllocError> {
+    let p = program(alloc)?;
+    let layouts = Layouts::new(alloc, &p)?;
+    Ok(
+        have_kept_layouts(&p, &layouts)
+            && granules(&layouts, &p) == 2 * (257 + 1)
+            && copies(&layouts, &p) == 2 + 2 + 1 + 2,
+    )
 }
 
 #[test]
-fn layouts_are_kept(rt: HostRuntime) {
-    let p = program(&rt, rt.alloc());
-    let layouts = kept(&rt, rt.alloc(), &p);
-    for &(t, size, align) in &LAYOUTS {
-        assert!(rt; is_layout(layouts.layout(&p, t), size, align), "of {t}");
-    }
-    for &(t, fault) in &FAULTS {
-        assert!(rt; is_fault(layouts.layout(&p, t), fault), "of {t}");
-    }
+fn layouts_are_kept_and_parts_are_counted(rt: HostRuntime) {
+    assert!(rt; are_kept(rt.alloc()).unwrap_or(false));
 }
 
 const OFFSETS: [(u32, u32, u64); 6] = [
@@ -283,18 +299,10 @@ const OFFSETS: [(u32, u32, u64); 6] = [
 
 #[test]
 fn members_have_offsets(rt: HostRuntime) {
-    let p = program(&rt, rt.alloc());
+    let p = program(rt.alloc()).expect(&rt, "a program");
     for &(t, member, at) in &OFFSETS {
         assert!(rt; offset(&p, t, member) == Some(at), "member {member} of {t}");
     }
-}
-
-#[test]
-fn parts_are_counted(rt: HostRuntime) {
-    let p = program(&rt, rt.alloc());
-    let layouts = kept(&rt, rt.alloc(), &p);
-    assert!(rt; granules(&layouts, &p) == 2 * (257 + 1));
-    assert!(rt; copies(&layouts, &p) == 2 + 2 + 1 + 2);
 }
 
 // Arrays and the words `const`, by turns, each of the type before.
@@ -328,37 +336,36 @@ fn unions(alloc: Global, levels: u32) -> Result<Vec<CType>, AllocError> {
     Ok(types)
 }
 
-// The layout of a type among these.
-fn layout_in(alloc: Global, types: Vec<CType>, t: u32) -> Result<Layout, LayoutFault> {
-    layout(&with_types(alloc, types), t)
+// Whether the last of these types has the layout of an `int`.
+fn is_int(alloc: Global, types: Result<Vec<CType>, AllocError>, last: u32) -> bool {
+    match types {
+        Ok(types) => is_layout(layout(&with_types(alloc, types), last), 4, 4),
+        Err(_) => false,
+    }
 }
 
 // Arrays and the words `const` in one another take no stack; structs in one another take some.
 #[test]
 fn deep_types_have_layouts(rt: HostRuntime) {
-    let alloc = rt.alloc();
-    let of_arrays = layout_in(alloc, got(&rt, arrays(alloc, 100_000)), 100_000);
-    assert!(rt; is_layout(of_arrays, 4, 4));
-    let of_structs = layout_in(alloc, got(&rt, structs(alloc, 1_000)), 1_000);
-    assert!(rt; is_layout(of_structs, 4, 4));
+    assert!(rt; is_int(rt.alloc(), arrays(rt.alloc(), 100_000), 100_000));
+    assert!(rt; is_int(rt.alloc(), structs(rt.alloc(), 1_000), 1_000));
 }
 
-// The kept layout of a type among these.
-fn kept_layout_in(
+// The same of the layout that is kept.
+fn is_kept_int(
     alloc: Global,
-    types: Vec<CType>,
-    t: u32,
-) -> Result<Result<Layout, LayoutFault>, AllocError> {
-    let p = with_types(alloc, types);
-    Ok(Layouts::new(alloc, &p)?.layout(&p, t))
+    types: Result<Vec<CType>, AllocError>,
+    last: u32,
+) -> Result<bool, AllocError> {
+    let p = with_types(alloc, types?);
+    Ok(is_layout(Layouts::new(alloc, &p)?.layout(&p, last), 4, 4))
 }
 
 // Kept layouts take no stack, and no more time where a type stands twice in the one around it.
 #[test]
 fn deep_types_have_kept_layouts(rt: HostRuntime) {
-    let alloc = rt.alloc();
-    let of_structs = kept_layout_in(alloc, got(&rt, structs(alloc, 50_000)), 50_000);
-    assert!(rt; is_layout(got(&rt, of_structs), 4, 4));
-    let of_unions = kept_layout_in(alloc, got(&rt, unions(alloc, 50_000)), 50_000);
-    assert!(rt; is_layout(got(&rt, of_unions), 4, 4));
+    let of_structs = is_kept_int(rt.alloc(), structs(rt.alloc(), 50_000), 50_000);
+    assert!(rt; of_structs.unwrap_or(false));
+    let of_unions = is_kept_int(rt.alloc(), unions(rt.alloc(), 50_000), 50_000);
+    assert!(rt; of_unions.unwrap_or(false));
 }

@@ -2,99 +2,74 @@
 
 mod tables;
 
-use crate::given::got;
 use c_lex::Tokens;
 use c_parse::parse;
-use ck_base::Refusal;
+use ck_base::{Pos, Refusal};
 use std::alloc::{AllocError, Global};
-use std::fmt::Write;
-use std::process::Abort;
 use tables::{
     ANSWERS, EXPRESSIONS, FILES, NESTED, NO_EXPRESSIONS, NO_FILES, NO_STATEMENTS, STATEMENTS,
 };
 
+// A code and a place.
+fn refused(alloc: Global, code: u16, place: Pos) -> Result<String, AllocError> {
+    let line = place.line;
+    let col = place.col;
+    format!(in alloc; "{code} {line}:{col}")
+}
+
 // `tree`, or the code and the place of the refusal.
-fn write_answer(text: &mut String, refusal: Option<Refusal>) -> Result<(), AllocError> {
-    match refusal {
-        None => text.push_str("tree"),
-        Some(Refusal::Code(code, place)) => {
-            let line = place.line;
-            let col = place.col;
-            write!(text, "{code} {line}:{col}")
-        }
-        Some(Refusal::NoMemory) => text.push_str("no memory"),
+fn answer(alloc: Global, text: &str) -> Result<String, AllocError> {
+    if text.len() >= 10_000 {
+        return Ok(String::new(alloc));
+    }
+    match parse(alloc, Tokens::new(text.as_bytes())) {
+        Ok(_) => String::from_str(alloc, "tree"),
+        Err(Refusal::Code(code, place)) => refused(alloc, code, place),
+        Err(Refusal::NoMemory) => String::from_str(alloc, "no memory"),
     }
 }
 
-fn answer(rt: &impl Abort, alloc: Global, text: &str) -> String {
-    assert!(rt; text.len() < 10_000);
-    let refusal = parse(alloc, Tokens::new(text.as_bytes())).err();
-    let mut answer = String::new(alloc);
-    got(rt, write_answer(&mut answer, refusal));
-    answer
-}
-
-fn write_times(text: &mut String, part: &str, times: usize) -> Result<(), AllocError> {
-    for _ in 0..times {
-        text.push_str(part)?;
+// Whether the answer begins so.
+fn is_answered(alloc: Global, text: &str, want: &str) -> bool {
+    match answer(alloc, text) {
+        Ok(answer) => answer.as_str().starts_with(want),
+        Err(_) => false,
     }
-    Ok(())
-}
-
-// Texts before, so often, and behind a text.
-fn nested(
-    rt: &impl Abort,
-    alloc: Global,
-    (before, opening, times): (&str, &str, usize),
-    within: &str,
-    (closing, behind): (&str, &str),
-) -> String {
-    let mut text = String::new(alloc);
-    got(rt, text.push_str(before));
-    got(rt, write_times(&mut text, opening, times));
-    got(rt, text.push_str(within));
-    got(rt, write_times(&mut text, closing, times));
-    got(rt, text.push_str(behind));
-    text
 }
 
 #[test]
 fn answers_files(rt: HostRuntime) {
     for &(text, want) in &ANSWERS {
-        let answer = answer(&rt, rt.alloc(), text);
-        assert!(rt; answer.as_str().starts_with(want), "{answer} of {text:?}");
+        assert!(rt; is_answered(rt.alloc(), text, want), "{want} of {text:?}");
     }
 }
 
-// Each of the texts, between two others, has this answer.
-fn have_answer(
-    rt: &impl Abort,
-    alloc: Global,
-    before: &str,
-    texts: &[&str],
-    behind: &str,
-    want: &str,
-) {
+// Whether each of the texts, between two others, has this answer.
+fn are_answered(alloc: Global, before: &str, texts: &[&str], behind: &str, want: &str) -> bool {
     for &text in texts {
-        let file = nested(rt, alloc, (before, "", 0), text, ("", behind));
-        let answer = answer(rt, alloc, file.as_str());
-        assert!(rt; answer.as_str().starts_with(want), "{answer} of {file:?}");
+        let Ok(file) = format!(in alloc; "{before}{text}{behind}") else {
+            return false;
+        };
+        if !is_answered(alloc, file.as_str(), want) {
+            return false;
+        }
     }
+    true
 }
+
+// A function that has statements, and an object with an initialiser.
+const FUNCTION: &str = "int f(void) { ";
+
+const OBJECT: &str = "int x = ";
 
 #[test]
 fn reads_each_production(rt: HostRuntime) {
-    let lists = [
-        ("", FILES.as_slice(), "", "tree"),
-        ("", NO_FILES.as_slice(), "", "120"),
-        ("int f(void) { ", STATEMENTS.as_slice(), " }", "tree"),
-        ("int f(void) { ", NO_STATEMENTS.as_slice(), " }", "120"),
-        ("int x = ", EXPRESSIONS.as_slice(), ";", "tree"),
-        ("int x = ", NO_EXPRESSIONS.as_slice(), ";", "120"),
-    ];
-    for &(before, texts, behind, want) in &lists {
-        have_answer(&rt, rt.alloc(), before, texts, behind, want);
-    }
+    assert!(rt; are_answered(rt.alloc(), "", &FILES, "", "tree"));
+    assert!(rt; are_answered(rt.alloc(), "", &NO_FILES, "", "120"));
+    assert!(rt; are_answered(rt.alloc(), FUNCTION, &STATEMENTS, " }", "tree"));
+    assert!(rt; are_answered(rt.alloc(), FUNCTION, &NO_STATEMENTS, " }", "120"));
+    assert!(rt; are_answered(rt.alloc(), OBJECT, &EXPRESSIONS, ";", "tree"));
+    assert!(rt; are_answered(rt.alloc(), OBJECT, &NO_EXPRESSIONS, ";", "120"));
 }
 
 // What is before, what opens and how often; what is within; what closes and what is behind; and the answer.
@@ -105,20 +80,28 @@ type Nested<'a> = (
     &'a str,
 );
 
-fn measures(rt: &impl Abort, alloc: Global, &(opened, within, closed, want): &Nested) {
-    let file = nested(rt, alloc, opened, within, closed);
-    let answer = answer(rt, alloc, file.as_str());
-    let (_, opening, times) = opened;
-    assert!(rt;
-        answer.as_str().starts_with(want),
-        "{answer} of {times} times {opening}"
-    );
+fn nested(
+    alloc: Global,
+    (before, opening, times): (&str, &str, usize),
+    within: &str,
+    (closing, behind): (&str, &str),
+) -> Result<String, AllocError> {
+    let opened = opening.repeat(alloc, times)?;
+    let closed = closing.repeat(alloc, times)?;
+    format!(in alloc; "{before}{opened}{within}{closed}{behind}")
+}
+
+fn measures(alloc: Global, &(opened, within, closed, want): &Nested) -> bool {
+    match nested(alloc, opened, within, closed) {
+        Ok(file) => is_answered(alloc, &file, want),
+        Err(_) => false,
+    }
 }
 
 #[test]
 fn measures_depth(rt: HostRuntime) {
     for row in &NESTED {
-        measures(&rt, rt.alloc(), row);
+        assert!(rt; measures(rt.alloc(), row), "{row:?}");
     }
 }
 

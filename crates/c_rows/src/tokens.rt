@@ -4,12 +4,10 @@ ghost use Rattle.std.specs.Prelude.{◌≤◌, length};
 
 mod tables;
 
-use crate::given::got;
 use c_lex::*;
 use ck_base::{NoMemory, Pos};
 use std::alloc::{AllocError, Global};
 use std::fmt::Write;
-use std::process::Abort;
 use tables::{
     CHARACTERS, INTEGERS, LEFT_OUT, NO_CHARACTERS, NO_INTEGERS, PUNCTUATORS, READINGS, REFUSALS,
     STRINGS, WORDS,
@@ -40,39 +38,52 @@ fn list(listing: &mut String, file: &[u8]) -> Result<(), AllocError>
     listing.push_str("end")
 }
 
-fn listing(rt: &impl Abort, alloc: Global, file: &str) -> String {
-    assert!(rt; file.len() < 100);
+fn listing(alloc: Global, file: &str) -> Result<String, AllocError> {
     let mut listing = String::new(alloc);
-    got(rt, list(&mut listing, file.as_bytes()));
-    listing
+    if file.len() < 100 {
+        list(&mut listing, file.as_bytes())?;
+    }
+    Ok(listing)
+}
+
+fn is_listed(alloc: Global, file: &str, want: &str) -> bool {
+    match listing(alloc, file) {
+        Ok(found) => found.as_str() == want,
+        Err(_) => false,
+    }
 }
 
 #[test]
 fn reads_tokens(rt: HostRuntime) {
     for &(file, want) in &READINGS {
-        let found = listing(&rt, rt.alloc(), file);
-        assert!(rt; found.as_str() == want, "{found} of {file:?}");
+        assert!(rt; is_listed(rt.alloc(), file, want), "{file:?}");
     }
 }
 
-// A text is one token of this kind.
-fn is_one_token(rt: &impl Abort, alloc: Global, kind: &str, text: &str) {
-    let found = listing(rt, alloc, text);
-    let want = got(rt, format!(in alloc; "{kind} 1:1 {text}, end"));
-    assert!(rt; found.as_str() == want.as_str(), "{found}");
+// What is listed of a text that is one token of this kind.
+fn line_of(alloc: Global, kind: &str, text: &str) -> Result<String, AllocError> {
+    format!(in alloc; "{kind} 1:1 {text}, end")
+}
+
+// Whether each of the texts is one token of this kind.
+fn are_tokens(alloc: Global, kind: &str, texts: &[&str]) -> bool {
+    for &text in texts {
+        let Ok(want) = line_of(alloc, kind, text) else {
+            return false;
+        };
+        if !is_listed(alloc, text, &want) {
+            return false;
+        }
+    }
+    true
 }
 
 #[test]
 fn reads_tables(rt: HostRuntime) {
-    for &text in &PUNCTUATORS {
-        is_one_token(&rt, rt.alloc(), "Punct", text);
-    }
-    for &text in &WORDS {
-        is_one_token(&rt, rt.alloc(), "Word", text);
-    }
+    assert!(rt; are_tokens(rt.alloc(), "Punct", &PUNCTUATORS));
+    assert!(rt; are_tokens(rt.alloc(), "Word", &WORDS));
     for &text in &LEFT_OUT {
-        let found = listing(&rt, rt.alloc(), text);
-        assert!(rt; found.as_str() == "103 1:1", "{found} of {text}");
+        assert!(rt; is_listed(rt.alloc(), text, "103 1:1"), "{text}");
     }
 }
 
@@ -100,13 +111,22 @@ fn refuses(rt: HostRuntime) {
     }
 }
 
+// Whether the next token is refused so, three times.
+fn is_refused_on(tokens: &mut Tokens, code: u16, place: Pos) -> bool {
+    for _ in 0..3 {
+        match tokens.next() {
+            Some(Err(refusal)) if refusal == (code, place) => {}
+            _ => return false,
+        }
+    }
+    true
+}
+
 #[test]
 fn repeats_a_refusal(rt: HostRuntime) {
     let mut tokens = Tokens::new(b"x 08");
     assert!(rt; matches!(tokens.next(), Some(Ok(_))));
-    for _ in 0..3 {
-        assert!(rt; matches!(tokens.next(), Some(Err((102, Pos { line: 1, col: 3 })))));
-    }
+    assert!(rt; is_refused_on(&mut tokens, 102, Pos { line: 1, col: 3 }));
     let mut ended = Tokens::new(b" ");
     for _ in 0..3 {
         assert!(rt; ended.next().is_none());
@@ -143,15 +163,16 @@ fn values_characters(rt: HostRuntime) {
     }
 }
 
-// The bytes that a string literal spells are put behind others, if it is one.
-fn spell(text: &[u8], bytes: &mut Vec<u8>) -> Result<bool, NoMemory> {
+// Whether the bytes that a text spells, if it is a string literal, are put behind others.
+fn spells(alloc: Global, text: &[u8], want: &[u8]) -> Result<bool, NoMemory> {
+    let mut bytes = Vec::from_slice(alloc, b">")?;
     if text.len() >= 100 {
         return Ok(false);
     }
     match Tokens::new(text).next() {
         Some(Ok(token)) if token.kind == TokenKind::Text => {
-            unescape(token.text, bytes)?;
-            Ok(true)
+            unescape(token.text, &mut bytes)?;
+            Ok(bytes.as_slice() == want)
         }
         _ => Ok(false),
     }
@@ -160,8 +181,9 @@ fn spell(text: &[u8], bytes: &mut Vec<u8>) -> Result<bool, NoMemory> {
 #[test]
 fn values_strings(rt: HostRuntime) {
     for &(text, want) in &STRINGS {
-        let mut bytes = got(&rt, Vec::from_slice(rt.alloc(), b">".as_slice()));
-        assert!(rt; got(&rt, spell(text, &mut bytes)), "of {text:?}");
-        assert!(rt; bytes.as_slice() == want, "of {text:?}");
+        assert!(rt;
+            spells(rt.alloc(), text, want).unwrap_or(false),
+            "of {text:?}"
+        );
     }
 }

@@ -7,7 +7,7 @@ use Rattle.std.proofs.lemmas.List.{length-map}
 use Rattle.std.proofs.lemmas.Slice.Zip.{length-zip}
 use Rattle.obj_mem.specs.Agreement.{Paired}
 use Rattle.obj_mem.specs.Legal.{ObjectNeed, owned_of, placed_at}
-use Rattle.obj_mem.specs.Standing.{IsExact, AreExact}
+use Rattle.obj_mem.specs.Standing.{HasBounds, HaveBounds}
 use Rattle.obj_mem.proofs.Pairs.{join_both}
 use Rattle.cap_reloc.specs.declared.pointers.Pointer.{Pointer}
 use Rattle.cap_reloc.specs.Pointers.{whole, extent_of}
@@ -36,24 +36,24 @@ pairs_joined R f g (x ∷ xs) (b ∷ bs) h =
 
 -- ---- objects with exact bounds at their bases
 
-pub exact_length : (ns : List ObjectNeed) (bs : List ℕ) → AreExact ns bs → length bs ≡ length ns
+pub exact_length : (ns : List ObjectNeed) (bs : List ℕ) → HaveBounds ns bs → length bs ≡ length ns
 exact_length [] [] h = refl
 exact_length [] (b ∷ bs) h = absurd h
 exact_length (n ∷ ns) [] h = absurd h
 exact_length (n ∷ ns) (b ∷ bs) h = ap suc (exact_length ns bs h.1)
 
 module _ {X : Type 0} (need : X → ObjectNeed) where
-  pub exact_pairs : (xs : List X) (bs : List ℕ) → AreExact (map need xs) bs → length bs ≡ length xs
+  pub exact_pairs : (xs : List X) (bs : List ℕ) → HaveBounds (map need xs) bs → length bs ≡ length xs
   exact_pairs xs bs h = exact_length (map need xs) bs h ∙ length-map xs need
 
-  pub exact_at : (xs : List X) (bs : List ℕ) (k : ℕ) (x : X) → AreExact (map need xs) bs → slice_get xs k ≡ Some x →
-      IsExact (need x) (get_or bs k 0)
+  pub exact_at : (xs : List X) (bs : List ℕ) (k : ℕ) (x : X) → HaveBounds (map need xs) bs → slice_get xs k ≡ Some x →
+      HasBounds (need x) (get_or bs k 0)
   exact_at [] bs k x h e = absurd cc
   exact_at (y ∷ xs) [] k x h e = absurd h
-  exact_at (y ∷ xs) (b ∷ bs) zero x h e = let s : y ≡ x = cc in subst (λ v. IsExact (need v) b) s h.0
+  exact_at (y ∷ xs) (b ∷ bs) zero x h e = let s : y ≡ x = cc in subst (λ v. HasBounds (need v) b) s h.0
   exact_at (y ∷ xs) (b ∷ bs) (suc k) x h e = exact_at xs bs k x h.1 e
 
-  pub below_all : (xs : List X) (bs : List ℕ) → AreExact (map need xs) bs →
+  pub below_all : (xs : List X) (bs : List ℕ) → HaveBounds (map need xs) bs →
       All (λ (c : Pointer). c.base + c.length ≤ 2 ^ 40) (map (λ (x : X × ℕ). whole (need x.0) x.1) (zip xs bs))
   below_all [] bs h k d l = absurd (omega arith)
   below_all (x ∷ xs) [] h k d l = absurd h

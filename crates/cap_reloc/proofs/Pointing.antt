@@ -28,7 +28,7 @@ use Rattle.elf_file.specs.declared.image.Reloc.{Reloc}
 use Rattle.obj_mem.specs.declared.map.Map.{Map}
 use Rattle.obj_mem.specs.Legal.{ObjectNeed, AreApart, IsApartFrom, IsEntry, owned_of, placed_at}
 use Rattle.obj_mem.specs.Needs.{global_need, literal_need, is_const, weight_in, Legal}
-use Rattle.obj_mem.specs.Standing.{IsExact, AreExact}
+use Rattle.obj_mem.specs.Standing.{HasBounds, HaveBounds}
 use Rattle.obj_mem.proofs.Fitting.{part_encodable}
 use Rattle.obj_mem.proofs.Spread.{objects_are_exact_law}
 use Rattle.cap_reloc.specs.declared.pointers.Pointer.{Pointer}
@@ -119,7 +119,7 @@ apart_at need a (y ∷ xs) (b ∷ bs) (suc k) x h n e = apart_at need a xs bs k 
 
 -- ---- whole objects and their parts
 
-whole_points : (m : Map) (n : ObjectNeed) (base : ℕ) → IsExact n base → AreApart m.text (base, owned_of n)
+whole_points : (m : Map) (n : ObjectNeed) (base : ℕ) → HasBounds n base → AreApart m.text (base, owned_of n)
     → IsDataWord n.permissions → Points m (whole n base)
 whole_points m n base x off word =
     let b = x.based in
@@ -135,7 +135,7 @@ whole_points m n base x off word =
       kind = inr (record { word = word; apart = turned m.text (base, owned_of n) off });
     }
 
-part_points : (m : Map) (n : ObjectNeed) (base : ℕ) (l : Link) (word : ℕ) → IsExact n base
+part_points : (m : Map) (n : ObjectNeed) (base : ℕ) (l : Link) (word : ℕ) → HasBounds n base
     → AreApart m.text (base, owned_of n) → IsDataWord word → l.low + l.length ≤ owned_of n
     → is_exact l.low l.length ≡ true → is_near l.low l.length l.offset ≡ true
     → Points m (narrowed (record { base = base; offset = 0; length = owned_of n; perms = word }) l)
@@ -167,7 +167,7 @@ part_points m n base l word x off is_word fits exact near =
       kind = inr (record { word = is_word; apart = subst (λ v. AreApart (v, l.length) m.text) is apart });
     }
 
-all_whole : {X : Type 0} (m : Map) (need : X → ObjectNeed) (xs : List X) (bs : List ℕ) → AreExact (map need xs) bs
+all_whole : {X : Type 0} (m : Map) (need : X → ObjectNeed) (xs : List X) (bs : List ℕ) → HaveBounds (map need xs) bs
     → IsApartFrom m.text (placed_at (map need xs) bs) → ((x : X) → IsDataWord (need x).permissions)
     → All (Points m) (map (λ (x : X × ℕ). whole (need x.0) x.1) (zip xs bs))
 all_whole m need [] bs h off w k d l = absurd (omega arith)
@@ -216,7 +216,7 @@ below_by (suc d) types t x e = by (slice_get types t) refl e
 -- ---- of a program
 
 module _ (p : Typed) (q : Program) (shows : Shows p q) (w : WellTyped p) (m : Map) (legal : Legal p m) where
-  exact : AreExact (asked_by p).globals m.globals × AreExact (asked_by p).literals m.literals
+  exact : HaveBounds (asked_by p).globals m.globals × HaveBounds (asked_by p).literals m.literals
   exact = objects_are_exact_law (weight_in p) p m legal
 
   abbrev placed_globals : List (ℕ × ℕ)

@@ -10,7 +10,7 @@ use Rattle.obj_mem.specs.declared.map.Map.{Map}
 use Rattle.obj_mem.specs.Agreement.{Paired}
 use Rattle.obj_mem.specs.Values.{Live, Fun, capability_of}
 use Rattle.obj_mem.specs.Legal.{ObjectNeed, owned_of}
-use Rattle.obj_mem.specs.Standing.{AreExact}
+use Rattle.obj_mem.specs.Standing.{HaveBounds}
 use Rattle.obj_mem.specs.Table.{Start, Holds, WholeHeap, pointer_to, pointers_to, sentries_from, start_capability}
 use Rattle.obj_mem.specs.Table.{addresses_of, object_base}
 use Rattle.cap_reloc.specs.declared.pointers.Pointer.{Pointer}
@@ -84,7 +84,7 @@ whole_matches m n object base e h small =
 
 -- of a row of objects, which have these bases
 pub row_matches : {X : Type 0} (m : Map) (need : X → ObjectNeed) (object : ℕ) (xs : List X) (bs : List ℕ) →
-    AreExact (map need xs) bs → ((x : X) → (need x).permissions < 128)
+    HaveBounds (map need xs) bs → ((x : X) → (need x).permissions < 128)
     → ((k : ℕ) → k < length bs → object_base m (object + k) ≡ get_or bs k 0) →
     Paired (Matches m) (pointers_to (map need xs) object) (map (λ x. whole (need x.0) x.1) (zip xs bs))
 row_matches m need object [] [] h small at = tt

@@ -25,7 +25,7 @@ use Rattle.obj_mem.specs.Agreement.{Paired}
 use Rattle.obj_mem.specs.Legal.{ObjectNeed, owned_of, placed_at, objects_of}
 use Rattle.obj_mem.specs.Needs.{nothing_of, need_by, global_need, literal_need, function_needs, is_const, weight_in}
 use Rattle.obj_mem.specs.Needs.{Legal}
-use Rattle.obj_mem.specs.Standing.{AreExact}
+use Rattle.obj_mem.specs.Standing.{HaveBounds}
 use Rattle.obj_mem.specs.Table.{table_starts, table_length, entry_count, object_base, sentries_from, permissions_of}
 use Rattle.obj_mem.specs.Table.{start_at, Holds, WholeHeap}
 use Rattle.obj_mem.specs.Values.{Live, Fun}
@@ -118,7 +118,7 @@ bytes_fit p w k g e =
 -- ---- the pointers of the table
 
 module _ (p : Typed) (m : Map) (legal : Legal p m) where
-  exact : AreExact (asked_by p).globals m.globals × AreExact (asked_by p).literals m.literals
+  exact : HaveBounds (asked_by p).globals m.globals × HaveBounds (asked_by p).literals m.literals
   exact = objects_are_exact_law (weight_in p) p m legal
 
   pub globals_length : length m.globals ≡ length p.globals

@@ -13,7 +13,7 @@ use obj_mem::Map;
 use std::alloc::{AllocError, Global};
 
 /// Where the initial data stand.
-#[derive(Clone, Copy, Debug, PartialEq, Eq)]
+#[derive(Clone, Copy)]
 pub struct Stretch {
     pub base: u64,
     /// In bytes.

@@ -14,6 +14,3 @@ mod starting;
 
 pub use beginning::Table;
 pub use starting::table;
-
-#[cfg(test)]
-mod tests;

@@ -16,7 +16,7 @@ use obj_mem::Map;
 use std::alloc::{AllocError, Global};
 
 /// A pointer with which a program begins, as a relocation has it.
-#[derive(Clone, Copy, Debug, PartialEq, Eq)]
+#[derive(Clone, Copy)]
 pub struct Pointer {
     pub base: u64,
     /// Its address, in bytes from the base.

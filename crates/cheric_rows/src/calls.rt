@@ -6,8 +6,7 @@ use cheric_build::build;
 use cheric_top::cheric;
 use ck_base::{Files, MemFiles, MemSink, MemSource, NoMemory, SureFiles};
 use std::alloc::Global;
-use std::fmt::Write;
-use std::test::Fail;
+use std::process::Abort;
 
 fn one_name(alloc: Global, name: &str) -> Result<Vec<String>, NoMemory>
     ensures { IfOk result (λ names. length names.items ≡ 1) }
@@ -119,16 +118,80 @@ pub fn answers_input<F: Files>(
     )
 }
 
-/// A file, and what the command builds of it.
-pub fn built_file(alloc: Global, file: &str) -> Result<SureFiles, Fail> {
-    let mut files = sure_file(alloc, "a.c", file.as_bytes())?;
-    let mut line = String::new(alloc);
-    writeln!(line, "built {}", build(alloc, file.as_bytes())?.elf.len())?;
+/// Whether a call of the command on this file is answered so, without input or faults.
+pub fn is_answered(alloc: Global, file: &[u8], words: &str, answer: Answer<'_>) -> bool {
+    match sure_file(alloc, "a.c", file) {
+        Ok(mut files) => answers(alloc, &mut files, words, [0; 2], answer).unwrap_or(false),
+        Err(_) => false,
+    }
+}
+
+/// Whether the command answers these words so on the file, once it is built, and on an input, where the calls of the
+/// input, the output and the notes with these numbers fail (0: none).
+pub fn is_answered_built(
+    alloc: Global,
+    file: &str,
+    words: &str,
+    input: (&[u8], u64),
+    failing: [u64; 2],
+    answer: Answer<'_>,
+) -> bool {
+    match built_file(alloc, file) {
+        Some(mut files) => {
+            answers_input(alloc, &mut files, words, input, failing, answer).unwrap_or(false)
+        }
+        None => false,
+    }
+}
+
+/// A file, or words, with the status, output and line of an answer.
+pub type Row = (&'static str, u8, &'static str, &'static str);
+
+/// Each of the files is answered so by these words.
+pub fn files_are_answered(rt: &impl Abort, alloc: Global, words: &str, rows: &[Row]) {
+    for &(file, status, put, line) in rows {
+        let answer = Answer { status, put, line };
+        assert!(rt;
+            is_answered(alloc, file.as_bytes(), words, answer),
+            "{words}: {file}"
+        );
+    }
+}
+
+/// Each of the words is answered so on the file.
+pub fn words_are_answered(rt: &impl Abort, alloc: Global, file: &str, rows: &[Row]) {
+    for &(words, status, put, line) in rows {
+        let answer = Answer { status, put, line };
+        assert!(rt;
+            is_answered(alloc, file.as_bytes(), words, answer),
+            "{words}"
+        );
+    }
+}
+
+/// The bytes that are built of a file.
+pub fn elf_of(rt: &impl Abort, alloc: Global, file: &[u8]) -> Vec<u8> {
+    match build(alloc, file) {
+        Ok(built) => built.elf,
+        Err(_) => panic!(rt; "not built"),
+    }
+}
+
+/// What the command says when it has built so many bytes.
+pub fn line_of_built(alloc: Global, len: usize) -> Result<String, NoMemory> {
+    Ok(format!(in alloc; "built {len}\n")?)
+}
+
+/// A file that is built, and what the command builds of it.
+fn built_file(alloc: Global, file: &str) -> Option<SureFiles> {
+    let mut files = sure_file(alloc, "a.c", file.as_bytes()).ok()?;
+    let len = build(alloc, file.as_bytes()).ok()?.elf.len();
+    let line = line_of_built(alloc, len).ok()?;
     let answer = Answer {
         status: 0,
         put: "",
         line: &line,
     };
-    let is_built = answers(alloc, &mut files, "cheric build a.c", [0; 2], answer)?;
-    Ok(is_built.then_some(files).ok_or("not built")?)
+    let is_built = answers(alloc, &mut files, "cheric build a.c", [0; 2], answer);
+    is_built.unwrap_or(false).then_some(files)
 }

@@ -3,152 +3,69 @@
 use crate::front_tables::{CONSTANTS, DECLARATIONS, OPERATORS, PLACES, STATEMENTS, TYPES, WORDS};
 use crate::{constant_files, declared_files, initialised_files, typed_files};
 use cheric_build::front;
-use ck_base::Refusal;
-use std::alloc::Global;
-use std::fmt::Write;
-use std::test::Fail;
+use ck_base::{Pos, Refusal};
+use std::alloc::{AllocError, Global};
+use std::process::Abort;
+
+/// A code, and the place.
+fn refused(alloc: Global, code: u16, place: Pos) -> Result<String, AllocError> {
+    let line = place.line;
+    let col = place.col;
+    format!(in alloc; "{code} {line}:{col}")
+}
 
 /// `typed`, or the code and the place of the refusal.
-pub(super) fn answer(alloc: Global, text: &[u8]) -> Result<String, Fail> {
-    let mut answer = String::new(alloc);
+fn answer(alloc: Global, text: &[u8]) -> Result<String, AllocError> {
     match front(alloc, text) {
-        Ok(_) => answer.push_str("typed")?,
-        Err(Refusal::Code(code, place)) => {
-            let line = place.line;
-            let col = place.col;
-            write!(answer, "{code} {line}:{col}")?;
-        }
-        Err(Refusal::NoMemory) => answer.push_str("no memory")?,
+        Ok(_) => String::from_str(alloc, "typed"),
+        Err(Refusal::Code(code, place)) => refused(alloc, code, place),
+        Err(Refusal::NoMemory) => String::from_str(alloc, "no memory"),
     }
-    Ok(answer)
 }
 
 /// Whether a file is answered so. A refusal by 120 may be at any place.
-fn is_as_wanted(got: &str, want: &str) -> bool {
-    got == want || (want == "120" && got.starts_with("120 "))
+pub(super) fn is_as_wanted(alloc: Global, text: &[u8], want: &str) -> bool {
+    let Ok(got) = answer(alloc, text) else {
+        return false;
+    };
+    got.as_str() == want || (want == "120" && got.as_str().starts_with("120 "))
 }
 
-/// The files of a table that are answered otherwise.
-fn wrong(alloc: Global, rows: &[(&str, &str)]) -> Result<String, Fail> {
-    let mut wrong = String::new(alloc);
+/// Files, and what is said of each.
+const TABLES: [&[(&str, &str)]; 19] = [
+    &WORDS,
+    &DECLARATIONS,
+    &TYPES,
+    &OPERATORS,
+    &PLACES,
+    &CONSTANTS,
+    &STATEMENTS,
+    &declared_files::FIRST,
+    &declared_files::SECOND,
+    &declared_files::THIRD,
+    &declared_files::FOURTH,
+    &initialised_files::FIRST,
+    &initialised_files::SECOND,
+    &initialised_files::THIRD,
+    &typed_files::FIRST,
+    &typed_files::SECOND,
+    &typed_files::THIRD,
+    &constant_files::FIRST,
+    &constant_files::SECOND,
+];
+
+fn are_as_wanted(rt: &impl Abort, alloc: Global, rows: &[(&str, &str)]) {
     for &(text, want) in rows {
-        let got = answer(alloc, text.as_bytes())?;
-        if !is_as_wanted(got.as_str(), want) {
-            write!(wrong, "{got} of {text:?}, ")?;
-        }
+        assert!(rt;
+            is_as_wanted(alloc, text.as_bytes(), want),
+            "{want} of {text}"
+        );
     }
-    Ok(wrong)
 }
 
 #[test]
-fn declarations_are_typed_or_refused(rt: HostRuntime) -> Result<(), Fail> {
-    for rows in [WORDS.as_slice(), DECLARATIONS.as_slice(), TYPES.as_slice()] {
-        let wrong = wrong(rt.alloc(), rows)?;
-        assert_eq!(rt; wrong.as_str(), "");
+fn files_are_typed_or_refused(rt: HostRuntime) {
+    for rows in &TABLES {
+        are_as_wanted(&rt, rt.alloc(), *rows);
     }
-    Ok(())
-}
-
-#[test]
-fn expressions_are_typed_or_refused(rt: HostRuntime) -> Result<(), Fail> {
-    for rows in [
-        OPERATORS.as_slice(),
-        PLACES.as_slice(),
-        CONSTANTS.as_slice(),
-    ] {
-        let wrong = wrong(rt.alloc(), rows)?;
-        assert_eq!(rt; wrong.as_str(), "");
-    }
-    Ok(())
-}
-
-#[test]
-fn statements_are_typed_or_refused(rt: HostRuntime) -> Result<(), Fail> {
-    let wrong = wrong(rt.alloc(), &STATEMENTS)?;
-    assert_eq!(rt; wrong.as_str(), "");
-    Ok(())
-}
-
-#[test]
-fn first_declared_files_are_typed_or_refused(rt: HostRuntime) -> Result<(), Fail> {
-    let wrong = wrong(rt.alloc(), &declared_files::FIRST)?;
-    assert_eq!(rt; wrong.as_str(), "");
-    Ok(())
-}
-
-#[test]
-fn second_declared_files_are_typed_or_refused(rt: HostRuntime) -> Result<(), Fail> {
-    let wrong = wrong(rt.alloc(), &declared_files::SECOND)?;
-    assert_eq!(rt; wrong.as_str(), "");
-    Ok(())
-}
-
-#[test]
-fn third_declared_files_are_typed_or_refused(rt: HostRuntime) -> Result<(), Fail> {
-    let wrong = wrong(rt.alloc(), &declared_files::THIRD)?;
-    assert_eq!(rt; wrong.as_str(), "");
-    Ok(())
-}
-
-#[test]
-fn fourth_declared_files_are_typed_or_refused(rt: HostRuntime) -> Result<(), Fail> {
-    let wrong = wrong(rt.alloc(), &declared_files::FOURTH)?;
-    assert_eq!(rt; wrong.as_str(), "");
-    Ok(())
-}
-
-#[test]
-fn first_initialised_files_are_typed_or_refused(rt: HostRuntime) -> Result<(), Fail> {
-    let wrong = wrong(rt.alloc(), &initialised_files::FIRST)?;
-    assert_eq!(rt; wrong.as_str(), "");
-    Ok(())
-}
-
-#[test]
-fn second_initialised_files_are_typed_or_refused(rt: HostRuntime) -> Result<(), Fail> {
-    let wrong = wrong(rt.alloc(), &initialised_files::SECOND)?;
-    assert_eq!(rt; wrong.as_str(), "");
-    Ok(())
-}
-
-#[test]
-fn third_initialised_files_are_typed_or_refused(rt: HostRuntime) -> Result<(), Fail> {
-    let wrong = wrong(rt.alloc(), &initialised_files::THIRD)?;
-    assert_eq!(rt; wrong.as_str(), "");
-    Ok(())
-}
-
-#[test]
-fn first_typed_files_are_typed_or_refused(rt: HostRuntime) -> Result<(), Fail> {
-    let wrong = wrong(rt.alloc(), &typed_files::FIRST)?;
-    assert_eq!(rt; wrong.as_str(), "");
-    Ok(())
-}
-
-#[test]
-fn second_typed_files_are_typed_or_refused(rt: HostRuntime) -> Result<(), Fail> {
-    let wrong = wrong(rt.alloc(), &typed_files::SECOND)?;
-    assert_eq!(rt; wrong.as_str(), "");
-    Ok(())
-}
-
-#[test]
-fn third_typed_files_are_typed_or_refused(rt: HostRuntime) -> Result<(), Fail> {
-    let wrong = wrong(rt.alloc(), &typed_files::THIRD)?;
-    assert_eq!(rt; wrong.as_str(), "");
-    Ok(())
-}
-
-#[test]
-fn first_constant_files_are_typed_or_refused(rt: HostRuntime) -> Result<(), Fail> {
-    let wrong = wrong(rt.alloc(), &constant_files::FIRST)?;
-    assert_eq!(rt; wrong.as_str(), "");
-    Ok(())
-}
-
-#[test]
-fn second_constant_files_are_typed_or_refused(rt: HostRuntime) -> Result<(), Fail> {
-    let wrong = wrong(rt.alloc(), &constant_files::SECOND)?;
-    assert_eq!(rt; wrong.as_str(), "");
-    Ok(())
 }

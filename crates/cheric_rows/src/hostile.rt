@@ -1,11 +1,10 @@
 //! A hostile outside: each read and each put fails in turn, the notes fail in each mode, and brackets nest up to the
 //! limits.
 
-use crate::calls::{Answer, answers, answers_input, built_file, sure_file};
+use crate::calls::{Answer, is_answered, is_answered_built};
 use cheric_build::build;
-use ck_base::{NoMemory, Pos, Refusal};
-use std::alloc::Global;
-use std::test::Fail;
+use ck_base::{Pos, Refusal};
+use std::alloc::{AllocError, Global};
 
 /// A file that copies its input.
 const COPY: &str = "int main(void){int c;while((c=getchar())!=-1)putchar(c);return 0;}";
@@ -23,21 +22,24 @@ const FAILING: [(u64, u64, u8, &str, &str); 9] = [
     (0, 4, 0, "abc", "exit 0\n"),
 ];
 
+fn copies_so(
+    alloc: Global,
+    words: &str,
+    &(read, byte, status, put, line): &(u64, u64, u8, &str, &str),
+) -> bool {
+    let answer = Answer { status, put, line };
+    is_answered_built(alloc, COPY, words, (b"abc", read), [byte, 0], answer)
+}
+
 #[test]
-fn each_read_and_each_put_fails(rt: HostRuntime) -> Result<(), Fail> {
-    let alloc = rt.alloc();
-    let mut files = built_file(alloc, COPY)?;
-    for &(read, byte, status, put, line) in &FAILING {
-        let answer = Answer { status, put, line };
-        for words in ["cheric run a.c", "cheric exec a.c.elf"] {
-            let input = (b"abc".as_slice(), read);
-            assert!(rt;
-                answers_input(alloc, &mut files, words, input, [byte, 0], answer)?,
-                "{words}, {read}, {byte}"
-            );
-        }
+fn each_read_and_each_put_fails(rt: HostRuntime) {
+    for row in &FAILING {
+        assert!(rt; copies_so(rt.alloc(), "cheric run a.c", row), "{row:?}");
+        assert!(rt;
+            copies_so(rt.alloc(), "cheric exec a.c.elf", row),
+            "{row:?}"
+        );
     }
-    Ok(())
 }
 
 /// Words in each mode, each with its own message, which the notes don't take.
@@ -58,44 +60,41 @@ const MODES: [&str; 14] = [
     "cheric",
 ];
 
+const NOTHING_SAID: Answer = Answer {
+    status: 22,
+    put: "",
+    line: "",
+};
+
+fn says_nothing(alloc: Global, words: &str) -> bool {
+    is_answered_built(alloc, COPY, words, (b"", 0), [0, 1], NOTHING_SAID)
+}
+
 #[test]
-fn the_notes_fail_in_each_mode(rt: HostRuntime) -> Result<(), Fail> {
-    let alloc = rt.alloc();
-    let mut files = built_file(alloc, COPY)?;
-    let answer = Answer {
-        status: 22,
-        put: "",
-        line: "",
-    };
+fn the_notes_fail_in_each_mode(rt: HostRuntime) {
     for &words in &MODES {
-        assert!(rt;
-            answers(alloc, &mut files, words, [0, 1], answer)?,
-            "{words}"
-        );
+        assert!(rt; says_nothing(rt.alloc(), words), "{words}");
     }
-    Ok(())
 }
 
 /// A file that returns 1 in so many brackets.
-fn nested(alloc: Global, count: usize) -> Result<String, NoMemory> {
-    let mut file = String::from_str(alloc, "int main(void){return ")?;
-    file.push_str(&"(".repeat(alloc, count)?)?;
-    file.push_str("1")?;
-    file.push_str(&")".repeat(alloc, count)?)?;
-    file.push_str(";}")?;
-    Ok(file)
+fn nested(alloc: Global, count: usize) -> Result<String, AllocError> {
+    let opening = "(".repeat(alloc, count)?;
+    let closing = ")".repeat(alloc, count)?;
+    format!(in alloc; "int main(void){{return {opening}1{closing};}}")
 }
 
 /// Whether the command answers the file of so many brackets by this status and line.
-fn is_answered(alloc: Global, count: usize, status: u8, line: &str) -> Result<bool, NoMemory> {
-    let file = nested(alloc, count)?;
-    let mut files = sure_file(alloc, "a.c", file.as_bytes())?;
+fn is_nested_so(alloc: Global, count: usize, status: u8, line: &str) -> bool {
     let answer = Answer {
         status,
         put: "",
         line,
     };
-    answers(alloc, &mut files, "cheric run a.c", [0; 2], answer)
+    let Ok(file) = nested(alloc, count) else {
+        return false;
+    };
+    is_answered(alloc, file.as_bytes(), "cheric run a.c", answer)
 }
 
 /// Short files whose lists have more than 4,194,304 scalars in sum, which are answered before a zero is made of the
@@ -106,14 +105,19 @@ const LARGE: [&str; 3] = [
     "int main(void){char a[65536]=\"\",b[4128769]={1};return 0;}",
 ];
 
+/// The refusal of a file.
+fn refusal(alloc: Global, file: &str) -> Option<Refusal> {
+    build(alloc, file.as_bytes()).err()
+}
+
 #[test]
-fn large_lists_of_locals_want_memory(rt: HostRuntime) -> Result<(), Fail> {
-    let alloc = rt.alloc();
+fn large_lists_of_locals_want_memory(rt: HostRuntime) {
     for &file in &LARGE {
-        let answer = build(alloc, file.as_bytes()).err();
-        assert!(rt; matches!(answer, Some(Refusal::NoMemory)), "{file}");
+        assert!(rt;
+            refusal(rt.alloc(), file) == Some(Refusal::NoMemory),
+            "{file}"
+        );
     }
-    Ok(())
 }
 
 /// An address past 2^63 bytes, in an array that is too short when its length is known.
@@ -121,20 +125,22 @@ const FAR: &str = "extern char c[];char*p=c+0x7fffffffffffffff+0x7ffffffffffffff
 int main(void){return 0;}";
 
 #[test]
-fn a_far_address_is_refused_at_the_end(rt: HostRuntime) -> Result<(), Fail> {
-    let alloc = rt.alloc();
-    let answer = build(alloc, FAR.as_bytes()).err();
-    assert!(rt; matches!(answer, Some(Refusal::Code(134, Pos { line: 1, col: 24 }))));
-    Ok(())
+fn a_far_address_is_refused_at_the_end(rt: HostRuntime) {
+    let place = Pos { line: 1, col: 24 };
+    assert!(rt; refusal(rt.alloc(), FAR) == Some(Refusal::Code(134, place)));
+}
+
+fn is_deep(alloc: Global, count: usize) -> bool {
+    let Ok(file) = nested(alloc, count) else {
+        return false;
+    };
+    matches!(refusal(alloc, &file), Some(Refusal::Code(120, _)))
 }
 
 #[test]
-fn brackets_nest_up_to_the_limits(rt: HostRuntime) -> Result<(), Fail> {
-    let alloc = rt.alloc();
-    assert!(rt; is_answered(alloc, 100, 1, "exit 1\n")?);
-    let deep = build(alloc, nested(alloc, 199)?.as_bytes()).err();
-    assert!(rt; matches!(deep, Some(Refusal::Code(120, _))));
+fn brackets_nest_up_to_the_limits(rt: HostRuntime) {
+    assert!(rt; is_nested_so(rt.alloc(), 100, 1, "exit 1\n"));
+    assert!(rt; is_deep(rt.alloc(), 199));
     // a file of more than 200 open brackets, of which the function's body is the first
-    assert!(rt; is_answered(alloc, 200, 10, "refused 121 1:222\n")?);
-    Ok(())
+    assert!(rt; is_nested_so(rt.alloc(), 200, 10, "refused 121 1:222\n"));
 }

@@ -1,13 +1,11 @@
 //! The modes `build` and `exec` of the command.
 
-use crate::calls::{Answer, answers, one_file, sure_file};
+use crate::calls::{Answer, answers, elf_of, line_of_built, one_file, sure_file};
 use crate::whole_files::WORDS;
 use cheric_build::build;
-use ck_base::{Files, NoMemory, SureFiles};
+use ck_base::{Files, SureFiles};
 use elf_file::View;
-use std::alloc::Global;
-use std::fmt::Write;
-use std::test::Fail;
+use std::alloc::{AllocError, Global};
 
 const HI: &str = "int main(void){putchar(72);putchar(105);return 0;}";
 
@@ -28,16 +26,19 @@ fn quiet(status: u8, line: &str) -> Answer<'_> {
 }
 
 /// Whether the command says of these words that it built so many bytes.
-fn says_built(alloc: Global, files: &mut SureFiles, words: &str, len: usize) -> Result<bool, Fail> {
-    let mut line = String::new(alloc);
-    writeln!(line, "built {len}")?;
-    Ok(answers(alloc, files, words, [0; 2], quiet(0, &line))?)
+fn says_built(alloc: Global, files: &mut SureFiles, words: &str, len: usize) -> bool {
+    match line_of_built(alloc, len) {
+        Ok(line) => answers(alloc, files, words, [0; 2], quiet(0, &line)).unwrap_or(false),
+        Err(_) => false,
+    }
 }
 
 /// Whether the file of this name has these bytes.
-fn has(alloc: Global, files: &mut SureFiles, name: &str, bytes: &[u8]) -> Result<bool, Fail> {
-    let got = files.get(alloc, name).ok().ok_or("no file")?;
-    Ok(got.as_slice() == bytes)
+fn has(alloc: Global, files: &mut SureFiles, name: &str, bytes: &[u8]) -> bool {
+    let Ok(got) = files.get(alloc, name) else {
+        return false;
+    };
+    got.as_slice() == bytes
 }
 
 /// The answer that the limit of steps was reached.
@@ -74,57 +75,63 @@ const LINES: [(&str, [u64; 2], Answer); 7] = [
     ),
 ];
 
-/// The first words that are answered otherwise, or the name of a file that has other bytes, where `a.c` is built to
-/// `elf`.
-fn answered_otherwise(
-    alloc: Global,
-    files: &mut SureFiles,
-    elf: &[u8],
-) -> Result<Option<&'static str>, Fail> {
-    for words in ["cheric build a.c", "cheric build a.c --out b"] {
-        if !says_built(alloc, files, words, elf.len())? {
-            return Ok(Some(words));
-        }
-    }
+/// Whether the lines are answered so.
+fn lines_are_answered(alloc: Global, files: &mut SureFiles) -> bool {
     for &(words, failing, answer) in &LINES {
-        if !answers(alloc, files, words, failing, answer)? {
-            return Ok(Some(words));
+        if !answers(alloc, files, words, failing, answer).unwrap_or(false) {
+            return false;
         }
     }
-    for (name, bytes) in [("a.c", HI.as_bytes()), ("a.c.elf", elf), ("b", elf)] {
-        if !has(alloc, files, name, bytes)? {
-            return Ok(Some(name));
-        }
-    }
-    Ok(None)
+    true
+}
+
+/// Whether `a.c` is built to `elf` under both names, and run.
+fn is_built_and_run(alloc: Global, elf: &[u8]) -> bool {
+    let Ok(mut files) = sure_file(alloc, "a.c", HI.as_bytes()) else {
+        return false;
+    };
+    says_built(alloc, &mut files, "cheric build a.c", elf.len())
+        && says_built(alloc, &mut files, "cheric build a.c --out b", elf.len())
+        && lines_are_answered(alloc, &mut files)
+        && has(alloc, &mut files, "a.c", HI.as_bytes())
+        && has(alloc, &mut files, "a.c.elf", elf)
+        && has(alloc, &mut files, "b", elf)
 }
 
 #[test]
-fn a_built_file_is_run(rt: HostRuntime) -> Result<(), Fail> {
-    let alloc = rt.alloc();
-    let elf = build(alloc, HI.as_bytes())?.elf;
-    let mut files = sure_file(alloc, "a.c", HI.as_bytes())?;
-    let otherwise = answered_otherwise(alloc, &mut files, &elf)?;
-    assert_eq!(rt; otherwise, None);
-    Ok(())
+fn a_built_file_is_run(rt: HostRuntime) {
+    let elf = elf_of(&rt, rt.alloc(), HI.as_bytes());
+    assert!(rt; is_built_and_run(rt.alloc(), &elf));
 }
 
-/// Whether the command refuses an ELF file by this line.
-fn is_refused(alloc: Global, elf: &[u8], line: &str) -> Result<bool, NoMemory> {
-    let mut files = one_file(alloc, "b", elf, 0)?;
-    answers(alloc, &mut files, "cheric exec b", [0; 2], quiet(12, line))
+/// Whether these words are answered by a status and a line on an ELF file `b`.
+fn says(alloc: Global, elf: &[u8], words: &str, status: u8, line: &str) -> bool {
+    match one_file(alloc, "b", elf, 0) {
+        Ok(mut files) => {
+            answers(alloc, &mut files, words, [0; 2], quiet(status, line)).unwrap_or(false)
+        }
+        Err(_) => false,
+    }
+}
+
+/// Whether the command refuses the first bytes of an ELF file by this line.
+fn is_cut_refused(alloc: Global, elf: &[u8], len: usize, line: &str) -> bool {
+    says(
+        alloc,
+        elf.get(..len).unwrap_or(&[]),
+        "cheric exec b",
+        12,
+        line,
+    )
 }
 
 #[test]
-fn cut_files_are_refused(rt: HostRuntime) -> Result<(), Fail> {
-    let alloc = rt.alloc();
-    let elf = build(alloc, HI.as_bytes())?.elf;
+fn cut_files_are_refused(rt: HostRuntime) {
+    let elf = elf_of(&rt, rt.alloc(), HI.as_bytes());
     let last = elf.len().saturating_sub(1);
-    for (len, line) in [(last, "image 5\n"), (64, "image 4\n"), (63, "image 1\n")] {
-        let cut = elf.get(..len).unwrap_or(&[]);
-        assert_eq!(rt; is_refused(alloc, cut, line), Ok(true), "{len}");
-    }
-    Ok(())
+    assert!(rt; is_cut_refused(rt.alloc(), &elf, last, "image 5\n"));
+    assert!(rt; is_cut_refused(rt.alloc(), &elf, 64, "image 4\n"));
+    assert!(rt; is_cut_refused(rt.alloc(), &elf, 63, "image 1\n"));
 }
 
 /// The number of words before the relocations of a file whose text has a multiple of 16 bytes.
@@ -136,21 +143,31 @@ fn words_before_relocs(elf: &[u8]) -> usize {
 /// An object whose bounds are told exactly, and its use past them.
 const OBJECT: &str = "char a[4095];int main(void){a[4094]=1;a[4095]=1;return 0;}";
 
+/// The file with a zero in place of its first relocation's place.
+fn without_place(alloc: Global, elf: &[u8]) -> Result<Vec<u8>, AllocError> {
+    let k = words_before_relocs(elf);
+    let lower = with_word(alloc, elf, k, 0)?;
+    with_word(alloc, &lower, k.saturating_add(1), 0)
+}
+
+fn is_refused_without_place(alloc: Global, elf: &[u8]) -> bool {
+    let Ok(bytes) = without_place(alloc, elf) else {
+        return false;
+    };
+    bytes.as_slice() != elf && says(alloc, &bytes, "cheric exec b", 12, "image 13\n")
+}
+
 #[test]
-fn a_relocation_without_a_place_is_refused(rt: HostRuntime) -> Result<(), Fail> {
-    let alloc = rt.alloc();
-    let elf = build(alloc, OBJECT.as_bytes())?.elf;
-    let k = words_before_relocs(&elf);
-    let lower = with_word(alloc, &elf, k, 0)?;
-    let bytes = with_word(alloc, &lower, k.saturating_add(1), 0)?;
-    assert!(rt; bytes.as_slice() != elf.as_slice());
-    assert!(rt; is_refused(alloc, &bytes, "image 13\n")?);
-    Ok(())
+fn a_relocation_without_a_place_is_refused(rt: HostRuntime) {
+    let elf = elf_of(&rt, rt.alloc(), OBJECT.as_bytes());
+    assert!(rt; is_refused_without_place(rt.alloc(), &elf));
 }
 
 /// Words, a C file, the failing call of the files and of the notes, with the status and line of an answer that puts no
 /// name.
-const UNPUT: [(&str, &str, u64, u64, u8, &str); 7] = [
+type Unput = (&'static str, &'static str, u64, u64, u8, &'static str);
+
+const UNPUT: [Unput; 7] = [
     (
         "cheric build a.c",
         "int main(void){return x;}",
@@ -174,35 +191,22 @@ const UNPUT: [(&str, &str, u64, u64, u8, &str); 7] = [
     ("cheric exec a.c.elf", HI, 0, 0, 20, "file\n"),
 ];
 
-/// Whether the command answers these words by a line without output, puts no name and leaves `a.c` as it was.
-fn puts_no_name(
-    alloc: Global,
-    words: &str,
-    file: &str,
-    failing: [u64; 2],
-    answer: Answer<'_>,
-) -> Result<bool, NoMemory> {
-    let [call, note] = failing;
-    let mut files = one_file(alloc, "a.c", file.as_bytes(), call)?;
-    let answered = answers(alloc, &mut files, words, [0, note], answer)?;
-    Ok(
-        answered
-            && files.contents("a.c.elf").is_none()
-            && files.contents("a.c") == Some(file.as_bytes()),
-    )
+/// Whether the command answers so, puts no name and leaves `a.c` as it was.
+fn puts_no_name(alloc: Global, &(words, file, call, note, status, line): &Unput) -> bool {
+    let Ok(mut files) = one_file(alloc, "a.c", file.as_bytes(), call) else {
+        return false;
+    };
+    let answered = answers(alloc, &mut files, words, [0, note], quiet(status, line));
+    answered.unwrap_or(false)
+        && files.contents("a.c.elf").is_none()
+        && files.contents("a.c") == Some(file.as_bytes())
 }
 
 #[test]
-fn a_refused_file_puts_no_name(rt: HostRuntime) -> Result<(), Fail> {
-    let alloc = rt.alloc();
-    for &(words, file, call, note, status, line) in &UNPUT {
-        let answer = quiet(status, line);
-        assert!(rt;
-            puts_no_name(alloc, words, file, [call, note], answer)?,
-            "{words}, {line}"
-        );
+fn a_refused_file_puts_no_name(rt: HostRuntime) {
+    for row in &UNPUT {
+        assert!(rt; puts_no_name(rt.alloc(), row), "{row:?}");
     }
-    Ok(())
 }
 
 /// The base of a built text.
@@ -212,7 +216,7 @@ const TEXT: u64 = 1_073_741_824;
 const TEXT_AT: usize = 736;
 
 /// The file with another word of its text, counted from 0.
-fn with_word(alloc: Global, elf: &[u8], k: usize, word: u32) -> Result<Vec<u8>, NoMemory> {
+fn with_word(alloc: Global, elf: &[u8], k: usize, word: u32) -> Result<Vec<u8>, AllocError> {
     let mut bytes = Vec::from_slice(alloc, elf)?;
     if k <= 262_144 && TEXT_AT + 4 * k + 4 <= bytes.len() {
         let at = TEXT_AT + 4 * k;
@@ -221,68 +225,78 @@ fn with_word(alloc: Global, elf: &[u8], k: usize, word: u32) -> Result<Vec<u8>, 
     Ok(bytes)
 }
 
-/// Whether auditing a file says this, takes nothing and puts nothing.
-fn audits(alloc: Global, elf: &[u8], status: u8, line: &str) -> Result<bool, NoMemory> {
-    let mut files = one_file(alloc, "b", elf, 0)?;
-    answers(
-        alloc,
-        &mut files,
-        "cheric audit b",
-        [0; 2],
-        quiet(status, line),
-    )
-}
-
 /// How many words the text of a file has.
 fn words_in(elf: &[u8]) -> usize {
     View::read(elf).map_or(0, |view| view.text().len() / 4)
 }
 
+/// What is said of a word and a reason.
+fn line_of_word(alloc: Global, k: usize, reason: u8) -> Result<String, AllocError> {
+    let place = TEXT.wrapping_add((k as u64).wrapping_mul(4));
+    format!(in alloc; "audit no word {place} {reason}\n")
+}
+
 /// Whether the file with another word is audited by its place and a reason.
-fn names_word(alloc: Global, elf: &[u8], k: usize, word: u32, reason: u8) -> Result<bool, Fail> {
-    let mut line = String::new(alloc);
-    writeln!(
-        line,
-        "audit no word {} {reason}",
-        TEXT.wrapping_add((k as u64).wrapping_mul(4))
-    )?;
-    let bytes = with_word(alloc, elf, k, word)?;
-    Ok(audits(alloc, &bytes, 7, &line)?)
+fn names_word(alloc: Global, elf: &[u8], k: usize, word: u32, reason: u8) -> bool {
+    match (
+        with_word(alloc, elf, k, word),
+        line_of_word(alloc, k, reason),
+    ) {
+        (Ok(bytes), Ok(line)) => says(alloc, &bytes, "cheric audit b", 7, &line),
+        _ => false,
+    }
+}
+
+fn is_contained(alloc: Global, elf: &[u8]) -> bool {
+    says(alloc, elf, "cheric audit b", 0, "audit yes\n")
+}
+
+/// `ebreak` as the first word, and `addi x10,x0,72` as the last one, and the first bytes alone.
+fn changes_are_named(alloc: Global, elf: &[u8]) -> bool {
+    let count = words_in(elf);
+    count > 1
+        && names_word(alloc, elf, 0, 0x0010_0073, 2)
+        && names_word(alloc, elf, count.saturating_sub(1), 0x0480_0513, 6)
+        && says(
+            alloc,
+            elf.get(..63).unwrap_or(&[]),
+            "cheric audit b",
+            12,
+            "image 1\n",
+        )
 }
 
 #[test]
-fn built_files_are_audited(rt: HostRuntime) -> Result<(), Fail> {
-    let alloc = rt.alloc();
-    for file in [HI, WORDS] {
-        let elf = build(alloc, file.as_bytes())?.elf;
-        assert!(rt; audits(alloc, &elf, 0, "audit yes\n")?, "{file}");
-    }
-    let elf = build(alloc, HI.as_bytes())?.elf;
-    let count = words_in(&elf);
-    assert!(rt; count > 1);
-    // `ebreak` as the first word, and `addi x10,x0,72` as the last one.
-    assert!(rt; names_word(alloc, &elf, 0, 0x0010_0073, 2)?);
-    assert!(rt; names_word(alloc, &elf, count.saturating_sub(1), 0x0480_0513, 6)?);
-    assert!(rt; audits(alloc, elf.get(..63).unwrap_or(&[]), 12, "image 1\n")?);
-    Ok(())
+fn built_files_are_audited(rt: HostRuntime) {
+    let elf = elf_of(&rt, rt.alloc(), HI.as_bytes());
+    assert!(rt; is_contained(rt.alloc(), &elf));
+    assert!(rt; changes_are_named(rt.alloc(), &elf));
+    assert!(rt; is_contained(rt.alloc(), &elf_of(&rt, rt.alloc(), WORDS.as_bytes())));
+}
+
+/// Whether a file's image says its version and its count, and nothing behind.
+fn says_its_count(alloc: Global, file: &str) -> bool {
+    let Ok(built) = build(alloc, file.as_bytes()) else {
+        return false;
+    };
+    let Ok(view) = View::read(&built.elf) else {
+        return false;
+    };
+    view.word(0) == Some(2) && view.word(12) == Some(built.count) && view.word(13).is_none()
 }
 
 #[test]
-fn a_built_file_says_its_version_and_its_count(rt: HostRuntime) -> Result<(), Fail> {
-    let alloc = rt.alloc();
-    for file in [HI, WORDS] {
-        let built = build(alloc, file.as_bytes())?;
-        let view = View::read(&built.elf)?;
-        assert!(rt; view.word(0) == Some(2), "{file}");
-        assert!(rt; view.word(12) == Some(built.count), "{file}");
-        assert!(rt; view.word(13) == None, "{file}");
+fn a_built_file_says_its_version_and_its_count(rt: HostRuntime) {
+    for &file in &[HI, WORDS] {
+        assert!(rt; says_its_count(rt.alloc(), file), "{file}");
     }
-    Ok(())
 }
 
 /// Words, the failing call of the files and of the notes, with the status and line of an audit of a file that is
 /// audited by a yes.
-const AUDITS: [(&str, u64, u64, u8, &str); 5] = [
+type Audit = (&'static str, u64, u64, u8, &'static str);
+
+const AUDITS: [Audit; 5] = [
     ("cheric audit b", 0, 0, 0, "audit yes\n"),
     ("cheric audit b --steps 9 --out c", 0, 0, 0, "audit yes\n"),
     ("cheric audit b", 1, 0, 20, "file\n"),
@@ -290,17 +304,19 @@ const AUDITS: [(&str, u64, u64, u8, &str); 5] = [
     ("cheric audit c", 0, 0, 20, "file\n"),
 ];
 
-#[test]
-fn an_audit_reads_its_file_alone(rt: HostRuntime) -> Result<(), Fail> {
-    let alloc = rt.alloc();
-    let elf = build(alloc, HI.as_bytes())?.elf;
-    for &(words, call, note, status, line) in &AUDITS {
-        let mut files = one_file(alloc, "b", &elf, call)?;
-        let answer = quiet(status, line);
-        assert!(rt;
-            answers(alloc, &mut files, words, [0, note], answer)?,
-            "{words}, {line}"
-        );
+fn is_audited(alloc: Global, elf: &[u8], &(words, call, note, status, line): &Audit) -> bool {
+    match one_file(alloc, "b", elf, call) {
+        Ok(mut files) => {
+            answers(alloc, &mut files, words, [0, note], quiet(status, line)).unwrap_or(false)
+        }
+        Err(_) => false,
     }
-    Ok(())
+}
+
+#[test]
+fn an_audit_reads_its_file_alone(rt: HostRuntime) {
+    let elf = elf_of(&rt, rt.alloc(), HI.as_bytes());
+    for row in &AUDITS {
+        assert!(rt; is_audited(rt.alloc(), &elf, row), "{row:?}");
+    }
 }

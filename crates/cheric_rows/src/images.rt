@@ -1,14 +1,12 @@
 //! Images by hand: written to their files, read, loaded and run.
 
-use crate::calls::{Answer, answers, one_file};
+use crate::calls::{Answer, answers, elf_of, one_file};
 use crate::version_1::{TAIL, WORDS};
 use cap_machine::End;
-use cheric_build::build;
 use ck_base::{NoMemory, SureSink, SureSource};
 use elf_file::{ElfRefusal, Image, Reloc, Sequence, View, write};
 use image_load::{LoadRefusal, load};
 use std::alloc::{AllocError, Global};
-use std::test::Fail;
 
 const TEXT: u64 = 65_536;
 
@@ -49,20 +47,15 @@ fn outcome_of(alloc: Global, file: &[u8]) -> Outcome {
     }
 }
 
-/// The file of an image of four equal words.
-fn file(
-    alloc: Global,
-    version: u64,
-    word: u32,
-    entry: u64,
-    heap: u64,
-    reloc: Reloc,
-) -> Result<Vec<u8>, NoMemory> {
-    let mut relocs = Vec::new(alloc);
-    relocs.push(reloc)?;
+/// What differs between the images: the version, the word that stands four times, the entry, the base of the heap and
+/// the relocation.
+type Form = (u64, u32, u64, u64, Reloc);
+
+fn image(alloc: Global, &(version, word, entry, heap, reloc): &Form) -> Result<Image, AllocError> {
     let text = Vec::from_slice(alloc, [word.to_le_bytes(); 4].as_flattened())?;
     let initial = vec![in alloc; 0; 48]?;
-    let image = Image {
+    let relocs = vec![in alloc; reloc]?;
+    Ok(Image {
         version,
         entry,
         text_base: TEXT,
@@ -75,21 +68,21 @@ fn file(
         relocs: Sequence::from_vec(relocs),
         lines: Sequence::from_vec(Vec::new(alloc)),
         count: 0,
-    };
+    })
+}
+
+/// The file of an image.
+fn file(alloc: Global, form: &Form) -> Result<Vec<u8>, NoMemory> {
+    let image = image(alloc, form)?;
     write(alloc, &image)
 }
 
-/// What becomes of that file.
-fn file_outcome(
-    alloc: Global,
-    version: u64,
-    word: u32,
-    entry: u64,
-    heap: u64,
-    reloc: Reloc,
-) -> Result<Outcome, NoMemory> {
-    let elf = file(alloc, version, word, entry, heap, reloc)?;
-    Ok(outcome_of(alloc, &elf))
+/// Whether this becomes of that file.
+fn becomes(alloc: Global, form: &Form, want: Outcome) -> bool {
+    let Ok(elf) = file(alloc, form) else {
+        return false;
+    };
+    outcome_of(alloc, &elf) == want
 }
 
 /// Version, word, entry and the heap's base, with what becomes of the image.
@@ -165,12 +158,15 @@ const RELOCS: [(u64, u64, u64, u64, Outcome); 5] = [
 ];
 
 #[test]
-fn images_end_or_are_refused(rt: HostRuntime) -> Result<(), Fail> {
-    let alloc = rt.alloc();
+fn images_end_or_are_refused(rt: HostRuntime) {
     for &(version, word, entry, heap, want) in &IMAGES {
-        let got = file_outcome(alloc, version, word, entry, heap, RELOC)?;
-        assert_eq!(rt; got, want, "version {version}, entry {entry}, heap {heap}");
+        let form = (version, word, entry, heap, RELOC);
+        assert!(rt; becomes(rt.alloc(), &form, want), "{want:?} of {form:?}");
     }
+}
+
+#[test]
+fn relocations_are_taken_or_refused(rt: HostRuntime) {
     for &(place, base, length, perms, want) in &RELOCS {
         let reloc = Reloc {
             place,
@@ -179,10 +175,9 @@ fn images_end_or_are_refused(rt: HostRuntime) -> Result<(), Fail> {
             length,
             perms,
         };
-        let got = file_outcome(alloc, 1, 0x0010_0073, TEXT, HEAP, reloc)?;
-        assert_eq!(rt; got, want, "{reloc:?}");
+        let form = (1, 0x0010_0073, TEXT, HEAP, reloc);
+        assert!(rt; becomes(rt.alloc(), &form, want), "{want:?} of {reloc:?}");
     }
-    Ok(())
 }
 
 /// A relocation with bounds that no capability has.
@@ -194,68 +189,77 @@ const WIDE: Reloc = Reloc {
     perms: 125,
 };
 
-/// Version, word, entry, the heap's base and the relocation, with the status and line of the command's mode `exec`.
-const EXECUTED: [(u64, u32, u64, u64, Reloc, u8, &str); 7] = [
-    (1, 0x0010_0073, TEXT, HEAP, RELOC, 6, "break 65536\n"),
-    (1, 0, TEXT, HEAP, RELOC, 6, "illegal 65536\n"),
-    (1, 0, TEXT + 2, HEAP, RELOC, 12, "image 15\n"),
-    (1, 0, TEXT, STACK, RELOC, 12, "image 12\n"),
-    (1, 0, TEXT, HEAP, WIDE, 12, "image 14\n"),
-    (2, 0, TEXT, HEAP, RELOC, 6, "illegal 65536\n"),
-    (3, 0, TEXT, HEAP, RELOC, 12, "image 6\n"),
+/// Images, with the status and line of the command's mode `exec`.
+const EXECUTED: [(Form, u8, &str); 7] = [
+    ((1, 0x0010_0073, TEXT, HEAP, RELOC), 6, "break 65536\n"),
+    ((1, 0, TEXT, HEAP, RELOC), 6, "illegal 65536\n"),
+    ((1, 0, TEXT + 2, HEAP, RELOC), 12, "image 15\n"),
+    ((1, 0, TEXT, STACK, RELOC), 12, "image 12\n"),
+    ((1, 0, TEXT, HEAP, WIDE), 12, "image 14\n"),
+    ((2, 0, TEXT, HEAP, RELOC), 6, "illegal 65536\n"),
+    ((3, 0, TEXT, HEAP, RELOC), 12, "image 6\n"),
 ];
 
-#[test]
-fn the_command_runs_or_refuses_images(rt: HostRuntime) -> Result<(), Fail> {
-    let alloc = rt.alloc();
-    for &(version, word, entry, heap, reloc, status, line) in &EXECUTED {
-        let elf = file(alloc, version, word, entry, heap, reloc)?;
-        let mut files = one_file(alloc, "a.elf", &elf, 0)?;
-        let answer = Answer {
-            status,
-            put: "",
-            line,
-        };
-        assert!(rt;
-            answers(alloc, &mut files, "cheric exec a.elf", [0; 2], answer)?,
-            "{line}"
-        );
+/// Whether the command answers these words so on a file of an image.
+fn is_answered(alloc: Global, elf: &[u8], words: &str, answer: Answer<'_>) -> bool {
+    match one_file(alloc, "a.elf", elf, 0) {
+        Ok(mut files) => answers(alloc, &mut files, words, [0; 2], answer).unwrap_or(false),
+        Err(_) => false,
     }
-    Ok(())
 }
 
-/// The file of version 1.
-fn first_version(alloc: Global) -> Result<Vec<u8>, AllocError> {
-    let mut file = Vec::new(alloc);
-    for word in &WORDS {
-        file.extend_from_slice(&word.to_le_bytes())?;
+/// Whether it answers so by a line alone on the image.
+fn says(alloc: Global, words: &str, (form, status, line): &(Form, u8, &str)) -> bool {
+    let answer = Answer {
+        status: *status,
+        put: "",
+        line: *line,
+    };
+    let Ok(elf) = file(alloc, form) else {
+        return false;
+    };
+    is_answered(alloc, &elf, words, answer)
+}
+
+#[test]
+fn the_command_runs_or_refuses_images(rt: HostRuntime) {
+    for row in &EXECUTED {
+        assert!(rt; says(rt.alloc(), "cheric exec a.elf", row), "{row:?}");
     }
-    file.extend_from_slice(&TAIL)?;
-    Ok(file)
 }
 
 /// The version word of the file stands here.
 const VERSION_AT: usize = 960;
 
+/// The file of version 1, with this version word.
+fn first_version(alloc: Global, version: u8) -> Result<Vec<u8>, AllocError> {
+    let mut file = Vec::new(alloc);
+    for word in &WORDS {
+        file.extend_from_slice(&word.to_le_bytes())?;
+    }
+    file.extend_from_slice(&TAIL)?;
+    if VERSION_AT < file.len() {
+        file[VERSION_AT] = version;
+    }
+    Ok(file)
+}
+
 /// The version word of the file, with the status, output and line of the command's mode `exec`.
 const VERSIONS: [(u8, u8, &str, &str); 2] = [(1, 0, "Hi", "exit 0\n"), (2, 12, "", "image 6\n")];
 
+fn runs_version(alloc: Global, &(version, status, put, line): &(u8, u8, &str, &str)) -> bool {
+    let answer = Answer { status, put, line };
+    let Ok(elf) = first_version(alloc, version) else {
+        return false;
+    };
+    is_answered(alloc, &elf, "cheric exec a.elf", answer)
+}
+
 #[test]
-fn the_command_runs_a_file_of_version_1(rt: HostRuntime) -> Result<(), Fail> {
-    let alloc = rt.alloc();
-    let mut elf = first_version(alloc)?;
-    for &(version, status, put, line) in &VERSIONS {
-        if VERSION_AT < elf.len() {
-            elf[VERSION_AT] = version;
-        }
-        let mut files = one_file(alloc, "a.elf", &elf, 0)?;
-        let answer = Answer { status, put, line };
-        assert!(rt;
-            answers(alloc, &mut files, "cheric exec a.elf", [0; 2], answer)?,
-            "{line}"
-        );
+fn the_command_runs_a_file_of_version_1(rt: HostRuntime) {
+    for row in &VERSIONS {
+        assert!(rt; runs_version(rt.alloc(), row), "{row:?}");
     }
-    Ok(())
 }
 
 /// A sentry's permissions on the table, and all permissions but Execute on the text.
@@ -270,36 +274,40 @@ const OVER_TEXT: Reloc = Reloc {
     ..RELOC
 };
 
-/// Version, word, entry and the relocation, with the status and line of the command's mode `audit`.
-const AUDITED: [(u64, u32, u64, Reloc, u8, &str); 8] = [
+/// Images, with the status and line of the command's mode `audit`.
+const AUDITED: [(Form, u8, &str); 8] = [
     // `cjal c0,0`
-    (1, 0x0000_006f, TEXT, RELOC, 0, "audit yes\n"),
-    (2, 0x0000_006f, TEXT, RELOC, 0, "audit yes\n"),
-    (1, 0x0000_006f, TEXT, EXECUTE, 7, "audit no reloc 0 7\n"),
-    (2, 0x0000_006f, TEXT, OVER_TEXT, 7, "audit no reloc 0 8\n"),
-    (1, 0, TEXT, RELOC, 7, "audit no word 65536 1\n"),
-    (1, 0x0010_0073, TEXT, EXECUTE, 7, "audit no word 65536 2\n"),
-    (1, 0x0000_0073, TEXT, RELOC, 7, "audit no word 65536 4\n"),
-    (1, 0, TEXT + 2, RELOC, 12, "image 15\n"),
+    ((1, 0x0000_006f, TEXT, HEAP, RELOC), 0, "audit yes\n"),
+    ((2, 0x0000_006f, TEXT, HEAP, RELOC), 0, "audit yes\n"),
+    (
+        (1, 0x0000_006f, TEXT, HEAP, EXECUTE),
+        7,
+        "audit no reloc 0 7\n",
+    ),
+    (
+        (2, 0x0000_006f, TEXT, HEAP, OVER_TEXT),
+        7,
+        "audit no reloc 0 8\n",
+    ),
+    ((1, 0, TEXT, HEAP, RELOC), 7, "audit no word 65536 1\n"),
+    (
+        (1, 0x0010_0073, TEXT, HEAP, EXECUTE),
+        7,
+        "audit no word 65536 2\n",
+    ),
+    (
+        (1, 0x0000_0073, TEXT, HEAP, RELOC),
+        7,
+        "audit no word 65536 4\n",
+    ),
+    ((1, 0, TEXT + 2, HEAP, RELOC), 12, "image 15\n"),
 ];
 
 #[test]
-fn the_command_audits_images(rt: HostRuntime) -> Result<(), Fail> {
-    let alloc = rt.alloc();
-    for &(version, word, entry, reloc, status, line) in &AUDITED {
-        let elf = file(alloc, version, word, entry, HEAP, reloc)?;
-        let mut files = one_file(alloc, "a.elf", &elf, 0)?;
-        let answer = Answer {
-            status,
-            put: "",
-            line,
-        };
-        assert!(rt;
-            answers(alloc, &mut files, "cheric audit a.elf", [0; 2], answer)?,
-            "{line}"
-        );
+fn the_command_audits_images(rt: HostRuntime) {
+    for row in &AUDITED {
+        assert!(rt; says(rt.alloc(), "cheric audit a.elf", row), "{row:?}");
     }
-    Ok(())
 }
 
 /// What becomes of a built file that is cut to a length.
@@ -338,10 +346,9 @@ fn first_wrong_byte(alloc: Global, elf: &mut [u8]) -> Option<usize> {
 }
 
 #[test]
-fn built_files_are_refused_at_each_cut_and_header_byte(rt: HostRuntime) -> Result<(), Fail> {
-    let alloc = rt.alloc();
-    let mut elf = build(alloc, b"int main(void){putchar(72);putchar(105);return 0;}")?.elf;
-    assert_eq!(rt; first_wrong_cut(alloc, &elf), None);
-    assert_eq!(rt; first_wrong_byte(alloc, &mut elf), None);
-    Ok(())
+fn built_files_are_refused_at_each_cut_and_header_byte(rt: HostRuntime) {
+    let file = b"int main(void){putchar(72);putchar(105);return 0;}";
+    let mut elf = elf_of(&rt, rt.alloc(), file);
+    assert!(rt; first_wrong_cut(rt.alloc(), &elf).is_none());
+    assert!(rt; first_wrong_byte(rt.alloc(), &mut elf).is_none());
 }

@@ -1,9 +1,6 @@
 //! The programs of `examples/` that show where the strict meaning ends: what `run` and `mean` put, and how they end.
 
-use crate::calls::{Answer, answers_input, sure_file};
-use std::alloc::Global;
-use std::process::Abort;
-use std::test::Fail;
+use crate::calls::{Row, files_are_answered};
 
 const ADDRESS: &str =
     r#"/* Which of two objects stands first is not said by C: another map may order them the other way.
@@ -121,10 +118,7 @@ int main(void) {
 }
 "#;
 
-/// A program, and the status, output and line of a mode.
-type Example = (&'static str, u8, &'static str, &'static str);
-
-const RUN: [Example; 8] = [
+const RUN: [Row; 8] = [
     (ADDRESS, 0, "<", "exit 0\n"),
     (UNDEFINED, 0, "3N", "exit 0\n"),
     (UNWRITTEN, 0, "10", "exit 0\n"),
@@ -135,7 +129,7 @@ const RUN: [Example; 8] = [
     (OVERLAP, 0, "1", "exit 0\n"),
 ];
 
-const MEANT: [Example; 9] = [
+const MEANT: [Row; 9] = [
     (ADDRESS, 5, "", "unspecified address 6:15\n"),
     (UNDEFINED, 5, "3", "unspecified undefined 9:14\n"),
     (UNWRITTEN, 5, "1", "unspecified unwritten 7:24\n"),
@@ -147,27 +141,12 @@ const MEANT: [Example; 9] = [
     (OUTSIDE, 5, "7", "outside 9:19\n"),
 ];
 
-fn examples_answer(
-    rt: &impl Abort,
-    alloc: Global,
-    examples: &[Example],
-    words: &str,
-) -> Result<(), Fail> {
-    for &(file, status, put, line) in examples {
-        let mut files = sure_file(alloc, "a.c", file.as_bytes())?;
-        let answer = Answer { status, put, line };
-        let does = answers_input(alloc, &mut files, words, (b"", 0), [0; 2], answer)?;
-        assert!(rt; does, "{words}: {file}");
-    }
-    Ok(())
+#[test]
+fn examples_run_to_their_ends(rt: HostRuntime) {
+    files_are_answered(&rt, rt.alloc(), "cheric run a.c", &RUN);
 }
 
 #[test]
-fn examples_run_to_their_ends(rt: HostRuntime) -> Result<(), Fail> {
-    examples_answer(&rt, rt.alloc(), &RUN, "cheric run a.c")
-}
-
-#[test]
-fn strict_meanings_of_examples_end_by_their_reasons(rt: HostRuntime) -> Result<(), Fail> {
-    examples_answer(&rt, rt.alloc(), &MEANT, "cheric mean a.c")
+fn strict_meanings_of_examples_end_by_their_reasons(rt: HostRuntime) {
+    files_are_answered(&rt, rt.alloc(), "cheric mean a.c", &MEANT);
 }

@@ -1,12 +1,10 @@
 //! The mode `mean`: where the strict meaning of a program ends.
 
-use crate::calls::{Answer, answers_input, sure_file};
-use std::test::Fail;
+use crate::calls::{Answer, Row, answers_input, files_are_answered, sure_file};
+use std::alloc::Global;
 
-/// A file, and the status, output and line by which its strict meaning ends, without input and with eleven turns.
-type Meant = (&'static str, u8, &'static str, &'static str);
-
-const MEANT: [Meant; 16] = [
+/// Files, and how their strict meanings end, with eleven turns.
+const MEANT: [Row; 16] = [
     (
         "int main(void){int a[10];int i;for(i=0;i<=10;i=i+1){a[i]=i;putchar(65+i);}return 0;}",
         2,
@@ -96,38 +94,36 @@ const MEANT: [Meant; 16] = [
 ];
 
 #[test]
-fn strict_meanings_end_so(rt: HostRuntime) -> Result<(), Fail> {
-    let alloc = rt.alloc();
-    for &(file, status, put, line) in &MEANT {
-        let mut files = sure_file(alloc, "a.c", file.as_bytes())?;
-        let answer = Answer { status, put, line };
-        let words = "cheric mean a.c --turns 11";
-        assert!(rt;
-            answers_input(alloc, &mut files, words, (b"", 0), [0; 2], answer)?,
-            "{file}"
-        );
-    }
-    Ok(())
+fn strict_meanings_end_so(rt: HostRuntime) {
+    files_are_answered(&rt, rt.alloc(), "cheric mean a.c --turns 11", &MEANT);
+}
+
+/// A file that copies its input.
+const COPY: &str = "int main(void){int c;while((c=getchar())!=-1)putchar(c);return 0;}";
+
+/// The failing calls of the input, and of the output and the notes, with the status, output and line.
+type Fault = (u64, [u64; 2], u8, &'static str, &'static str);
+
+const FAULTS: [Fault; 4] = [
+    (0, [0, 0], 0, "abc", "exit 0\n"),
+    (2, [0, 0], 21, "a", "input\n"),
+    (0, [2, 0], 22, "a", "output\n"),
+    (0, [0, 1], 22, "abc", ""),
+];
+
+fn ends_so(alloc: Global, &(read, failing, status, put, line): &Fault) -> bool {
+    let Ok(mut files) = sure_file(alloc, "a.c", COPY.as_bytes()) else {
+        return false;
+    };
+    let answer = Answer { status, put, line };
+    let words = "cheric mean a.c";
+    answers_input(alloc, &mut files, words, (b"abc", read), failing, answer).unwrap_or(false)
 }
 
 /// Where the input, the output or the notes fail, `mean` answers as `run` does.
 #[test]
-fn faults_end_strict_meanings(rt: HostRuntime) -> Result<(), Fail> {
-    let alloc = rt.alloc();
-    let file = b"int main(void){int c;while((c=getchar())!=-1)putchar(c);return 0;}";
-    for &(read, failing, status, put, line) in &[
-        (0, [0, 0], 0, "abc", "exit 0\n"),
-        (2, [0, 0], 21, "a", "input\n"),
-        (0, [2, 0], 22, "a", "output\n"),
-        (0, [0, 1], 22, "abc", ""),
-    ] {
-        let mut files = sure_file(alloc, "a.c", file)?;
-        let answer = Answer { status, put, line };
-        let input = (b"abc".as_slice(), read);
-        assert!(rt;
-            answers_input(alloc, &mut files, "cheric mean a.c", input, failing, answer)?,
-            "{read}"
-        );
+fn faults_end_strict_meanings(rt: HostRuntime) {
+    for row in &FAULTS {
+        assert!(rt; ends_so(rt.alloc(), row), "{row:?}");
     }
-    Ok(())
 }

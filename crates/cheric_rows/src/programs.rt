@@ -8,9 +8,9 @@ use c_tree::{Typed, weight};
 use cap_reloc::{Table, table};
 use cheric_build::{build, build_typed, front};
 use ck_base::{NoMemory, Pos, Refusal, Sequence};
+use elf_file::Reloc;
 use obj_mem::{Frame, Map};
 use std::alloc::Global;
-use std::test::Fail;
 
 const COUNTS: &str = "int main(void){int a=3;while(a)a=a-1;return 0;}";
 
@@ -23,13 +23,16 @@ fn built(alloc: Global, file: &str, p: &Typed) -> Result<(bool, u64), Refusal>
     Ok((typed.elf.as_slice() == built.elf.as_slice(), built.count))
 }
 
-#[test]
-fn a_file_is_built_as_its_program(rt: HostRuntime) -> Result<(), Fail> {
-    let alloc = rt.alloc();
+/// What the file weighs, and whether it is built as its program, in so many steps for each turn.
+fn weighed(alloc: Global) -> Result<(u64, bool, u64), Refusal> {
     let p = front(alloc, COUNTS.as_bytes())?;
-    assert_eq!(rt; weight(&p), 24);
-    assert_eq!(rt; built(alloc, COUNTS, &p)?, (true, 32 * 24 + 4096));
-    Ok(())
+    let (is_same, count) = built(alloc, COUNTS, &p)?;
+    Ok((weight(&p), is_same, count))
+}
+
+#[test]
+fn a_file_is_built_as_its_program(rt: HostRuntime) {
+    assert!(rt; weighed(rt.alloc()) == Ok((24, true, 32 * 24 + 4096)));
 }
 
 /// Files, and the code at their start by which they are not built (0: none).
@@ -50,16 +53,20 @@ fn refused(alloc: Global, file: &str) -> Result<Option<Refusal>, Refusal> {
     Ok(build_typed(alloc, &p, USUAL).err())
 }
 
+fn is_refused(alloc: Global, &(file, code): &(&str, u16)) -> bool {
+    let at_start = Refusal::Code(code, Pos { line: 1, col: 1 });
+    let want = (code != 0).then_some(at_start);
+    let Ok(refusal) = refused(alloc, file) else {
+        return false;
+    };
+    refusal == want
+}
+
 #[test]
-fn programs_are_built_or_refused_at_their_start(rt: HostRuntime) -> Result<(), Fail> {
-    let alloc = rt.alloc();
-    for &(file, code) in &FILES {
-        let refusal = refused(alloc, file)?;
-        let at_start = Refusal::Code(code, Pos { line: 1, col: 1 });
-        let want = (code != 0).then_some(at_start);
-        assert_eq!(rt; refusal, want, "{file}");
+fn programs_are_built_or_refused_at_their_start(rt: HostRuntime) {
+    for row in &FILES {
+        assert!(rt; is_refused(rt.alloc(), row), "{row:?}");
     }
-    Ok(())
 }
 
 /// A frame of 16 bytes, which are saved area.
@@ -128,12 +135,73 @@ fn measured(alloc: Global, file: &str) -> Result<Option<(u64, usize, usize)>, Re
     Ok(Some((map.table.1, contents.relocs.len(), set)))
 }
 
+fn has_measures(alloc: Global, &(file, length, relocs, set): &(&str, u64, usize, usize)) -> bool {
+    let Ok(got) = measured(alloc, file) else {
+        return false;
+    };
+    got == Some((length, relocs, set))
+}
+
 #[test]
-fn objects_are_placed_and_begun(rt: HostRuntime) -> Result<(), Fail> {
-    let alloc = rt.alloc();
-    for &(file, length, relocs, set) in &PLACED {
-        let got = measured(alloc, file)?;
-        assert_eq!(rt; got, Some((length, relocs, set)), "{file}");
+fn objects_are_placed_and_begun(rt: HostRuntime) {
+    for row in &PLACED {
+        assert!(rt; has_measures(rt.alloc(), row), "{row:?}");
     }
-    Ok(())
+}
+
+/// Objects, with pointers into them, to a literal and to a function.
+const POINTING: &str =
+    "int main(void);char a[4097];const char b[10];struct S{char x[8];char m[4];}s;
+char*c=a+5;char*q=s.m+2;const char*r=b+9;char*t=\"a\"+1;int(*f)(void)=main;int main(void){return 0;}";
+
+/// Where the table stands, with the objects behind its 192 bytes; where the text stands; and a sentry's permissions.
+const TABLE: u64 = 4_294_967_296;
+
+const TEXT: u64 = 1_073_741_824;
+
+const SENTRY: u64 = 0x8000_0000_0000_0003;
+
+/// The relocations by place, base, offset, length and permissions: the whole objects, the literal, the function and the
+/// heap, and then the pointers.
+const POINTERS: [(u64, u64, u64, u64, u64); 16] = [
+    (TABLE, TABLE + 192, 0, 4104, 125),
+    (TABLE + 16, TABLE + 4304, 0, 10, 21),
+    (TABLE + 32, TABLE + 4320, 0, 12, 125),
+    (TABLE + 48, TABLE + 4336, 0, 16, 125),
+    (TABLE + 64, TABLE + 4352, 0, 16, 125),
+    (TABLE + 80, TABLE + 4368, 0, 16, 125),
+    (TABLE + 96, TABLE + 4384, 0, 16, 125),
+    (TABLE + 112, TABLE + 4400, 0, 16, 125),
+    (TABLE + 128, TABLE + 4416, 0, 2, 21),
+    (TABLE + 144, TEXT, 0, 16, SENTRY),
+    (TABLE + 160, 16_777_216, 0, 16_777_216, 125),
+    (TABLE + 4336, TABLE + 192, 5, 4104, 125),
+    (TABLE + 4352, TABLE + 4328, 2, 4, 125),
+    (TABLE + 4368, TABLE + 4304, 9, 10, 21),
+    (TABLE + 4384, TABLE + 4416, 1, 2, 21),
+    (TABLE + 4400, TEXT, 0, 16, SENTRY),
+];
+
+/// The first relocation that is none of these, by its number.
+fn first_other(relocs: &[Reloc]) -> Option<usize> {
+    for (k, r) in relocs.iter().enumerate() {
+        if POINTERS.get(k) != Some(&(r.place, r.base, r.offset, r.length, r.perms)) {
+            return Some(k);
+        }
+    }
+    None
+}
+
+/// How many relocations the file's program has, and the first that is another.
+fn judged(alloc: Global, file: &str) -> Result<(usize, Option<usize>), Refusal> {
+    let p = front(alloc, file.as_bytes())?;
+    let Some((_, contents)) = placed(alloc, &p)? else {
+        return Ok((0, None));
+    };
+    Ok((contents.relocs.len(), first_other(&contents.relocs)))
+}
+
+#[test]
+fn pointers_begin_as_relocations(rt: HostRuntime) {
+    assert_eq!(rt; judged(rt.alloc(), POINTING), Ok((16, None)));
 }

@@ -2,17 +2,20 @@
 
 ghost use Rattle.std.specs.Prelude.{◌<◌, ◌-◌, ◌^◌};
 
-use crate::calls::{Answer, answers, answers_input, one_file, sure_file, words_of};
+use crate::calls::{
+    Answer, Row, answers, answers_input, files_are_answered, is_answered, one_file, sure_file,
+    words_are_answered, words_of,
+};
 use cheric_top::cheric;
-use ck_base::{Files, HostFiles, NoMemory, StdInput, StdOutput};
-use std::alloc::Global;
+use ck_base::{Files, HostFiles, StdInput, StdOutput};
+use std::alloc::{AllocError, Global};
 use std::fs;
 use std::test::Fail;
 
 const HI: &str = "int main(void){putchar(72);putchar(105);return 0;}";
 
-/// Files, with their status, output and line.
-const FILES: [(&str, u8, &str, &str); 18] = [
+/// Files, with the answers to their runs.
+const FILES: [Row; 18] = [
     (HI, 0, "Hi", "exit 0\n"),
     (
         "int main(void){putchar(328);putchar(361);return 0;}",
@@ -69,8 +72,8 @@ const FILES: [(&str, u8, &str, &str); 18] = [
     ),
 ];
 
-/// Lines on a file that puts `Hi`, with their status, output and line.
-const LINES: [(&str, u8, &str, &str); 16] = [
+/// Lines on a file that puts `Hi`, with their answers.
+const LINES: [Row; 16] = [
     ("cheric run a.c --steps 0", 4, "", "steps\n"),
     ("cheric run a.c --steps 1", 4, "", "steps\n"),
     ("cheric run a.c --steps 0000000099999", 0, "Hi", "exit 0\n"),
@@ -149,7 +152,9 @@ const NO_LINES: [&str; 42] = [
 ];
 
 /// Failing calls of the files, the output and the notes, with the status, output and line of the file that puts `Hi`.
-const FAULTS: [([u64; 3], u8, &str, &str); 5] = [
+type Fault = ([u64; 3], u8, &'static str, &'static str);
+
+const FAULTS: [Fault; 5] = [
     ([1, 0, 0], 20, "", "file\n"),
     ([0, 1, 0], 22, "", "output\n"),
     ([0, 2, 0], 22, "H", "output\n"),
@@ -157,63 +162,44 @@ const FAULTS: [([u64; 3], u8, &str, &str); 5] = [
     ([0, 0, 1], 22, "Hi", ""),
 ];
 
-/// Whether running the file is answered so, where the calls of the files, the output and the notes with these numbers
-/// fail (0: none).
-fn runs(
-    alloc: Global,
-    file: &str,
-    failing: [u64; 3],
-    answer: Answer<'_>,
-) -> Result<bool, NoMemory> {
+fn fails_so(alloc: Global, &(failing, status, put, line): &Fault) -> bool {
     let [call, byte, note] = failing;
-    let mut files = one_file(alloc, "a.c", file.as_bytes(), call)?;
-    answers(alloc, &mut files, "cheric run a.c", [byte, note], answer)
-}
-
-#[test]
-fn files_and_faults_are_answered(rt: HostRuntime) -> Result<(), Fail> {
-    for &(file, status, put, line) in &FILES {
-        let answer = Answer { status, put, line };
-        assert!(rt; runs(rt.alloc(), file, [0; 3], answer)?, "{file}");
-    }
-    for &(failing, status, put, line) in &FAULTS {
-        let answer = Answer { status, put, line };
-        assert!(rt; runs(rt.alloc(), HI, failing, answer)?, "{line}");
-    }
-    Ok(())
-}
-
-#[test]
-fn lines_are_answered(rt: HostRuntime) -> Result<(), Fail> {
-    let alloc = rt.alloc();
-    let mut files = sure_file(alloc, "a.c", HI.as_bytes())?;
-    for &(words, status, put, line) in &LINES {
-        let answer = Answer { status, put, line };
-        assert!(rt;
-            answers(alloc, &mut files, words, [0; 2], answer)?,
-            "{words}"
-        );
-    }
-    let answer = Answer {
-        status: 11,
-        put: "",
-        line: "words\n",
+    let Ok(mut files) = one_file(alloc, "a.c", HI.as_bytes(), call) else {
+        return false;
     };
+    let answer = Answer { status, put, line };
+    answers(alloc, &mut files, "cheric run a.c", [byte, note], answer).unwrap_or(false)
+}
+
+#[test]
+fn files_and_faults_are_answered(rt: HostRuntime) {
+    files_are_answered(&rt, rt.alloc(), "cheric run a.c", &FILES);
+    for row in &FAULTS {
+        assert!(rt; fails_so(rt.alloc(), row), "{row:?}");
+    }
+}
+
+const NO_LINE: Answer = Answer {
+    status: 11,
+    put: "",
+    line: "words\n",
+};
+
+#[test]
+fn lines_are_answered(rt: HostRuntime) {
+    words_are_answered(&rt, rt.alloc(), HI, &LINES);
     for &words in &NO_LINES {
         assert!(rt;
-            answers(alloc, &mut files, words, [0; 2], answer)?,
+            is_answered(rt.alloc(), HI.as_bytes(), words, NO_LINE),
             "{words}"
         );
     }
-    Ok(())
 }
 
 /// A file that puts so many bytes of 65.
-fn many_puts(alloc: Global, count: usize) -> Result<String, NoMemory> {
-    let mut file = String::from_str(alloc, "int main(void){")?;
-    file.push_str(&"putchar(65);".repeat(alloc, count)?)?;
-    file.push_str("return 0;}")?;
-    Ok(file)
+fn many_puts(alloc: Global, count: usize) -> Result<String, AllocError> {
+    let puts = "putchar(65);".repeat(alloc, count)?;
+    format!(in alloc; "int main(void){{{puts}return 0;}}")
 }
 
 /// How many bytes are put, with the status and line. Each put weighs 6, and the rest 11.
@@ -224,62 +210,61 @@ const PUTS: [(usize, u8, &str); 4] = [
     (1_295, 10, "refused 142 1:1\n"),
 ];
 
+fn puts_so(alloc: Global, &(count, status, line): &(usize, u8, &str)) -> bool {
+    let Ok(bytes) = "A".repeat(alloc, if status == 0 { count } else { 0 }) else {
+        return false;
+    };
+    let answer = Answer {
+        status,
+        put: &bytes,
+        line,
+    };
+    let Ok(file) = many_puts(alloc, count) else {
+        return false;
+    };
+    is_answered(alloc, file.as_bytes(), "cheric run a.c", answer)
+}
+
 #[test]
-fn a_weight_up_to_the_limit_is_built(rt: HostRuntime) -> Result<(), Fail> {
-    let alloc = rt.alloc();
-    for &(count, status, line) in &PUTS {
-        let file = many_puts(alloc, count)?;
-        let bytes = "A".repeat(alloc, count)?;
-        let put = if status == 0 { bytes.as_str() } else { "" };
-        let answer = Answer { status, put, line };
-        assert!(rt; runs(alloc, &file, [0; 3], answer)?, "{count}");
+fn a_weight_up_to_the_limit_is_built(rt: HostRuntime) {
+    for row in &PUTS {
+        assert!(rt; puts_so(rt.alloc(), row), "{row:?}");
     }
-    Ok(())
 }
 
 /// Inputs of a file that copies them, with their failing call, and the status, output and line.
-const INPUTS: [(&str, u64, u8, &str, &str); 4] = [
+type Input = (&'static str, u64, u8, &'static str, &'static str);
+
+const INPUTS: [Input; 4] = [
     ("", 0, 0, "", "exit 0\n"),
     ("abc", 0, 0, "abc", "exit 0\n"),
     ("abc", 2, 21, "a", "input\n"),
     ("abc", 4, 21, "abc", "input\n"),
 ];
 
-#[test]
-fn input_is_copied_up_to_its_end_or_fault(rt: HostRuntime) -> Result<(), Fail> {
-    let alloc = rt.alloc();
-    let file = "int main(void){int c;while((c=getchar())!=-1)putchar(c);return 0;}";
-    let mut files = sure_file(alloc, "a.c", file.as_bytes())?;
-    for &(input, read, status, put, line) in &INPUTS {
-        let answer = Answer { status, put, line };
-        let input = (input.as_bytes(), read);
-        assert!(rt;
-            answers_input(alloc, &mut files, "cheric run a.c", input, [0; 2], answer)?,
-            "{line}"
-        );
-    }
-    Ok(())
+const COPY: &str = "int main(void){int c;while((c=getchar())!=-1)putchar(c);return 0;}";
+
+fn copies_so(alloc: Global, &(input, read, status, put, line): &Input) -> bool {
+    let Ok(mut files) = sure_file(alloc, "a.c", COPY.as_bytes()) else {
+        return false;
+    };
+    let answer = Answer { status, put, line };
+    let input = (input.as_bytes(), read);
+    answers_input(alloc, &mut files, "cheric run a.c", input, [0; 2], answer).unwrap_or(false)
 }
 
 #[test]
-fn a_loop_without_end_stops_at_the_limit(rt: HostRuntime) -> Result<(), Fail> {
-    let alloc = rt.alloc();
-    let mut files = sure_file(alloc, "a.c", b"int main(void){while(1){}}")?;
-    let answer = Answer {
-        status: 4,
-        put: "",
-        line: "steps\n",
-    };
-    assert!(rt;
-        answers(
-            alloc,
-            &mut files,
-            "cheric run a.c --steps 1000",
-            [0; 2],
-            answer
-        )?
-    );
-    Ok(())
+fn input_is_copied_up_to_its_end_or_fault(rt: HostRuntime) {
+    for row in &INPUTS {
+        assert!(rt; copies_so(rt.alloc(), row), "{row:?}");
+    }
+}
+
+const ENDLESS: [Row; 1] = [("int main(void){while(1){}}", 4, "", "steps\n")];
+
+#[test]
+fn a_loop_without_end_stops_at_the_limit(rt: HostRuntime) {
+    files_are_answered(&rt, rt.alloc(), "cheric run a.c --steps 1000", &ENDLESS);
 }
 
 /// The status of words without input, and what they put to an output and to notes of so much room, which tell nothing.

@@ -1,12 +1,13 @@
 //! The modes `map`, `list` and `gen` of the command.
 
-use crate::calls::{Answer, answers, one_file, sure_file, words_of};
-use cheric_build::build;
+use crate::calls::{
+    Answer, Row, answers, elf_of, is_answered, one_file, sure_file, words_are_answered, words_of,
+};
 use cheric_top::{cheric, generate};
 use ck_base::{MemSink, NoMemory, SureFiles, SureSource};
 use elf_file::View;
-use std::alloc::Global;
-use std::test::Fail;
+use std::alloc::{AllocError, Global};
+use std::process::Abort;
 
 const HI: &str = "int main(void){putchar(72);putchar(105);return 0;}";
 
@@ -41,7 +42,7 @@ const HI_MAP: [&str; 6] = [
 ];
 
 /// What the command puts on these words: its status and its output.
-fn put_by(alloc: Global, files: &mut SureFiles, words: &str) -> Result<(u8, String), Fail> {
+fn put_by(alloc: Global, files: &mut SureFiles, words: &str) -> Result<(u8, String), NoMemory> {
     let words = words_of(alloc, words)?;
     let mut input = SureSource::new(Vec::new(alloc));
     let mut out = MemSink::new(alloc, 1_048_576, Vec::new(alloc))?;
@@ -50,28 +51,45 @@ fn put_by(alloc: Global, files: &mut SureFiles, words: &str) -> Result<(u8, Stri
     Ok((status, String::from_utf8_lossy(alloc, out.bytes())?))
 }
 
+/// The same on this file.
+fn put_of(alloc: Global, file: &[u8], words: &str) -> Result<(u8, String), NoMemory> {
+    let mut files = sure_file(alloc, "a.c", file)?;
+    put_by(alloc, &mut files, words)
+}
+
+/// What the command puts on these words and this file, with the status 0.
+fn text_of(rt: &impl Abort, alloc: Global, file: &[u8], words: &str) -> String {
+    match put_of(alloc, file, words) {
+        Ok((0, text)) => text,
+        _ => panic!(rt; "no text"),
+    }
+}
+
 /// Whether a line begins so, and goes on with numbers alone.
 fn has_front(line: &str, front: &str) -> bool {
-    line.strip_prefix(front).is_some_and(|rest| rest
-        .bytes()
-        .all(|b| b.is_ascii_digit() || b == b' '))
+    let Some(rest) = line.strip_prefix(front) else {
+        return false;
+    };
+    rest.bytes().all(|b| b.is_ascii_digit() || b == b' ')
+}
+
+/// Whether each line of a map begins so.
+fn has_fronts(map: &str, fronts: &[&str]) -> bool {
+    let mut lines = map.lines();
+    for front in fronts {
+        if !has_front(lines.next().unwrap_or(""), *front) {
+            return false;
+        }
+    }
+    lines.next().is_none()
 }
 
 #[test]
-fn maps_have_a_line_for_each_part(rt: HostRuntime) -> Result<(), Fail> {
-    let alloc = rt.alloc();
-    for (file, fronts) in [(PARTS, PARTS_MAP.as_slice()), (HI, HI_MAP.as_slice())] {
-        let mut files = sure_file(alloc, "a.c", file.as_bytes())?;
-        let (status, map) = put_by(alloc, &mut files, "cheric map a.c")?;
-        assert!(rt; status == 0);
-        let mut lines = map.as_str().lines();
-        for front in fronts {
-            let line = lines.next().unwrap_or("");
-            assert!(rt; has_front(line, *front), "{line}");
-        }
-        assert!(rt; lines.next().is_none());
+fn maps_have_a_line_for_each_part(rt: HostRuntime) {
+    for &(file, fronts) in &[(PARTS, PARTS_MAP.as_slice()), (HI, HI_MAP.as_slice())] {
+        let map = text_of(&rt, rt.alloc(), file.as_bytes(), "cheric map a.c");
+        assert!(rt; has_fronts(&map, fronts), "{map}");
     }
-    Ok(())
 }
 
 /// Words, and how a listing writes their instructions.
@@ -91,45 +109,67 @@ fn is_written(word: u32, text: &str) -> bool {
             .all(|&(known, written)| word != known || text == written)
 }
 
+/// The line of a word, up to its instruction.
+fn front_of(alloc: Global, at: u64, word: u32) -> Result<String, AllocError> {
+    format!(in alloc; "{at} {word:08x} ")
+}
+
+/// Whether a line lists this word at this address.
+fn lists_word(alloc: Global, line: &str, at: u64, word: u32) -> bool {
+    let Ok(front) = front_of(alloc, at, word) else {
+        return false;
+    };
+    let instruction = line.strip_prefix(front.as_str()).unwrap_or("");
+    is_written(word, instruction)
+}
+
 /// Whether a listing has a line for each word of the text, with its address, the word and its instruction.
-fn lists(alloc: Global, listing: &str, text: &[u8]) -> Result<bool, Fail> {
+fn lists(alloc: Global, listing: &str, text: &[u8]) -> bool {
     let mut rest = text;
     let mut at: u64 = 1_073_741_824;
     for line in listing.lines() {
         let [a, b, c, d, tail @ ..] = rest else {
-            return Ok(false);
+            return false;
         };
         let word = u32::from_le_bytes([*a, *b, *c, *d]);
-        let front = format!(in alloc; "{at} {word:08x} ")?;
-        let instruction = line.strip_prefix(front.as_str()).unwrap_or("");
-        if !is_written(word, instruction) {
-            return Ok(false);
+        if !lists_word(alloc, line, at, word) {
+            return false;
         }
         rest = tail;
         at = at.saturating_add(4);
     }
-    Ok(rest.is_empty())
+    rest.is_empty()
+}
+
+/// The length of the text by a map's first line.
+fn length_in(map: &str) -> Option<u64> {
+    map.lines().next()?.rsplit(' ').next()?.parse().ok()
+}
+
+/// Whether the listing and the map of a built file tell its text.
+fn tell_the_text(alloc: Global, elf: &[u8], listing: &str, map: &str) -> bool {
+    let Ok(view) = View::read(elf) else {
+        return false;
+    };
+    lists(alloc, listing, view.text()) && length_in(map) == Some(view.text().len() as u64)
+}
+
+fn assert_texts(rt: &impl Abort, alloc: Global, file: &[u8]) {
+    let elf = elf_of(rt, alloc, file);
+    let listing = text_of(rt, alloc, file, "cheric list a.c");
+    let map = text_of(rt, alloc, file, "cheric map a.c");
+    assert!(rt; tell_the_text(alloc, &elf, &listing, &map));
+}
+
+/// The generated file of 64 functions.
+fn large_file(rt: &impl Abort, alloc: Global) -> Vec<u8> {
+    generate(alloc, 64).expect(rt, "a file")
 }
 
 #[test]
-fn listings_have_a_line_for_each_word(rt: HostRuntime) -> Result<(), Fail> {
-    let alloc = rt.alloc();
-    let large = generate(alloc, 64)?;
-    for file in [HI.as_bytes(), large.as_slice()] {
-        let mut files = sure_file(alloc, "a.c", file)?;
-        let elf = build(alloc, file)?.elf;
-        let view = View::read(&elf)?;
-        let (status, listing) = put_by(alloc, &mut files, "cheric list a.c")?;
-        assert!(rt; status == 0 && lists(alloc, listing.as_str(), view.text())?);
-        let (_, map) = put_by(alloc, &mut files, "cheric map a.c")?;
-        let text = map.as_str().lines().next().unwrap_or("");
-        let length = text
-            .rsplit(' ')
-            .next()
-            .and_then(|word| word.parse::<u64>().ok());
-        assert!(rt; length == Some(view.text().len() as u64), "{text}");
-    }
-    Ok(())
+fn listings_have_a_line_for_each_word(rt: HostRuntime) {
+    assert_texts(&rt, rt.alloc(), HI.as_bytes());
+    assert_texts(&rt, rt.alloc(), &large_file(&rt, rt.alloc()));
 }
 
 /// A file whose values are few enough for registers.
@@ -155,49 +195,55 @@ fn between(letters: &str) -> Option<&str> {
     Some(body.trim_start_matches('s').trim_end_matches('l'))
 }
 
-#[test]
-fn few_values_stand_in_registers(rt: HostRuntime) -> Result<(), Fail> {
-    let alloc = rt.alloc();
-    let mut files = sure_file(alloc, "a.c", SUM.as_bytes())?;
-    let answer = Answer {
-        status: 1,
-        put: "",
-        line: "exit 45\n",
-    };
-    assert!(rt; answers(alloc, &mut files, "cheric run a.c", [0; 2], answer)?);
-    let (_, listing) = put_by(alloc, &mut files, "cheric list a.c")?;
+/// The letters of a listing.
+fn letters(alloc: Global, listing: &str) -> Result<String, AllocError> {
     let mut letters = String::new(alloc);
-    for line in listing.as_str().lines() {
+    for line in listing.lines() {
         letters.push(letter(line))?;
     }
-    let body = between(letters.as_str()).unwrap_or("");
-    assert!(rt; !body.is_empty(), "{letters}");
-    assert!(rt; !body.contains('l') && !body.contains('s'), "{letters}");
-    Ok(())
+    Ok(letters)
+}
+
+/// Whether neither a load nor a store stands between the prologue and the epilogue of a listing.
+fn is_in_registers(alloc: Global, listing: &str) -> bool {
+    let Ok(letters) = letters(alloc, listing) else {
+        return false;
+    };
+    let Some(body) = between(&letters) else {
+        return false;
+    };
+    !body.is_empty() && !body.contains('l') && !body.contains('s')
+}
+
+const SUMMED: [Row; 1] = [("cheric run a.c", 1, "", "exit 45\n")];
+
+#[test]
+fn few_values_stand_in_registers(rt: HostRuntime) {
+    words_are_answered(&rt, rt.alloc(), SUM, &SUMMED);
+    let listing = text_of(&rt, rt.alloc(), SUM.as_bytes(), "cheric list a.c");
+    assert!(rt; is_in_registers(rt.alloc(), &listing), "{listing}");
+}
+
+/// Whether building a file and auditing what is built are answered by 0.
+fn is_contained(alloc: Global, file: &[u8]) -> Result<bool, NoMemory> {
+    let mut files = sure_file(alloc, "a.c", file)?;
+    let (built, _) = put_by(alloc, &mut files, "cheric build a.c")?;
+    let (audited, _) = put_by(alloc, &mut files, "cheric audit a.c.elf")?;
+    Ok(built == 0 && audited == 0)
 }
 
 /// The generated file of 64 functions has two lines for each and for `main`, one for the array in each, and four more
 /// in its map, and its image is contained.
 #[test]
-fn a_large_file_is_mapped_and_audited(rt: HostRuntime) -> Result<(), Fail> {
-    let alloc = rt.alloc();
-    let file = generate(alloc, 64)?;
-    let mut files = sure_file(alloc, "a.c", &file)?;
-    let (status, map) = put_by(alloc, &mut files, "cheric map a.c")?;
-    let mut lines: u32 = 0;
-    for _ in map.as_str().lines() {
-        lines = lines.saturating_add(1);
-    }
-    assert_eq!(rt; (status, lines), (0, 198));
-    for words in ["cheric build a.c", "cheric audit a.c.elf"] {
-        let (status, _) = put_by(alloc, &mut files, words)?;
-        assert_eq!(rt; status, 0, "{words}");
-    }
-    Ok(())
+fn a_large_file_is_mapped_and_audited(rt: HostRuntime) {
+    let file = large_file(&rt, rt.alloc());
+    let map = text_of(&rt, rt.alloc(), &file, "cheric map a.c");
+    assert!(rt; map.lines().count() == 198);
+    assert!(rt; is_contained(rt.alloc(), &file).unwrap_or(false));
 }
 
-/// Lines without a file that it reads, and files that are refused or are not there, with the status, output and line.
-const LINES: [(&str, u8, &str, &str); 9] = [
+/// Lines without a file that it reads, and files that are refused or are not there.
+const LINES: [Row; 9] = [
     ("cheric gen 1", 0, "functions 1\nsource 150\nexit 16\n", ""),
     ("cheric gen 3", 0, "functions 3\nsource 322\nexit 40\n", ""),
     (
@@ -215,78 +261,61 @@ const LINES: [(&str, u8, &str, &str); 9] = [
 ];
 
 #[test]
-fn lines_are_answered(rt: HostRuntime) -> Result<(), Fail> {
-    let alloc = rt.alloc();
-    let mut files = sure_file(alloc, "a.c", b"int main(void){return ;}")?;
-    for &(words, status, put, line) in &LINES {
-        let answer = Answer { status, put, line };
-        assert!(rt;
-            answers(alloc, &mut files, words, [0; 2], answer)?,
-            "{words}"
-        );
-    }
-    Ok(())
+fn lines_are_answered(rt: HostRuntime) {
+    words_are_answered(&rt, rt.alloc(), "int main(void){return ;}", &LINES);
 }
 
 /// Failing calls of the files, the output and the notes, with the status and line of each of the modes on a file.
-const FAULTS: [([u64; 3], u8, &str); 3] = [
+type Fault = ([u64; 3], u8, &'static str);
+
+const FAULTS: [Fault; 3] = [
     ([1, 0, 0], 20, "file\n"),
     ([0, 1, 0], 22, "output\n"),
     ([0, 1, 1], 22, ""),
 ];
 
-/// Whether the modes on a file answer so.
-fn fails(alloc: Global, failing: [u64; 3], answer: Answer<'_>) -> Result<bool, NoMemory> {
+/// Whether a mode on a file answers so.
+fn fails_so(alloc: Global, words: &str, &(failing, status, line): &Fault) -> bool {
     let [call, byte, note] = failing;
-    let mut all = true;
-    for words in ["cheric map a.c", "cheric list a.c"] {
-        let mut files = one_file(alloc, "a.c", HI.as_bytes(), call)?;
-        all = all && answers(alloc, &mut files, words, [byte, note], answer)?;
-    }
-    Ok(all)
-}
-
-#[test]
-fn faults_are_answered(rt: HostRuntime) -> Result<(), Fail> {
-    let alloc = rt.alloc();
-    for &(failing, status, line) in &FAULTS {
-        let answer = Answer {
-            status,
-            put: "",
-            line,
-        };
-        assert!(rt; fails(alloc, failing, answer)?, "{line}");
-    }
-    let mut files = sure_file(alloc, "a.c", HI.as_bytes())?;
-    let answer = Answer {
-        status: 22,
-        put: "",
-        line: "output\n",
+    let Ok(mut files) = one_file(alloc, "a.c", HI.as_bytes(), call) else {
+        return false;
     };
-    assert!(rt; answers(alloc, &mut files, "cheric gen 1", [1, 0], answer)?);
-    Ok(())
+    let answer = Answer {
+        status,
+        put: "",
+        line,
+    };
+    answers(alloc, &mut files, words, [byte, note], answer).unwrap_or(false)
 }
 
-/// The summary of 64 functions has the line with which a run of the same file ends.
 #[test]
-fn the_largest_generated_file_runs(rt: HostRuntime) -> Result<(), Fail> {
-    let alloc = rt.alloc();
-    let file = generate(alloc, 64)?;
-    let mut files = sure_file(alloc, "a.c", file.as_slice())?;
-    let (_, summary) = put_by(alloc, &mut files, "cheric gen 64")?;
-    let (_, again) = put_by(alloc, &mut files, "cheric gen 64")?;
-    let line = summary.as_str().lines().nth(2).unwrap_or("");
-    let line = format!(in alloc; "{line}\n")?;
+fn faults_are_answered(rt: HostRuntime) {
+    for row in &FAULTS {
+        assert!(rt; fails_so(rt.alloc(), "cheric map a.c", row), "{row:?}");
+        assert!(rt; fails_so(rt.alloc(), "cheric list a.c", row), "{row:?}");
+    }
+    assert!(rt; fails_so(rt.alloc(), "cheric gen 1", &([0, 1, 0], 22, "output\n")));
+}
+
+/// Whether a run of the generated file ends by the line of its summary.
+fn ends_so(alloc: Global, file: &[u8], summary: &str) -> bool {
+    let Ok(line) = format!(in alloc; "{}\n", summary.lines().nth(2).unwrap_or("")) else {
+        return false;
+    };
     let answer = Answer {
         status: 1,
         put: "",
         line: line.as_str(),
     };
+    summary.starts_with("functions 64\n") && is_answered(alloc, file, "cheric run a.c", answer)
+}
+
+/// The summary of 64 functions has the line with which a run of the same file ends, and is the same at each call.
+#[test]
+fn the_largest_generated_file_runs(rt: HostRuntime) {
+    let file = large_file(&rt, rt.alloc());
+    let summary = text_of(&rt, rt.alloc(), b"", "cheric gen 64");
+    let again = text_of(&rt, rt.alloc(), b"", "cheric gen 64");
     assert!(rt; summary.as_str() == again.as_str());
-    assert!(rt; summary.as_str().starts_with("functions 64\n"));
-    assert!(rt;
-        answers(alloc, &mut files, "cheric run a.c", [0; 2], answer)?,
-        "{line}"
-    );
-    Ok(())
+    assert!(rt; ends_so(rt.alloc(), &file, &summary), "{summary}");
 }

@@ -3,9 +3,8 @@
 use bounds_place::USUAL;
 use cheric_build::{build, build_typed, front};
 use ck_base::{Pos, Refusal};
-use std::alloc::Global;
+use std::alloc::{AllocError, Global};
 use std::fmt::Write;
-use std::test::Fail;
 
 /// A program that counts the words of its input.
 pub const WORDS: &str = r"typedef struct Node Node;
@@ -84,16 +83,30 @@ const START: Pos = Pos { line: 1, col: 1 };
 
 const MAIN: &str = "int main(void){return 0;}";
 
+/// Whether a file is typed.
+fn is_typed(alloc: Global, file: Result<String, AllocError>) -> bool {
+    match file {
+        Ok(file) => front(alloc, file.as_bytes()).is_ok(),
+        Err(_) => false,
+    }
+}
+
+/// Whether a file is built.
+fn is_built(alloc: Global, file: Result<String, AllocError>) -> bool {
+    match file {
+        Ok(file) => build(alloc, file.as_bytes()).is_ok(),
+        Err(_) => false,
+    }
+}
+
 #[test]
-fn a_program_of_many_parts_is_typed_and_built(rt: HostRuntime) -> Result<(), Fail> {
-    let alloc = rt.alloc();
-    assert_eq!(rt; front(alloc, WORDS.as_bytes()).err(), None);
-    assert_eq!(rt; build(alloc, WORDS.as_bytes()).err(), None);
-    Ok(())
+fn a_program_of_many_parts_is_typed_and_built(rt: HostRuntime) {
+    assert!(rt; is_typed(rt.alloc(), String::from_str(rt.alloc(), WORDS)));
+    assert!(rt; is_built(rt.alloc(), String::from_str(rt.alloc(), WORDS)));
 }
 
 /// So many types, each a pointer to the one before, and an object of the last.
-fn pointers(alloc: Global, count: u32) -> Result<String, Fail> {
+fn pointers(alloc: Global, count: u32) -> Result<String, AllocError> {
     let mut file = String::from_str(alloc, "typedef int T0;")?;
     let mut last = 0;
     for k in 1..=count {
@@ -105,7 +118,7 @@ fn pointers(alloc: Global, count: u32) -> Result<String, Fail> {
 }
 
 /// So many types, each an array of the one before, and a local of the last with an initialiser.
-fn arrays(alloc: Global, count: u32) -> Result<String, Fail> {
+fn arrays(alloc: Global, count: u32) -> Result<String, AllocError> {
     let mut file = String::from_str(alloc, "typedef int T0;")?;
     let mut last = 0;
     for k in 1..=count {
@@ -118,7 +131,7 @@ fn arrays(alloc: Global, count: u32) -> Result<String, Fail> {
 
 /// So many unions, each with two members of the one before, and an array of one element if the last is as large as
 /// `int`.
-fn unions(alloc: Global, count: u32) -> Result<String, Fail> {
+fn unions(alloc: Global, count: u32) -> Result<String, AllocError> {
     let mut file = String::from_str(alloc, "union U0{int a;};")?;
     let mut last = 0;
     for k in 1..=count {
@@ -130,7 +143,7 @@ fn unions(alloc: Global, count: u32) -> Result<String, Fail> {
 }
 
 /// So many structs, each with a member of the one before, and an object of the last.
-fn structs(alloc: Global, count: u32) -> Result<String, Fail> {
+fn structs(alloc: Global, count: u32) -> Result<String, AllocError> {
     let mut file = String::from_str(alloc, "struct S0{int a;};")?;
     let mut last = 0;
     for k in 1..=count {
@@ -142,7 +155,7 @@ fn structs(alloc: Global, count: u32) -> Result<String, Fail> {
 }
 
 /// So many objects of one kind.
-fn objects(alloc: Global, count: u32, before: &str, behind: &str) -> Result<String, Fail> {
+fn objects(alloc: Global, count: u32, before: &str, behind: &str) -> Result<String, AllocError> {
     let mut file = String::new(alloc);
     for k in 0..count {
         write!(file, "{before}{k}{behind}")?;
@@ -152,7 +165,7 @@ fn objects(alloc: Global, count: u32, before: &str, behind: &str) -> Result<Stri
 }
 
 /// An array with so many values.
-fn values(alloc: Global, count: usize) -> Result<String, Fail> {
+fn values(alloc: Global, count: usize) -> Result<String, AllocError> {
     let mut file = String::new(alloc);
     write!(file, "int a[{count}]={{")?;
     file.push_str(&"1,".repeat(alloc, count)?)?;
@@ -161,74 +174,46 @@ fn values(alloc: Global, count: usize) -> Result<String, Fail> {
 }
 
 #[test]
-fn a_long_chain_of_types_is_typed(rt: HostRuntime) -> Result<(), Fail> {
-    let alloc = rt.alloc();
-    let file = pointers(alloc, 5_000)?;
-    assert_eq!(rt; front(alloc, file.as_bytes()).err(), None);
-    Ok(())
+fn long_chains_of_types_are_typed(rt: HostRuntime) {
+    assert!(rt; is_typed(rt.alloc(), pointers(rt.alloc(), 5_000)));
+    assert!(rt; is_typed(rt.alloc(), arrays(rt.alloc(), 5_000)));
+    assert!(rt; is_typed(rt.alloc(), unions(rt.alloc(), 10_000)));
 }
 
 #[test]
-fn a_local_in_many_arrays_is_typed(rt: HostRuntime) -> Result<(), Fail> {
-    let alloc = rt.alloc();
-    let file = arrays(alloc, 5_000)?;
-    assert_eq!(rt; front(alloc, file.as_bytes()).err(), None);
-    Ok(())
+fn structs_and_unions_in_one_another_are_built(rt: HostRuntime) {
+    assert!(rt; is_built(rt.alloc(), unions(rt.alloc(), 10_000)));
+    assert!(rt; is_built(rt.alloc(), structs(rt.alloc(), 50_000)));
 }
 
 #[test]
-fn unions_that_share_their_members_are_typed(rt: HostRuntime) -> Result<(), Fail> {
-    let alloc = rt.alloc();
-    let file = unions(alloc, 10_000)?;
-    assert_eq!(rt; front(alloc, file.as_bytes()).err(), None);
-    Ok(())
+fn many_values_and_objects_are_typed(rt: HostRuntime) {
+    assert!(rt; is_typed(rt.alloc(), values(rt.alloc(), 50_000)));
+    assert!(rt; is_typed(rt.alloc(), objects(rt.alloc(), 10_000, "int g", "=1;")));
+}
+
+/// How many objects a file of large ones has, and the refusal by which it is not built.
+fn unbuilt(alloc: Global, count: u32) -> Option<(usize, Refusal)> {
+    let file = objects(alloc, count, "char g", "[60000000];").ok()?;
+    let p = front(alloc, file.as_bytes()).ok()?;
+    let refusal = build_typed(alloc, &p, USUAL).err()?;
+    Some((p.globals.as_slice().len(), refusal))
 }
 
 #[test]
-fn structs_and_unions_in_one_another_are_built(rt: HostRuntime) -> Result<(), Fail> {
-    let alloc = rt.alloc();
-    for file in [unions(alloc, 10_000)?, structs(alloc, 50_000)?] {
-        assert_eq!(rt; build(alloc, file.as_bytes()).err(), None);
-    }
-    Ok(())
+fn many_large_objects_are_typed_and_not_built(rt: HostRuntime) {
+    let refusal = Refusal::Code(141, START);
+    assert!(rt; unbuilt(rt.alloc(), 20_000) == Some((20_000, refusal)));
+}
+
+/// How many bytes are kept of the first object of a file.
+fn kept_bytes(alloc: Global, file: &[u8]) -> Option<usize> {
+    let p = front(alloc, file).ok()?;
+    Some(p.globals.as_slice().first()?.bytes.as_slice().len())
 }
 
 #[test]
-fn many_values_are_typed(rt: HostRuntime) -> Result<(), Fail> {
-    let alloc = rt.alloc();
-    let file = values(alloc, 50_000)?;
-    assert_eq!(rt; front(alloc, file.as_bytes()).err(), None);
-    Ok(())
-}
-
-#[test]
-fn many_objects_with_values_are_typed(rt: HostRuntime) -> Result<(), Fail> {
-    let alloc = rt.alloc();
-    let file = objects(alloc, 10_000, "int g", "=1;")?;
-    assert_eq!(rt; front(alloc, file.as_bytes()).err(), None);
-    Ok(())
-}
-
-#[test]
-fn many_large_objects_are_typed_and_not_built(rt: HostRuntime) -> Result<(), Fail> {
-    let alloc = rt.alloc();
-    let file = objects(alloc, 20_000, "char g", "[60000000];")?;
-    let p = front(alloc, file.as_bytes())?;
-    assert_eq!(rt; p.globals.as_slice().len(), 20_000);
-    let refusal = build_typed(alloc, &p, USUAL).err();
-    assert_eq!(rt; refusal, Some(Refusal::Code(141, START)));
-    Ok(())
-}
-
-#[test]
-fn zeros_behind_the_last_value_are_not_kept(rt: HostRuntime) -> Result<(), Fail> {
-    let alloc = rt.alloc();
-    let p = front(alloc, b"char big[60000000]={1};int main(void){return 0;}")?;
-    let bytes = p
-        .globals
-        .as_slice()
-        .first()
-        .map(|g| g.bytes.as_slice().len());
-    assert_eq!(rt; bytes, Some(1));
-    Ok(())
+fn zeros_behind_the_last_value_are_not_kept(rt: HostRuntime) {
+    let file = b"char big[60000000]={1};int main(void){return 0;}";
+    assert!(rt; kept_bytes(rt.alloc(), file) == Some(1));
 }

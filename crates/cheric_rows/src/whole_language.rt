@@ -1,15 +1,15 @@
 //! Programs of the whole language by the command: what they put, and how they end.
 
-use crate::calls::{Answer, answers, answers_input, built_file, one_file};
+use crate::calls::{
+    Answer, Row, files_are_answered, is_answered, is_answered_built, words_are_answered,
+};
 use crate::whole_files::WORDS;
 use bounds_place::{Sizes, USUAL};
 use cheric_build::build_sized;
-use ck_base::{NoMemory, Refusal};
-use std::alloc::Global;
-use std::test::Fail;
+use std::alloc::{AllocError, Global};
 
-/// Files, with the status, output and line of a run.
-const PROGRAMS: [(&str, u8, &str, &str); 32] = [
+/// Files, with the answers to their runs.
+const PROGRAMS: [Row; 32] = [
     // parameters past eight, a pointer among them, by a pointer to the function and by its name
     (
         "int f(int a,int b,int c,int d,int e,int g,int h,int i,char*p,int j){putchar(p[j]);return a<b?f(a+1,b,c,d,e,g,h,i,p,j+1):c+i;}int main(void){int(*q)(int,int,int,int,int,int,int,int,char*,int)=f;return q(1,3,5,0,0,0,0,7,\"abc\",0);}",
@@ -225,8 +225,8 @@ const PROGRAMS: [(&str, u8, &str, &str); 32] = [
     ),
 ];
 
-/// Files in which structs and unions go to functions by value, with the status, output and line of a run.
-const BY_VALUE: [(&str, u8, &str, &str); 7] = [
+/// Files in which structs and unions go to functions by value.
+const BY_VALUE: [Row; 7] = [
     // a struct goes to a function by value, and comes back
     (
         "struct P{int a[3];char c;};struct P f(struct P p,int k){p.a[0]=p.a[0]+k;return p;}int main(void){struct P q;q.a[0]=60;struct P r=f(q,5);putchar(r.a[0]);putchar(q.a[0]);return 0;}",
@@ -275,72 +275,46 @@ const BY_VALUE: [(&str, u8, &str, &str); 7] = [
     ),
 ];
 
-/// Whether running the file is answered so.
-fn runs(alloc: Global, file: &str, answer: Answer<'_>) -> Result<bool, NoMemory> {
-    let mut files = one_file(alloc, "a.c", file.as_bytes(), 0)?;
-    answers(alloc, &mut files, "cheric run a.c", [0; 2], answer)
+#[test]
+fn programs_of_the_whole_language_run(rt: HostRuntime) {
+    files_are_answered(&rt, rt.alloc(), "cheric run a.c", &PROGRAMS);
 }
 
 #[test]
-fn programs_of_the_whole_language_run(rt: HostRuntime) -> Result<(), Fail> {
-    for &(file, status, put, line) in &PROGRAMS {
-        let answer = Answer { status, put, line };
-        assert!(rt; runs(rt.alloc(), file, answer)?, "{file}");
-    }
-    Ok(())
+fn structs_and_unions_go_by_value(rt: HostRuntime) {
+    files_are_answered(&rt, rt.alloc(), "cheric run a.c", &BY_VALUE);
+}
+
+const COUNTED: Answer = Answer {
+    status: 0,
+    put: "be 2\nnot 1\nor 1\nto 2\n",
+    line: "exit 0\n",
+};
+
+fn counts_words(alloc: Global, words: &str) -> bool {
+    let input = (b"to be or not to be\n".as_slice(), 0);
+    is_answered_built(alloc, WORDS, words, input, [0; 2], COUNTED)
 }
 
 #[test]
-fn structs_and_unions_go_by_value(rt: HostRuntime) -> Result<(), Fail> {
-    for &(file, status, put, line) in &BY_VALUE {
-        let answer = Answer { status, put, line };
-        assert!(rt; runs(rt.alloc(), file, answer)?, "{file}");
-    }
-    Ok(())
+fn words_are_counted(rt: HostRuntime) {
+    assert!(rt; counts_words(rt.alloc(), "cheric run a.c"));
+    assert!(rt; counts_words(rt.alloc(), "cheric exec a.c.elf"));
 }
 
-#[test]
-fn words_are_counted(rt: HostRuntime) -> Result<(), Fail> {
-    let alloc = rt.alloc();
-    let mut files = built_file(alloc, WORDS)?;
-    let answer = Answer {
-        status: 0,
-        put: "be 2\nnot 1\nor 1\nto 2\n",
-        line: "exit 0\n",
-    };
-    for words in ["cheric run a.c", "cheric exec a.c.elf"] {
-        let input = (b"to be or not to be\n".as_slice(), 0);
-        let counts = answers_input(alloc, &mut files, words, input, [0; 2], answer)?;
-        assert!(rt; counts, "{words}");
-    }
-    Ok(())
-}
+/// A file that asks for a whole heap and one byte more.
+const FILLED: &str =
+    "int main(void){char *p=malloc(16777216);char *q=malloc(1);putchar(p?89:78);putchar(q?89:78);return 0;}";
 
-/// Words on a file that asks for a whole heap and one byte more, with the output.
-const HEAPS: [(&str, &str); 3] = [
-    ("cheric run a.c", "YN"),
-    ("cheric run a.c --heap 16777216", "YN"),
-    ("cheric run a.c --heap 33554432", "YY"),
+const HEAPS: [Row; 3] = [
+    ("cheric run a.c", 0, "YN", "exit 0\n"),
+    ("cheric run a.c --heap 16777216", 0, "YN", "exit 0\n"),
+    ("cheric run a.c --heap 33554432", 0, "YY", "exit 0\n"),
 ];
 
 #[test]
-fn the_heap_has_the_chosen_length(rt: HostRuntime) -> Result<(), Fail> {
-    let alloc = rt.alloc();
-    let file =
-        "int main(void){char *p=malloc(16777216);char *q=malloc(1);putchar(p?89:78);putchar(q?89:78);return 0;}";
-    for &(words, put) in &HEAPS {
-        let mut files = one_file(alloc, "a.c", file.as_bytes(), 0)?;
-        let answer = Answer {
-            status: 0,
-            put,
-            line: "exit 0\n",
-        };
-        assert!(rt;
-            answers(alloc, &mut files, words, [0; 2], answer)?,
-            "{words}"
-        );
-    }
-    Ok(())
+fn the_heap_has_the_chosen_length(rt: HostRuntime) {
+    words_are_answered(&rt, rt.alloc(), FILLED, &HEAPS);
 }
 
 /// A function that calls itself until the stack is exhausted, and puts a dot each time.
@@ -353,18 +327,18 @@ const SMALL: Sizes = Sizes {
 };
 
 /// How many calls of the first function stand on the stack beside one of the second.
-fn depth(alloc: Global, sizes: Sizes) -> Result<u64, Refusal> {
+fn depth(alloc: Global, sizes: Sizes) -> Option<usize> {
     if !sizes.in_range() {
-        return Ok(0);
+        return None;
     }
-    let map = build_sized(alloc, DEEP.as_bytes(), sizes)?.map;
+    let map = build_sized(alloc, DEEP.as_bytes(), sizes).ok()?.map;
     let [f, main] = map.frames.as_slice() else {
-        return Ok(0);
+        return None;
     };
     if f.align == 16 && main.align == 16 && f.size > 0 && main.size <= sizes.stack {
-        Ok((sizes.stack - main.size) / f.size)
+        Some(((sizes.stack - main.size) / f.size) as usize)
     } else {
-        Ok(0)
+        None
     }
 }
 
@@ -374,56 +348,52 @@ const STACKS: [(&str, Sizes); 2] = [
     ("cheric run a.c --stack 65536", SMALL),
 ];
 
+/// A dot for each call that the stack has room for.
+fn dots(alloc: Global, sizes: Sizes) -> Option<String> {
+    let dots = ".".repeat(alloc, depth(alloc, sizes)?).ok()?;
+    (dots.len() > 0).then_some(dots)
+}
+
+fn fills_the_stack(alloc: Global, words: &str, sizes: Sizes) -> bool {
+    let Some(dots) = dots(alloc, sizes) else {
+        return false;
+    };
+    let answer = Answer {
+        status: 3,
+        put: &dots,
+        line: "stack 1:5\n",
+    };
+    is_answered(alloc, DEEP.as_bytes(), words, answer)
+}
+
 #[test]
-fn the_stack_has_the_chosen_length(rt: HostRuntime) -> Result<(), Fail> {
-    let alloc = rt.alloc();
+fn the_stack_has_the_chosen_length(rt: HostRuntime) {
     for &(words, sizes) in &STACKS {
-        let mut dots = String::new(alloc);
-        for _ in 0..depth(alloc, sizes)? {
-            dots.push_str(".")?;
-        }
-        assert!(rt; dots.len() > 0, "{words}");
-        let mut files = one_file(alloc, "a.c", DEEP.as_bytes(), 0)?;
-        let answer = Answer {
-            status: 3,
-            put: &dots,
-            line: "stack 1:5\n",
-        };
-        assert!(rt;
-            answers(alloc, &mut files, words, [0; 2], answer)?,
-            "{words}"
-        );
+        assert!(rt; fills_the_stack(rt.alloc(), words, sizes), "{words}");
     }
-    Ok(())
 }
 
 /// A function of so many statements, each of weight 2.
-fn heavy(alloc: Global, count: usize) -> Result<String, NoMemory> {
-    let mut file = String::from_str(alloc, "int g;int main(void){")?;
-    file.push_str(&"7;".repeat(alloc, count)?)?;
-    file.push_str("}")?;
-    Ok(file)
+fn heavy(alloc: Global, count: usize) -> Result<String, AllocError> {
+    let statements = "7;".repeat(alloc, count)?;
+    format!(in alloc; "int g;int main(void){{{statements}}}")
+}
+
+fn weighs_so(alloc: Global, count: usize, status: u8, line: &str) -> bool {
+    let answer = Answer {
+        status,
+        put: "",
+        line,
+    };
+    let Ok(file) = heavy(alloc, count) else {
+        return false;
+    };
+    is_answered(alloc, file.as_bytes(), "cheric run a.c", answer)
 }
 
 #[test]
-fn a_program_of_the_greatest_weight_runs_and_a_heavier_one_is_refused(
-    rt: HostRuntime,
-) -> Result<(), Fail> {
-    let alloc = rt.alloc();
-    let most = Answer {
-        status: 0,
-        put: "",
-        line: "exit 0\n",
-    };
-    let more = Answer {
-        status: 10,
-        put: "",
-        line: "refused 142 1:1\n",
-    };
+fn a_program_of_the_greatest_weight_runs_and_a_heavier_one_is_refused(rt: HostRuntime) {
     // the function weighs 8 and its block 1
-    for &(count, answer) in &[(3_885, most), (3_886, more)] {
-        let file = heavy(alloc, count)?;
-        assert_eq!(rt; runs(alloc, &file, answer), Ok(true), "{count}");
-    }
-    Ok(())
+    assert!(rt; weighs_so(rt.alloc(), 3_885, 0, "exit 0\n"));
+    assert!(rt; weighs_so(rt.alloc(), 3_886, 10, "refused 142 1:1\n"));
 }

@@ -35,11 +35,12 @@ fn bounds_within(base: u64, length: u64) -> Option<Bounds> {
 type Setting = ((u64, u64), (u64, u128, bool), (bool, u16, u16));
 
 fn is_set(&((base, length), (low, high, exact), (internal, t, b)): &Setting) -> bool {
-    bounds_within(base, length).is_some_and(|bounds| {
-        let good_bounds = bounds.base == low && bounds.top == high && bounds.exact == exact;
-        let good_fields = bounds.internal == internal && bounds.t == t && bounds.b == b;
-        good_bounds && good_fields
-    })
+    let Some(bounds) = bounds_within(base, length) else {
+        return false;
+    };
+    let good_bounds = bounds.base == low && bounds.top == high && bounds.exact == exact;
+    let good_fields = bounds.internal == internal && bounds.t == t && bounds.b == b;
+    good_bounds && good_fields
 }
 
 #[test]
@@ -132,11 +133,12 @@ fn fields_of(bounds: Bounds, address: u64) -> Fields {
 }
 
 fn is_packed(&(base, length, upper, memory): &(u64, u64, u128, u128)) -> bool {
-    bounds_within(base, length).is_some_and(|bounds| {
-        let fields = fields_of(bounds, base);
-        let bits = pack(fields);
-        bits >> 64 == upper && flip_null(bits) >> 64 == memory && unpack(bits) == fields
-    })
+    let Some(bounds) = bounds_within(base, length) else {
+        return false;
+    };
+    let fields = fields_of(bounds, base);
+    let bits = pack(fields);
+    bits >> 64 == upper && flip_null(bits) >> 64 == memory && unpack(bits) == fields
 }
 
 #[test]

@@ -4,8 +4,6 @@
 use ck_base::NoMemory;
 use elf_file::{ElfRefusal, Image, Line, Reloc, Sequence, View, write};
 use std::alloc::{AllocError, Global};
-use std::process::Abort;
-use std::test::Fail;
 
 /// The file header.
 const FILE_HEADER: [u64; 8] = [
@@ -135,18 +133,26 @@ fn put(bytes: &mut Vec<u8>, words: &[u64]) -> Result<(), AllocError> {
     Ok(())
 }
 
-/// The file of a version, with this version word.
+fn put_headers(bytes: &mut Vec<u8>, form: &Form) -> Result<(), AllocError> {
+    put(bytes, &FILE_HEADER)?;
+    put(bytes, PROGRAM_HEADERS.as_flattened())?;
+    put(bytes, SECTION_HEADERS.as_flattened())?;
+    put(bytes, form.sections.as_flattened())
+}
+
+fn put_contents(bytes: &mut Vec<u8>, form: &Form, version: u64) -> Result<(), AllocError> {
+    put(bytes, PARTS.as_flattened())?;
+    put(bytes, &[version])?;
+    put(bytes, &WORDS)?;
+    put(bytes, form.behind)?;
+    bytes.extend_from_slice(&NAMES)
+}
+
+/// The file of a form, with this version word.
 fn file(alloc: Global, form: &Form, version: u64) -> Result<Vec<u8>, AllocError> {
     let mut bytes = Vec::new(alloc);
-    put(&mut bytes, &FILE_HEADER)?;
-    put(&mut bytes, PROGRAM_HEADERS.as_flattened())?;
-    put(&mut bytes, SECTION_HEADERS.as_flattened())?;
-    put(&mut bytes, form.sections.as_flattened())?;
-    put(&mut bytes, PARTS.as_flattened())?;
-    put(&mut bytes, &[version])?;
-    put(&mut bytes, &WORDS)?;
-    put(&mut bytes, form.behind)?;
-    bytes.extend_from_slice(&NAMES)?;
+    put_headers(&mut bytes, form)?;
+    put_contents(&mut bytes, form, version)?;
     Ok(bytes)
 }
 
@@ -185,7 +191,10 @@ fn written(alloc: Global, form: &Form) -> Result<Vec<u8>, NoMemory> {
 
 /// These are the bytes of the file.
 fn is_file(alloc: Global, form: &Form, bytes: &[u8]) -> bool {
-    file(alloc, form, form.version).is_ok_and(|file| file.as_slice() == bytes)
+    let Ok(file) = file(alloc, form, form.version) else {
+        return false;
+    };
+    file.as_slice() == bytes
 }
 
 /// An address, and the line that stands there.
@@ -197,12 +206,13 @@ const POSITIONS: [(u64, Option<Line>); 5] = [
     (0x1_0008, None),
 ];
 
-fn stands_at(view: &View<'_>, &(pc, line): &(u64, Option<Line>)) -> bool {
-    view.position(pc) == line
-}
-
-fn has_word(view: &View<'_>, &(k, word): &(u8, Option<u64>)) -> bool {
-    view.word(k) == word
+fn has_positions(view: &View<'_>) -> bool {
+    for &(pc, line) in &POSITIONS {
+        if view.position(pc) != line {
+            return false;
+        }
+    }
+    true
 }
 
 /// Whether the words from the second to the twelfth are those of the file.
@@ -217,34 +227,38 @@ fn has_words(view: &View<'_>) -> bool {
     true
 }
 
-fn assert_parts(rt: &impl Abort, view: &View<'_>) {
-    assert!(rt; view.text() == TEXT.as_slice());
-    assert!(rt; view.initial() == INITIAL.as_slice());
-    assert!(rt; view.reloc(0) == Some(RELOC));
-    assert!(rt; view.reloc(1) == None);
+/// Whether the first word is the version, and those from the thirteenth on are those of the form.
+fn has_other_words(view: &View<'_>, form: &Form) -> bool {
+    let [(first, count), (second, behind)] = form.words;
+    view.word(0) == Some(form.version) && view.word(first) == count && view.word(second) == behind
 }
 
-fn assert_rows(rt: &impl Abort, view: &View<'_>, form: &Form) {
-    for row in &POSITIONS {
-        assert!(rt; stands_at(view, row), "{row:?}");
-    }
-    assert!(rt; view.word(0) == Some(form.version));
-    assert!(rt; has_words(view));
-    for row in &form.words {
-        assert!(rt; has_word(view, row), "{row:?}");
-    }
+fn has_parts(view: &View<'_>) -> bool {
+    view.text() == TEXT.as_slice()
+        && view.initial() == INITIAL.as_slice()
+        && view.reloc(0) == Some(RELOC)
+        && view.reloc(1).is_none()
+}
+
+fn is_read(form: &Form, file: &[u8]) -> bool {
+    let Ok(view) = View::read(file) else {
+        return false;
+    };
+    has_parts(&view) && has_positions(&view) && has_words(&view) && has_other_words(&view, form)
+}
+
+fn is_written_and_read(alloc: Global, form: &Form) -> bool {
+    let Ok(file) = written(alloc, form) else {
+        return false;
+    };
+    is_file(alloc, form, &file) && is_read(form, &file)
 }
 
 #[test]
-fn writes_and_reads_an_image(rt: HostRuntime) -> Result<(), Fail> {
+fn writes_and_reads_an_image(rt: HostRuntime) {
     for form in &FORMS {
-        let written = written(rt.alloc(), form)?;
-        assert!(rt; is_file(rt.alloc(), form, &written));
-        let view = View::read(&written)?;
-        assert_parts(&rt, &view);
-        assert_rows(&rt, &view, form);
+        assert!(rt; is_written_and_read(rt.alloc(), form), "{}", form.version);
     }
-    Ok(())
 }
 
 /// Whether the file with another byte at a place is refused so, or read where no refusal is wanted.
@@ -290,33 +304,37 @@ const SECOND_LINES: [(u8, Option<ElfRefusal>); 4] = [
     (12, Some(ElfRefusal::Field)),
 ];
 
-fn assert_bytes(rt: &impl Abort, alloc: Global, form: &Form, file: &[u8]) {
+/// The first byte whose change is answered otherwise.
+fn first_wrong(alloc: Global, form: &Form, file: &[u8]) -> Option<usize> {
     for (place, byte) in file.iter().enumerate() {
-        let wanted = refusal_at(form, place);
-        assert!(rt;
-            is_refused_with(file, alloc, place, !*byte, wanted),
-            "byte {place}: {wanted:?}"
-        );
+        if !is_refused_with(file, alloc, place, !*byte, refusal_at(form, place)) {
+            return Some(place);
+        }
     }
+    None
 }
 
-fn assert_second_lines(rt: &impl Abort, alloc: Global, file: &[u8]) {
+fn has_second_lines(alloc: Global, file: &[u8]) -> bool {
     for &(at, wanted) in &SECOND_LINES {
-        assert!(rt;
-            is_refused_with(file, alloc, 848, at, wanted),
-            "{at}: {wanted:?}"
-        );
+        if !is_refused_with(file, alloc, 848, at, wanted) {
+            return false;
+        }
     }
+    true
+}
+
+fn refuses_bytes(alloc: Global, form: &Form) -> bool {
+    let Ok(file) = file(alloc, form, form.version) else {
+        return false;
+    };
+    first_wrong(alloc, form, &file).is_none() && has_second_lines(alloc, &file)
 }
 
 #[test]
-fn refuses_each_wrong_byte(rt: HostRuntime) -> Result<(), Fail> {
+fn refuses_each_wrong_byte(rt: HostRuntime) {
     for form in &FORMS {
-        let file = file(rt.alloc(), form, form.version)?;
-        assert_bytes(&rt, rt.alloc(), form, &file);
-        assert_second_lines(&rt, rt.alloc(), &file);
+        assert!(rt; refuses_bytes(rt.alloc(), form), "{}", form.version);
     }
-    Ok(())
 }
 
 /// The refusal of a file with this version word, where the image's part has the size of that form.
@@ -334,36 +352,40 @@ const SIZE_AT: usize = 640;
 /// Sizes of the image's part that no version has.
 const OTHER_SIZES: [u8; 9] = [0, 8, 88, 95, 97, 100, 103, 105, 112];
 
-fn assert_versions(rt: &impl Abort, alloc: Global, form: &Form) -> Result<(), Fail> {
-    for version in 0..4 {
-        let file = file(alloc, form, version)?;
-        let wanted = version_refusal(form, version);
-        assert!(rt; View::read(&file).err() == wanted, "{version}: {wanted:?}");
-        for &size in &OTHER_SIZES {
-            assert!(rt;
-                is_refused_with(&file, alloc, SIZE_AT, size, Some(ElfRefusal::Field)),
-                "{version}, {size} bytes"
-            );
+/// Whether a file is refused with each other size.
+fn refuses_sizes(alloc: Global, file: &[u8]) -> bool {
+    for &size in &OTHER_SIZES {
+        if !is_refused_with(file, alloc, SIZE_AT, size, Some(ElfRefusal::Field)) {
+            return false;
         }
     }
-    Ok(())
+    true
+}
+
+fn reads_version(alloc: Global, form: &Form, version: u64) -> bool {
+    let Ok(file) = file(alloc, form, version) else {
+        return false;
+    };
+    View::read(&file).err() == version_refusal(form, version) && refuses_sizes(alloc, &file)
 }
 
 #[test]
-fn reads_each_version_with_its_size_alone(rt: HostRuntime) -> Result<(), Fail> {
+fn reads_each_version_with_its_size_alone(rt: HostRuntime) {
     for form in &FORMS {
-        assert_versions(&rt, rt.alloc(), form)?;
+        for version in 0..4 {
+            assert!(rt; reads_version(rt.alloc(), form, version), "{version}");
+        }
     }
-    Ok(())
 }
 
-/// The refusal of the file's first bytes, and its number.
-fn is_truncated(file: &[u8], len: usize, refusal: ElfRefusal, number: u8) -> bool {
+/// Whether so many first bytes of the file are refused so.
+fn is_truncated(file: &[u8], len: usize, (refusal, number): (ElfRefusal, u8)) -> bool {
     len < file.len()
         && View::read(&file[..len]).err() == Some(refusal)
         && refusal.number() == number
 }
 
+/// The refusal, and its number.
 fn truncation(len: usize) -> (ElfRefusal, u8) {
     match len {
         0..64 => (ElfRefusal::Short, 1),
@@ -372,25 +394,32 @@ fn truncation(len: usize) -> (ElfRefusal, u8) {
     }
 }
 
-fn assert_truncations(rt: &impl Abort, form: &Form, file: &[u8]) {
-    assert!(rt; file.len() == form.len);
+/// The first length at which the file is answered otherwise.
+fn first_untruncated(form: &Form, file: &[u8]) -> Option<usize> {
     for len in 0..form.len {
-        let (refusal, number) = truncation(len);
-        assert!(rt;
-            is_truncated(file, len, refusal, number),
-            "{len} bytes: {refusal:?}"
-        );
+        if !is_truncated(file, len, truncation(len)) {
+            return Some(len);
+        }
     }
+    None
+}
+
+/// Whether the file is read with a byte behind its last part, which is not looked at.
+fn is_read_longer(file: Vec<u8>) -> bool {
+    let mut longer = file;
+    longer.push(0xff).is_ok() && View::read(&longer).is_ok()
+}
+
+fn refuses_truncations(alloc: Global, form: &Form) -> bool {
+    let Ok(file) = file(alloc, form, form.version) else {
+        return false;
+    };
+    file.len() == form.len && first_untruncated(form, &file).is_none() && is_read_longer(file)
 }
 
 #[test]
-fn refuses_each_truncation(rt: HostRuntime) -> Result<(), Fail> {
+fn refuses_each_truncation(rt: HostRuntime) {
     for form in &FORMS {
-        let mut file = file(rt.alloc(), form, form.version)?;
-        assert_truncations(&rt, form, &file);
-        // Bytes behind the last part are not looked at.
-        file.push(0xff)?;
-        assert!(rt; View::read(&file).is_ok());
+        assert!(rt; refuses_truncations(rt.alloc(), form), "{}", form.version);
     }
-    Ok(())
 }

@@ -14,6 +14,8 @@ mod capabilities;
 #[cfg(test)]
 mod concentrate;
 #[cfg(test)]
+mod forms;
+#[cfg(test)]
 mod images;
 #[cfg(test)]
 mod integers;

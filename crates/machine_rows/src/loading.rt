@@ -6,7 +6,6 @@ use cap_ops::{Cap, SENTRY, UNSEALED, null};
 use elf_file::{Image, Reloc, Sequence, View, write};
 use image_load::{LoadRefusal, load};
 use std::alloc::{AllocError, Global};
-use std::process::Abort;
 use tag_mem::Mem;
 
 /// The base of 64 bytes of initial data.
@@ -96,27 +95,32 @@ fn is_bounded(c: Cap, perms: u16, bounds: (u64, u128), address: u64) -> bool {
     c.tag && good && bounds_of(f) == bounds
 }
 
-fn assert_registers(rt: &impl Abort, pc: Cap, regs: &[Cap; 32]) {
-    assert!(rt; is_bounded(pc, 3, (TEXT, 131_088), TEXT + 4));
-    assert!(rt; is_bounded(regs[2], 125, (STACK, 266_240), 266_240));
-    assert!(rt; is_bounded(regs[3], 125, (INITIAL, 65_568), INITIAL));
-    assert!(rt; regs[1] == null(0));
-    assert!(rt; regs[31] == null(0));
+fn has_registers(pc: Cap, regs: &[Cap; 32]) -> bool {
+    is_bounded(pc, 3, (TEXT, 131_088), TEXT + 4)
+        && is_bounded(regs[2], 125, (STACK, 266_240), 266_240)
+        && is_bounded(regs[3], 125, (INITIAL, 65_568), INITIAL)
+        && regs[1] == null(0)
+        && regs[31] == null(0)
 }
 
 /// A tagged sentry of the third instruction.
-fn is_function((bits, tag): (u128, bool)) -> bool {
+fn is_function(c: Option<(u128, bool)>) -> bool {
+    let Some((bits, tag)) = c else {
+        return false;
+    };
     let f = unpack(flip_null(bits));
     tag && f.otype == SENTRY && f.perms == 3 && f.address == TEXT + 8
 }
 
-// The bits of the first capability are those of an independent model.
-fn assert_capabilities(rt: &impl Abort, mem: &Mem) {
-    let pointer = 0x007d_0000_040b_8004_0000_0000_0001_0000;
-    assert!(rt; mem.cap_at(INITIAL) == Some((pointer, true)));
-    assert!(rt; mem.cap_at(INITIAL + 16).is_some_and(is_function));
-    let initial = 0x0707_0707_0707_0707_0707_0707_0707_0707;
-    assert!(rt; mem.cap_at(INITIAL + 32) == Some((initial, false)));
+/// The first capability, with the bits of an independent model, and the initial data behind the second.
+const POINTER_BITS: u128 = 0x007d_0000_040b_8004_0000_0000_0001_0000;
+
+const INITIAL_BITS: u128 = 0x0707_0707_0707_0707_0707_0707_0707_0707;
+
+fn has_capabilities(mem: &Mem) -> bool {
+    mem.cap_at(INITIAL) == Some((POINTER_BITS, true))
+        && is_function(mem.cap_at(INITIAL + 16))
+        && mem.cap_at(INITIAL + 32) == Some((INITIAL_BITS, false))
 }
 
 /// A place of eight bytes that can be read or not, and what stands there.
@@ -129,22 +133,21 @@ const PLACES: [(u64, Option<u64>); 6] = [
     (STACK + 4_096, None),
 ];
 
-fn stands_at(mem: &Mem, &(at, wanted): &(u64, Option<u64>)) -> bool {
-    mem.read(at - at % 8, 8) == wanted
-}
-
-fn assert_places(rt: &impl Abort, mem: &Mem) {
-    for row in &PLACES {
-        assert!(rt; stands_at(mem, row), "{row:?}");
+fn has_places(mem: &Mem) -> bool {
+    for &(at, wanted) in &PLACES {
+        if mem.read(at - at % 8, 8) != wanted {
+            return false;
+        }
     }
+    true
 }
 
 #[test]
 fn loads_the_first_state(rt: HostRuntime) {
     let m = first_state(rt.alloc()).expect(&rt, "a machine");
-    assert_registers(&rt, m.pc, &m.regs);
-    assert_capabilities(&rt, &m.mem);
-    assert_places(&rt, &m.mem);
+    assert!(rt; has_registers(m.pc, &m.regs));
+    assert!(rt; has_capabilities(&m.mem));
+    assert!(rt; has_places(&m.mem));
 }
 
 const BESIDE: Reloc = Reloc {
@@ -283,9 +286,13 @@ const REFUSED: [Refused; 15] = [
 ];
 
 fn is_refused(alloc: Global, &(entry, table, stack, relocs, wanted): &Refused) -> bool {
-    file(alloc, entry, table, stack, relocs)
-        .and_then(|file| loaded(alloc, &file))
-        .is_some_and(|loaded| loaded.err() == Some(wanted))
+    let Some(file) = file(alloc, entry, table, stack, relocs) else {
+        return false;
+    };
+    let Some(loaded) = loaded(alloc, &file) else {
+        return false;
+    };
+    loaded.err() == Some(wanted)
 }
 
 #[test]

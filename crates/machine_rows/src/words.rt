@@ -1,17 +1,11 @@
 //! Words with the instructions that they encode, and words that encode none. The tables are values
-//! of an independent model: a word, the instruction's name and its fields.
+//! of an independent model.
 
+use crate::forms::{Form, instr_of};
 use rv_code::{decode, encode};
 use rv_instr::{
-    BranchOp, CapGetOp, CapImmOp, CapRegOp, ImmOp, Instr, LoadOp, Reg, RegOp, ShiftOp, StoreOp,
-    UpperOp,
+    BranchOp, CapGetOp, CapImmOp, CapRegOp, ImmOp, LoadOp, Reg, RegOp, ShiftOp, StoreOp, UpperOp,
 };
-use std::process::Abort;
-
-/// The register with this number.
-fn reg(rt: &impl Abort, number: u8) -> Reg {
-    Reg::new(number).expect(rt, "a register")
-}
 
 const NAMES: [(Reg, u8); 6] = [
     (Reg::ZERO, 0),
@@ -26,296 +20,168 @@ const NAMES: [(Reg, u8); 6] = [
 fn names_registers(rt: HostRuntime) {
     assert!(rt; Reg::new(31) == Some(Reg::numbered(31)));
     assert!(rt; Reg::new(32).is_none());
-    for (name, number) in &NAMES {
-        assert!(rt; name.number() == *number, "{name:?}, {number}");
+    for &(name, number) in &NAMES {
+        assert!(rt; name.number() == number, "{number}");
     }
 }
 
-fn encodes(word: u32, wanted: Instr) -> bool {
-    decode(word).is_some_and(|found| found == wanted && encode(found) == word)
-}
-
-/// The word encodes the instruction.
-fn agrees(rt: &impl Abort, word: u32, wanted: Instr) {
-    assert!(rt; encodes(word, wanted), "{word:#010x}: {wanted:?}");
-}
-
-#[test]
-fn encodes_the_worked_words(rt: HostRuntime) {
-    let x10 = Reg::RESULT;
-    agrees(&rt, 0x04800513, Instr::Imm(ImmOp::Addi, x10, Reg::ZERO, 72));
-    agrees(
-        &rt,
-        0x00113423,
-        Instr::Store(StoreOp::Sd, Reg::LINK, Reg::STACK, 8),
-    );
-    agrees(
-        &rt,
-        0x00114823,
-        Instr::Store(StoreOp::Csc, Reg::LINK, Reg::STACK, 16),
-    );
-    agrees(&rt, 0x0101208f, Instr::Clc(Reg::LINK, Reg::STACK, 16));
-    agrees(
-        &rt,
-        0xfe01115b,
-        Instr::CapImm(CapImmOp::Cincoffsetimm, Reg::STACK, Reg::STACK, -32),
-    );
-    agrees(
-        &rt,
+/// Words, and the instructions that they encode.
+const WORDS: [(u32, Form); 119] = [
+    // Worked words.
+    (0x04800513, Form::Imm(ImmOp::Addi, 10, 0, 72)),
+    (0x00113423, Form::Store(StoreOp::Sd, 1, 2, 8)),
+    (0x00114823, Form::Store(StoreOp::Csc, 1, 2, 16)),
+    (0x0101208f, Form::Clc(1, 2, 16)),
+    (0xfe01115b, Form::CapImm(CapImmOp::Cincoffsetimm, 2, 2, -32)),
+    (
         0x12b5055b,
-        Instr::CapReg(CapRegOp::Csetboundsexact, x10, x10, reg(&rt, 11)),
-    );
-    agrees(&rt, 0x00008067, Instr::Cjalr(Reg::ZERO, Reg::LINK, 0));
-    agrees(&rt, 0x0000006f, Instr::Cjal(Reg::ZERO, 0));
-    agrees(&rt, 0x00000073, Instr::Ecall);
-    agrees(&rt, 0x00100073, Instr::Ebreak);
-}
-
-/// rd and the field.
-const UPPER: [(u32, UpperOp, u8, u32); 4] = [
-    (0x0572b5b7, UpperOp::Lui, 11, 22315),
-    (0xf8eed237, UpperOp::Lui, 4, 1019629),
-    (0x053c0717, UpperOp::Auipcc, 14, 21440),
-    (0xfcbd4717, UpperOp::Auipcc, 14, 1035220),
+        Form::CapReg(CapRegOp::Csetboundsexact, 10, 10, 11),
+    ),
+    (0x00008067, Form::Cjalr(0, 1, 0)),
+    (0x0000006f, Form::Cjal(0, 0)),
+    (0x00000073, Form::Ecall),
+    (0x00100073, Form::Ebreak),
+    (0x0572b5b7, Form::Upper(UpperOp::Lui, 11, 22315)),
+    (0xf8eed237, Form::Upper(UpperOp::Lui, 4, 1019629)),
+    (0x053c0717, Form::Upper(UpperOp::Auipcc, 14, 21440)),
+    (0xfcbd4717, Form::Upper(UpperOp::Auipcc, 14, 1035220)),
+    (0xfd30126f, Form::Cjal(4, -1040430)),
+    (0x02ffa06f, Form::Cjal(0, 1026094)),
+    (0x5aa3276f, Form::Cjal(14, 206250)),
+    (0xa79724ef, Form::Cjal(9, -578952)),
+    (0x800605e7, Form::Cjalr(11, 12, -2048)),
+    (0x7ff18567, Form::Cjalr(10, 3, 2047)),
+    (0x000c0967, Form::Cjalr(18, 24, 0)),
+    (0x80947563, Form::Branch(BranchOp::Bgeu, 8, 9, -4086)),
+    (0x7caacfe3, Form::Branch(BranchOp::Blt, 21, 10, 4062)),
+    (0xfc868d63, Form::Branch(BranchOp::Beq, 13, 8, -2086)),
+    (0x9db39763, Form::Branch(BranchOp::Bne, 7, 27, -3634)),
+    (0xcd25cd63, Form::Branch(BranchOp::Blt, 11, 18, -2854)),
+    (0xcd97d8e3, Form::Branch(BranchOp::Bge, 15, 25, -816)),
+    (0xe6cc6e63, Form::Branch(BranchOp::Bltu, 24, 12, -2436)),
+    (0x0bca7563, Form::Branch(BranchOp::Bgeu, 20, 28, 170)),
+    (0x800f8e83, Form::Load(LoadOp::Lb, 29, 31, -2048)),
+    (0x7ff46b03, Form::Load(LoadOp::Lwu, 22, 8, 2047)),
+    (0xfff10883, Form::Load(LoadOp::Lb, 17, 2, -1)),
+    (0x28a00a83, Form::Load(LoadOp::Lb, 21, 0, 650)),
+    (0x7ffa1503, Form::Load(LoadOp::Lh, 10, 20, 2047)),
+    (0x001dab03, Form::Load(LoadOp::Lw, 22, 27, 1)),
+    (0xa53b3603, Form::Load(LoadOp::Ld, 12, 22, -1453)),
+    (0xd42a4303, Form::Load(LoadOp::Lbu, 6, 20, -702)),
+    (0xffffd483, Form::Load(LoadOp::Lhu, 9, 31, -1)),
+    (0x800be583, Form::Load(LoadOp::Lwu, 11, 23, -2048)),
+    (0x80998023, Form::Store(StoreOp::Sb, 9, 19, -2048)),
+    (0x7f60cfa3, Form::Store(StoreOp::Csc, 22, 1, 2047)),
+    (0xffad8fa3, Form::Store(StoreOp::Sb, 26, 27, -1)),
+    (0x011500a3, Form::Store(StoreOp::Sb, 17, 10, 1)),
+    (0x81f49023, Form::Store(StoreOp::Sh, 31, 9, -2048)),
+    (0x8023a023, Form::Store(StoreOp::Sw, 2, 7, -2048)),
+    (0x80a6b023, Form::Store(StoreOp::Sd, 10, 13, -2048)),
+    (0xe2c7c9a3, Form::Store(StoreOp::Csc, 12, 15, -461)),
+    (0x8004a78f, Form::Clc(15, 9, -2048)),
+    (0x7ffe228f, Form::Clc(5, 28, 2047)),
+    (0x001cae8f, Form::Clc(29, 25, 1)),
+    (0x80058913, Form::Imm(ImmOp::Addi, 18, 11, -2048)),
+    (0x7ff8841b, Form::Imm(ImmOp::Addiw, 8, 17, 2047)),
+    (0xfff08213, Form::Imm(ImmOp::Addi, 4, 1, -1)),
+    (0x001e2893, Form::Imm(ImmOp::Slti, 17, 28, 1)),
+    (0xd820b613, Form::Imm(ImmOp::Sltiu, 12, 1, -638)),
+    (0xfff64413, Form::Imm(ImmOp::Xori, 8, 12, -1)),
+    (0x0015e993, Form::Imm(ImmOp::Ori, 19, 11, 1)),
+    (0x000f7913, Form::Imm(ImmOp::Andi, 18, 30, 0)),
+    (0x000b871b, Form::Imm(ImmOp::Addiw, 14, 23, 0)),
+    (0x00051293, Form::Shift(ShiftOp::Slli, 5, 10, 0)),
+    (0x03e61c93, Form::Shift(ShiftOp::Slli, 25, 12, 62)),
+    (0x00145893, Form::Shift(ShiftOp::Srli, 17, 8, 1)),
+    (0x03ea5c13, Form::Shift(ShiftOp::Srli, 24, 20, 62)),
+    (0x4006de93, Form::Shift(ShiftOp::Srai, 29, 13, 0)),
+    (0x43f0d493, Form::Shift(ShiftOp::Srai, 9, 1, 63)),
+    (0x00019d1b, Form::Shift(ShiftOp::Slliw, 26, 3, 0)),
+    (0x01fb921b, Form::Shift(ShiftOp::Slliw, 4, 23, 31)),
+    (0x000bd11b, Form::Shift(ShiftOp::Srliw, 2, 23, 0)),
+    (0x01fed71b, Form::Shift(ShiftOp::Srliw, 14, 29, 31)),
+    (0x4000569b, Form::Shift(ShiftOp::Sraiw, 13, 0, 0)),
+    (0x41f55e9b, Form::Shift(ShiftOp::Sraiw, 29, 10, 31)),
+    (
+        0x8000105b,
+        Form::CapImm(CapImmOp::Cincoffsetimm, 0, 0, -2048),
+    ),
+    (
+        0x7ffc96db,
+        Form::CapImm(CapImmOp::Cincoffsetimm, 13, 25, 2047),
+    ),
+    (
+        0x955c155b,
+        Form::CapImm(CapImmOp::Cincoffsetimm, 10, 24, -1707),
+    ),
+    (0x03532d5b, Form::CapImm(CapImmOp::Csetboundsimm, 26, 6, 53)),
+    (
+        0xff95a35b,
+        Form::CapImm(CapImmOp::Csetboundsimm, 6, 11, 4089),
+    ),
+    (
+        0xaff5265b,
+        Form::CapImm(CapImmOp::Csetboundsimm, 12, 10, 2815),
+    ),
+    (0x017488b3, Form::Op(RegOp::Add, 17, 9, 23)),
+    (0x001719b3, Form::Op(RegOp::Sll, 19, 14, 1)),
+    (0x012e28b3, Form::Op(RegOp::Slt, 17, 28, 18)),
+    (0x018ab3b3, Form::Op(RegOp::Sltu, 7, 21, 24)),
+    (0x01e5c8b3, Form::Op(RegOp::Xor, 17, 11, 30)),
+    (0x018ed1b3, Form::Op(RegOp::Srl, 3, 29, 24)),
+    (0x01206cb3, Form::Op(RegOp::Or, 25, 0, 18)),
+    (0x00b3f333, Form::Op(RegOp::And, 6, 7, 11)),
+    (0x41540d33, Form::Op(RegOp::Sub, 26, 8, 21)),
+    (0x419cdd33, Form::Op(RegOp::Sra, 26, 25, 25)),
+    (0x036d8b33, Form::Op(RegOp::Mul, 22, 27, 22)),
+    (0x033ac233, Form::Op(RegOp::Div, 4, 21, 19)),
+    (0x029ad8b3, Form::Op(RegOp::Divu, 17, 21, 9)),
+    (0x02576433, Form::Op(RegOp::Rem, 8, 14, 5)),
+    (0x03eef1b3, Form::Op(RegOp::Remu, 3, 29, 30)),
+    (0x0026033b, Form::Op(RegOp::Addw, 6, 12, 2)),
+    (0x004896bb, Form::Op(RegOp::Sllw, 13, 17, 4)),
+    (0x000558bb, Form::Op(RegOp::Srlw, 17, 10, 0)),
+    (0x417e023b, Form::Op(RegOp::Subw, 4, 28, 23)),
+    (0x4047d63b, Form::Op(RegOp::Sraw, 12, 15, 4)),
+    (0x02ea033b, Form::Op(RegOp::Mulw, 6, 20, 14)),
+    (0x0360c0bb, Form::Op(RegOp::Divw, 1, 1, 22)),
+    (0x027153bb, Form::Op(RegOp::Divuw, 7, 2, 7)),
+    (0x03b8e3bb, Form::Op(RegOp::Remw, 7, 17, 27)),
+    (0x035c7b3b, Form::Op(RegOp::Remuw, 22, 24, 21)),
+    (0x103d855b, Form::CapReg(CapRegOp::Csetbounds, 10, 27, 3)),
+    (0x1264815b, Form::CapReg(CapRegOp::Csetboundsexact, 2, 9, 6)),
+    (0x1b518adb, Form::CapReg(CapRegOp::Candperm, 21, 3, 21)),
+    (0x2054055b, Form::CapReg(CapRegOp::Csetaddr, 10, 8, 5)),
+    (0x238d855b, Form::CapReg(CapRegOp::Cincoffset, 10, 27, 24)),
+    (
+        0x42f6035b,
+        Form::CapReg(CapRegOp::Csetequalexact, 6, 12, 15),
+    ),
+    (0xfe0a8f5b, Form::CapGet(CapGetOp::Cgetperm, 30, 21)),
+    (0xfe240adb, Form::CapGet(CapGetOp::Cgetbase, 21, 8)),
+    (0xfe358adb, Form::CapGet(CapGetOp::Cgetlen, 21, 11)),
+    (0xfe4581db, Form::CapGet(CapGetOp::Cgettag, 3, 11)),
+    (0xfe690ddb, Form::CapGet(CapGetOp::Cgetoffset, 27, 18)),
+    (0xfe8c8e5b, Form::CapGet(CapGetOp::Crrl, 28, 25)),
+    (0xfe9388db, Form::CapGet(CapGetOp::Cram, 17, 7)),
+    (0xfeab805b, Form::CapGet(CapGetOp::Cmove, 0, 23)),
+    (0xfebf86db, Form::CapGet(CapGetOp::Ccleartag, 13, 31)),
+    (0xfef48fdb, Form::CapGet(CapGetOp::Cgetaddr, 31, 9)),
+    (0xff1f06db, Form::CapGet(CapGetOp::Csealentry, 13, 30)),
 ];
 
-/// rd and the offset.
-const CJAL: [(u32, u8, i32); 4] = [
-    (0xfd30126f, 4, -1040430),
-    (0x02ffa06f, 0, 1026094),
-    (0x5aa3276f, 14, 206250),
-    (0xa79724ef, 9, -578952),
-];
-
-/// rd, rs1 and the offset.
-const CJALR: [(u32, u8, u8, i32); 3] = [
-    (0x800605e7, 11, 12, -2048),
-    (0x7ff18567, 10, 3, 2047),
-    (0x000c0967, 18, 24, 0),
-];
-
-/// rs1, rs2 and the offset.
-const BRANCHES: [(u32, BranchOp, u8, u8, i32); 8] = [
-    (0x80947563, BranchOp::Bgeu, 8, 9, -4086),
-    (0x7caacfe3, BranchOp::Blt, 21, 10, 4062),
-    (0xfc868d63, BranchOp::Beq, 13, 8, -2086),
-    (0x9db39763, BranchOp::Bne, 7, 27, -3634),
-    (0xcd25cd63, BranchOp::Blt, 11, 18, -2854),
-    (0xcd97d8e3, BranchOp::Bge, 15, 25, -816),
-    (0xe6cc6e63, BranchOp::Bltu, 24, 12, -2436),
-    (0x0bca7563, BranchOp::Bgeu, 20, 28, 170),
-];
-
-#[test]
-fn encodes_jumps_and_branches(rt: HostRuntime) {
-    for &(word, op, rd, field) in &UPPER {
-        agrees(&rt, word, Instr::Upper(op, reg(&rt, rd), field));
-    }
-    for &(word, rd, offset) in &CJAL {
-        agrees(&rt, word, Instr::Cjal(reg(&rt, rd), offset));
-    }
-    for &(word, rd, rs1, offset) in &CJALR {
-        agrees(&rt, word, Instr::Cjalr(reg(&rt, rd), reg(&rt, rs1), offset));
-    }
-    for &(word, op, rs1, rs2, offset) in &BRANCHES {
-        agrees(
-            &rt,
-            word,
-            Instr::Branch(op, reg(&rt, rs1), reg(&rt, rs2), offset),
-        );
-    }
-}
-
-/// rd, rs1 and the offset.
-const LOADS: [(u32, LoadOp, u8, u8, i32); 10] = [
-    (0x800f8e83, LoadOp::Lb, 29, 31, -2048),
-    (0x7ff46b03, LoadOp::Lwu, 22, 8, 2047),
-    (0xfff10883, LoadOp::Lb, 17, 2, -1),
-    (0x28a00a83, LoadOp::Lb, 21, 0, 650),
-    (0x7ffa1503, LoadOp::Lh, 10, 20, 2047),
-    (0x001dab03, LoadOp::Lw, 22, 27, 1),
-    (0xa53b3603, LoadOp::Ld, 12, 22, -1453),
-    (0xd42a4303, LoadOp::Lbu, 6, 20, -702),
-    (0xffffd483, LoadOp::Lhu, 9, 31, -1),
-    (0x800be583, LoadOp::Lwu, 11, 23, -2048),
-];
-
-/// rs2, rs1 and the offset.
-const STORES: [(u32, StoreOp, u8, u8, i32); 8] = [
-    (0x80998023, StoreOp::Sb, 9, 19, -2048),
-    (0x7f60cfa3, StoreOp::Csc, 22, 1, 2047),
-    (0xffad8fa3, StoreOp::Sb, 26, 27, -1),
-    (0x011500a3, StoreOp::Sb, 17, 10, 1),
-    (0x81f49023, StoreOp::Sh, 31, 9, -2048),
-    (0x8023a023, StoreOp::Sw, 2, 7, -2048),
-    (0x80a6b023, StoreOp::Sd, 10, 13, -2048),
-    (0xe2c7c9a3, StoreOp::Csc, 12, 15, -461),
-];
-
-/// rd, rs1 and the offset.
-const CLC: [(u32, u8, u8, i32); 3] = [
-    (0x8004a78f, 15, 9, -2048),
-    (0x7ffe228f, 5, 28, 2047),
-    (0x001cae8f, 29, 25, 1),
-];
-
-#[test]
-fn encodes_loads_and_stores(rt: HostRuntime) {
-    for &(word, op, rd, rs1, offset) in &LOADS {
-        agrees(
-            &rt,
-            word,
-            Instr::Load(op, reg(&rt, rd), reg(&rt, rs1), offset),
-        );
-    }
-    for &(word, op, rs2, rs1, offset) in &STORES {
-        agrees(
-            &rt,
-            word,
-            Instr::Store(op, reg(&rt, rs2), reg(&rt, rs1), offset),
-        );
-    }
-    for &(word, rd, rs1, offset) in &CLC {
-        agrees(&rt, word, Instr::Clc(reg(&rt, rd), reg(&rt, rs1), offset));
-    }
-}
-
-/// rd, rs1 and the immediate.
-const IMMEDIATES: [(u32, ImmOp, u8, u8, i32); 9] = [
-    (0x80058913, ImmOp::Addi, 18, 11, -2048),
-    (0x7ff8841b, ImmOp::Addiw, 8, 17, 2047),
-    (0xfff08213, ImmOp::Addi, 4, 1, -1),
-    (0x001e2893, ImmOp::Slti, 17, 28, 1),
-    (0xd820b613, ImmOp::Sltiu, 12, 1, -638),
-    (0xfff64413, ImmOp::Xori, 8, 12, -1),
-    (0x0015e993, ImmOp::Ori, 19, 11, 1),
-    (0x000f7913, ImmOp::Andi, 18, 30, 0),
-    (0x000b871b, ImmOp::Addiw, 14, 23, 0),
-];
-
-/// rd, rs1 and the count.
-const SHIFTS: [(u32, ShiftOp, u8, u8, u8); 12] = [
-    (0x00051293, ShiftOp::Slli, 5, 10, 0),
-    (0x03e61c93, ShiftOp::Slli, 25, 12, 62),
-    (0x00145893, ShiftOp::Srli, 17, 8, 1),
-    (0x03ea5c13, ShiftOp::Srli, 24, 20, 62),
-    (0x4006de93, ShiftOp::Srai, 29, 13, 0),
-    (0x43f0d493, ShiftOp::Srai, 9, 1, 63),
-    (0x00019d1b, ShiftOp::Slliw, 26, 3, 0),
-    (0x01fb921b, ShiftOp::Slliw, 4, 23, 31),
-    (0x000bd11b, ShiftOp::Srliw, 2, 23, 0),
-    (0x01fed71b, ShiftOp::Srliw, 14, 29, 31),
-    (0x4000569b, ShiftOp::Sraiw, 13, 0, 0),
-    (0x41f55e9b, ShiftOp::Sraiw, 29, 10, 31),
-];
-
-/// rd, rs1 and the immediate.
-const CAP_IMMEDIATES: [(u32, CapImmOp, u8, u8, i32); 6] = [
-    (0x8000105b, CapImmOp::Cincoffsetimm, 0, 0, -2048),
-    (0x7ffc96db, CapImmOp::Cincoffsetimm, 13, 25, 2047),
-    (0x955c155b, CapImmOp::Cincoffsetimm, 10, 24, -1707),
-    (0x03532d5b, CapImmOp::Csetboundsimm, 26, 6, 53),
-    (0xff95a35b, CapImmOp::Csetboundsimm, 6, 11, 4089),
-    (0xaff5265b, CapImmOp::Csetboundsimm, 12, 10, 2815),
-];
-
-#[test]
-fn encodes_immediates(rt: HostRuntime) {
-    for &(word, op, rd, rs1, number) in &IMMEDIATES {
-        agrees(
-            &rt,
-            word,
-            Instr::Imm(op, reg(&rt, rd), reg(&rt, rs1), number),
-        );
-    }
-    for &(word, op, rd, rs1, count) in &SHIFTS {
-        agrees(
-            &rt,
-            word,
-            Instr::Shift(op, reg(&rt, rd), reg(&rt, rs1), count),
-        );
-    }
-    for &(word, op, rd, rs1, number) in &CAP_IMMEDIATES {
-        agrees(
-            &rt,
-            word,
-            Instr::CapImm(op, reg(&rt, rd), reg(&rt, rs1), number),
-        );
+/// Whether the word encodes the instruction.
+fn encodes(&(word, form): &(u32, Form)) -> bool {
+    match decode(word) {
+        Some(found) => found == instr_of(form) && encode(found) == word,
+        None => false,
     }
 }
 
-/// rd, rs1 and rs2.
-const REGISTERS: [(u32, RegOp, u8, u8, u8); 25] = [
-    (0x017488b3, RegOp::Add, 17, 9, 23),
-    (0x001719b3, RegOp::Sll, 19, 14, 1),
-    (0x012e28b3, RegOp::Slt, 17, 28, 18),
-    (0x018ab3b3, RegOp::Sltu, 7, 21, 24),
-    (0x01e5c8b3, RegOp::Xor, 17, 11, 30),
-    (0x018ed1b3, RegOp::Srl, 3, 29, 24),
-    (0x01206cb3, RegOp::Or, 25, 0, 18),
-    (0x00b3f333, RegOp::And, 6, 7, 11),
-    (0x41540d33, RegOp::Sub, 26, 8, 21),
-    (0x419cdd33, RegOp::Sra, 26, 25, 25),
-    (0x036d8b33, RegOp::Mul, 22, 27, 22),
-    (0x033ac233, RegOp::Div, 4, 21, 19),
-    (0x029ad8b3, RegOp::Divu, 17, 21, 9),
-    (0x02576433, RegOp::Rem, 8, 14, 5),
-    (0x03eef1b3, RegOp::Remu, 3, 29, 30),
-    (0x0026033b, RegOp::Addw, 6, 12, 2),
-    (0x004896bb, RegOp::Sllw, 13, 17, 4),
-    (0x000558bb, RegOp::Srlw, 17, 10, 0),
-    (0x417e023b, RegOp::Subw, 4, 28, 23),
-    (0x4047d63b, RegOp::Sraw, 12, 15, 4),
-    (0x02ea033b, RegOp::Mulw, 6, 20, 14),
-    (0x0360c0bb, RegOp::Divw, 1, 1, 22),
-    (0x027153bb, RegOp::Divuw, 7, 2, 7),
-    (0x03b8e3bb, RegOp::Remw, 7, 17, 27),
-    (0x035c7b3b, RegOp::Remuw, 22, 24, 21),
-];
-
-/// rd, rs1 and rs2.
-const CAP_REGISTERS: [(u32, CapRegOp, u8, u8, u8); 6] = [
-    (0x103d855b, CapRegOp::Csetbounds, 10, 27, 3),
-    (0x1264815b, CapRegOp::Csetboundsexact, 2, 9, 6),
-    (0x1b518adb, CapRegOp::Candperm, 21, 3, 21),
-    (0x2054055b, CapRegOp::Csetaddr, 10, 8, 5),
-    (0x238d855b, CapRegOp::Cincoffset, 10, 27, 24),
-    (0x42f6035b, CapRegOp::Csetequalexact, 6, 12, 15),
-];
-
-/// rd and rs1.
-const CAP_GETS: [(u32, CapGetOp, u8, u8); 11] = [
-    (0xfe0a8f5b, CapGetOp::Cgetperm, 30, 21),
-    (0xfe240adb, CapGetOp::Cgetbase, 21, 8),
-    (0xfe358adb, CapGetOp::Cgetlen, 21, 11),
-    (0xfe4581db, CapGetOp::Cgettag, 3, 11),
-    (0xfe690ddb, CapGetOp::Cgetoffset, 27, 18),
-    (0xfe8c8e5b, CapGetOp::Crrl, 28, 25),
-    (0xfe9388db, CapGetOp::Cram, 17, 7),
-    (0xfeab805b, CapGetOp::Cmove, 0, 23),
-    (0xfebf86db, CapGetOp::Ccleartag, 13, 31),
-    (0xfef48fdb, CapGetOp::Cgetaddr, 31, 9),
-    (0xff1f06db, CapGetOp::Csealentry, 13, 30),
-];
-
 #[test]
-fn encodes_registers(rt: HostRuntime) {
-    for &(word, op, rd, rs1, rs2) in &REGISTERS {
-        agrees(
-            &rt,
-            word,
-            Instr::Op(op, reg(&rt, rd), reg(&rt, rs1), reg(&rt, rs2)),
-        );
-    }
-    for &(word, op, rd, rs1, rs2) in &CAP_REGISTERS {
-        agrees(
-            &rt,
-            word,
-            Instr::CapReg(op, reg(&rt, rd), reg(&rt, rs1), reg(&rt, rs2)),
-        );
-    }
-    for &(word, op, rd, rs1) in &CAP_GETS {
-        agrees(&rt, word, Instr::CapGet(op, reg(&rt, rd), reg(&rt, rs1)));
+fn encodes_words(rt: HostRuntime) {
+    for row in &WORDS {
+        assert!(rt; encodes(row), "{:#010x}", row.0);
     }
 }
 

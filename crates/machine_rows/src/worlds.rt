@@ -8,68 +8,69 @@ use ck_base::{
 use std::alloc::{AllocError, Global};
 use std::fs;
 use std::io::{self, ErrorKind, Read};
-use std::process::Abort;
 use std::test::Fail;
 
 /// The next answer of a source.
 type Answer = Result<Option<u8>, Failed>;
 
-fn gives<S: Source>(rt: &impl Abort, source: &mut S, wanted: &[Answer]) {
+fn gives<S: Source>(source: &mut S, wanted: &[Answer]) -> bool {
     for answer in wanted {
-        assert!(rt; source.next() == *answer, "{answer:?}");
+        if source.next() != *answer {
+            return false;
+        }
     }
+    true
 }
 
-fn takes<S: Sink>(rt: &impl Abort, sink: &mut S, wanted: &[(&[u8], Result<(), Failed>)]) {
+/// What a sink is given, and its answer.
+type Piece = (&'static [u8], Result<(), Failed>);
+
+fn takes<S: Sink>(sink: &mut S, wanted: &[Piece]) -> bool {
     for (piece, answer) in wanted {
-        assert!(rt; sink.put(*piece) == *answer, "{piece:?}: {answer:?}");
+        if sink.put(*piece) != *answer {
+            return false;
+        }
     }
+    true
 }
 
+/// Bytes, and the number of the call that fails.
 fn source(alloc: Global) -> Result<MemSource, AllocError> {
     let bytes = Vec::from_slice(alloc, &[10, 20])?;
     Ok(MemSource::new(bytes, Vec::from_slice(alloc, &[2])?))
 }
 
-#[test]
-fn source_in_memory_fails_in_its_second_call(rt: HostRuntime) -> Result<(), Fail> {
-    let mut source = source(rt.alloc())?;
-    gives(
-        &rt,
-        &mut source,
-        &[Ok(Some(10)), Err(Failed), Ok(Some(20)), Ok(None), Ok(None)],
-    );
-    Ok(())
-}
-
-fn sink(alloc: Global) -> Result<MemSink, NoMemory> {
-    MemSink::new(alloc, 5, Vec::from_slice(alloc, &[2])?)
-}
+const GIVEN: [Answer; 5] = [Ok(Some(10)), Err(Failed), Ok(Some(20)), Ok(None), Ok(None)];
 
 #[test]
-fn sink_in_memory_fails_in_its_second_call_and_past_its_room(rt: HostRuntime) -> Result<(), Fail> {
-    let mut sink = sink(rt.alloc())?;
-    takes(
-        &rt,
-        &mut sink,
-        &[
-            (b"ab", Ok(())),
-            (b"x", Err(Failed)),
-            (b"cd", Ok(())),
-            (b"xx", Err(Failed)),
-            (b"e", Ok(())),
-        ],
-    );
-    assert!(rt; sink.bytes() == b"abcde".as_slice());
-    Ok(())
+fn source_in_memory_fails_in_its_second_call(rt: HostRuntime) {
+    let mut source = source(rt.alloc()).expect(&rt, "a source");
+    assert!(rt; gives(&mut source, &GIVEN));
 }
 
-/// What is read under a name.
-fn is_read<F: Files>(
-    alloc: Global,
-    files: &mut F,
-    (name, answer): (&str, Result<&[u8], FileError>),
-) -> bool {
+const TAKEN: [Piece; 5] = [
+    (b"ab", Ok(())),
+    (b"x", Err(Failed)),
+    (b"cd", Ok(())),
+    (b"xx", Err(Failed)),
+    (b"e", Ok(())),
+];
+
+/// Whether five bytes are taken, where the second call fails.
+fn takes_five(alloc: Global) -> Result<bool, NoMemory> {
+    let mut sink = MemSink::new(alloc, 5, Vec::from_slice(alloc, &[2])?)?;
+    Ok(takes(&mut sink, &TAKEN) && sink.bytes() == b"abcde".as_slice())
+}
+
+#[test]
+fn sink_in_memory_fails_in_its_second_call_and_past_its_room(rt: HostRuntime) {
+    assert!(rt; takes_five(rt.alloc()).unwrap_or(false));
+}
+
+/// A name that is read, and what is read.
+type Reading = (&'static str, Result<&'static [u8], FileError>);
+
+fn is_read<F: Files>(alloc: Global, files: &mut F, &(name, answer): &Reading) -> bool {
     match (files.get(alloc, name), answer) {
         (Ok(bytes), Ok(wanted)) => bytes.as_slice() == wanted,
         (Err(error), Err(wanted)) => error == wanted,
@@ -77,29 +78,25 @@ fn is_read<F: Files>(
     }
 }
 
-fn reads<F: Files>(
-    rt: &impl Abort,
-    alloc: Global,
-    files: &mut F,
-    wanted: &[(&str, Result<&[u8], FileError>)],
-) {
+fn are_read<F: Files>(alloc: Global, files: &mut F, wanted: &[Reading]) -> bool {
     for row in wanted {
-        assert!(rt; is_read(alloc, files, *row), "{row:?}");
+        if !is_read(alloc, files, row) {
+            return false;
+        }
     }
+    true
 }
 
-fn puts<F: Files>(
-    rt: &impl Abort,
-    alloc: Global,
-    files: &mut F,
-    wanted: &[(&str, &[u8], Result<(), PutError>)],
-) {
+/// A name, the bytes that are put there, and the answer.
+type Putting = (&'static str, &'static [u8], Result<(), PutError>);
+
+fn are_put<F: Files>(alloc: Global, files: &mut F, wanted: &[Putting]) -> bool {
     for (name, bytes, answer) in wanted {
-        assert!(rt;
-            files.put(alloc, *name, *bytes) == *answer,
-            "{name}: {answer:?}"
-        );
+        if files.put(alloc, *name, *bytes) != *answer {
+            return false;
+        }
     }
+    true
 }
 
 fn names(alloc: Global) -> Result<Vec<String>, AllocError>
@@ -123,55 +120,52 @@ fn files(alloc: Global) -> Result<MemFiles, AllocError> {
     Ok(MemFiles::new(names, contents(alloc)?, fails))
 }
 
-#[test]
-fn files_in_memory_fail_in_their_second_and_fifth_call(rt: HostRuntime) -> Result<(), Fail> {
-    let alloc = rt.alloc();
-    let mut files = files(alloc)?;
-    reads(
-        &rt,
-        alloc,
-        &mut files,
-        &[
-            ("a.c", Ok(b"first")),
-            ("a.c", Err(FileError::Failed)),
-            ("b.c", Err(FileError::Missing)),
-        ],
-    );
-    puts(
-        &rt,
-        alloc,
-        &mut files,
-        &[
-            ("b.c", b"", Ok(())),
-            ("a.c", b"lost", Err(PutError::Failed)),
-            ("a.c", b"new", Ok(())),
-        ],
-    );
-    reads(
-        &rt,
-        alloc,
-        &mut files,
-        &[("a.c", Ok(b"new")), ("b.c", Ok(b""))],
-    );
-    assert!(rt; files.contents("a.c") == Some(b"new".as_slice()));
-    Ok(())
+const READ_FIRST: [Reading; 3] = [
+    ("a.c", Ok(b"first")),
+    ("a.c", Err(FileError::Failed)),
+    ("b.c", Err(FileError::Missing)),
+];
+
+const PUT_NEXT: [Putting; 3] = [
+    ("b.c", b"", Ok(())),
+    ("a.c", b"lost", Err(PutError::Failed)),
+    ("a.c", b"new", Ok(())),
+];
+
+const READ_THEN: [Reading; 2] = [("a.c", Ok(b"new")), ("b.c", Ok(b""))];
+
+fn serve(alloc: Global, files: &mut MemFiles) -> bool {
+    are_read(alloc, files, &READ_FIRST)
+        && are_put(alloc, files, &PUT_NEXT)
+        && are_read(alloc, files, &READ_THEN)
+        && files.contents("a.c") == Some(b"new".as_slice())
 }
 
 #[test]
-fn sure_objects_do_not_fail(rt: HostRuntime) -> Result<(), Fail> {
-    let alloc = rt.alloc();
+fn files_in_memory_fail_in_their_second_and_fifth_call(rt: HostRuntime) {
+    let mut files = files(rt.alloc()).expect(&rt, "files");
+    assert!(rt; serve(rt.alloc(), &mut files));
+}
+
+fn sure_source_gives(alloc: Global) -> Result<bool, AllocError> {
     let bytes = Vec::from_slice(alloc, &[10])?;
-    gives(&rt, &mut SureSource::new(bytes), &[Ok(Some(10)), Ok(None)]);
-    takes(&rt, &mut SureSink::new(), &[(b"ab", Ok(()))]);
+    Ok(gives(&mut SureSource::new(bytes), &[Ok(Some(10)), Ok(None)]))
+}
+
+const PUT_FIRST: [Putting; 1] = [("a.c", b"first", Ok(()))];
+
+const READ_SURELY: [Reading; 2] = [("a.c", Ok(b"first")), ("b.c", Err(FileError::Missing))];
+
+fn sure_files_serve(alloc: Global) -> bool {
     let mut files = SureFiles::new(Vec::new(alloc), Vec::new(alloc));
-    puts(&rt, alloc, &mut files, &[("a.c", b"first", Ok(()))]);
-    reads(
-        &rt,
-        alloc,
-        &mut files,
-        &[("a.c", Ok(b"first")), ("b.c", Err(FileError::Missing))],
-    );
-    Ok(())
+    are_put(alloc, &mut files, &PUT_FIRST) && are_read(alloc, &mut files, &READ_SURELY)
+}
+
+#[test]
+fn sure_objects_do_not_fail(rt: HostRuntime) {
+    assert!(rt; sure_source_gives(rt.alloc()).unwrap_or(false));
+    assert!(rt; takes(&mut SureSink::new(), &[(b"ab", Ok(()))]));
+    assert!(rt; sure_files_serve(rt.alloc()));
 }
 
 /// Gives a byte of 7 at each read but the second, which fails.
@@ -194,52 +188,46 @@ impl Read for FailsOnce {
     }
 }
 
+const READ_OUT: [Answer; 4] = [Ok(Some(b'a')), Ok(Some(b'b')), Ok(None), Ok(None)];
+
+const READ_ON: [Answer; 3] = [Ok(Some(7)), Err(Failed), Ok(Some(7))];
+
 #[test]
 fn input_ends_with_its_reader_and_goes_on_after_a_fault(rt: HostRuntime) {
-    let mut input = StdInput::new(b"ab".as_slice());
-    gives(
-        &rt,
-        &mut input,
-        &[Ok(Some(b'a')), Ok(Some(b'b')), Ok(None), Ok(None)],
-    );
-    let mut input = StdInput::new(FailsOnce { reads: 0 });
-    gives(&rt, &mut input, &[Ok(Some(7)), Err(Failed), Ok(Some(7))]);
+    assert!(rt; gives(&mut StdInput::new(b"ab".as_slice()), &READ_OUT));
+    assert!(rt; gives(&mut StdInput::new(FailsOnce { reads: 0 }), &READ_ON));
 }
+
+const WRITTEN: [Piece; 3] = [(b"ab", Ok(())), (b"cd", Err(Failed)), (b"", Ok(()))];
 
 #[test]
 fn output_fails_where_its_writer_takes_nothing(rt: HostRuntime) {
     let mut room = [0u8; 3];
-    {
-        let mut output = StdOutput::new(room.as_mut_slice());
-        takes(
-            &rt,
-            &mut output,
-            &[(b"ab", Ok(())), (b"cd", Err(Failed)), (b"", Ok(()))],
-        );
-    }
+    assert!(rt; takes(&mut StdOutput::new(room.as_mut_slice()), &WRITTEN));
     assert!(rt; room == *b"abc");
 }
 
 const FILE_NAME: &str = "ck_base_test.bin";
 
-fn assert_host_files<F: Files>(rt: &impl Abort, alloc: Global, files: &mut F) {
-    reads(rt, alloc, files, &[(FILE_NAME, Err(FileError::Failed))]);
-    puts(
-        rt,
-        alloc,
-        files,
-        &[
-            (FILE_NAME, b"\0\xff\n", Ok(())),
-            ("ck_base_no_folder/a", b"", Err(PutError::Failed)),
-        ],
-    );
-    reads(rt, alloc, files, &[(FILE_NAME, Ok(b"\0\xff\n"))]);
+const NOT_THERE: [Reading; 1] = [(FILE_NAME, Err(FileError::Failed))];
+
+const PUT_THERE: [Putting; 2] = [
+    (FILE_NAME, b"\0\xff\n", Ok(())),
+    ("ck_base_no_folder/a", b"", Err(PutError::Failed)),
+];
+
+const THERE: [Reading; 1] = [(FILE_NAME, Ok(b"\0\xff\n"))];
+
+fn comes_back<F: Files>(alloc: Global, files: &mut F) -> bool {
+    are_read(alloc, files, &NOT_THERE)
+        && are_put(alloc, files, &PUT_THERE)
+        && are_read(alloc, files, &THERE)
 }
 
 #[test]
 fn host_files_come_back_as_they_were_put(rt: HostRuntime) -> Result<(), Fail> {
     let _ = fs::remove_file(&rt, FILE_NAME);
-    assert_host_files(&rt, rt.alloc(), &mut HostFiles::new(rt.clone()?));
+    assert!(rt; comes_back(rt.alloc(), &mut HostFiles::new(rt.clone()?)));
     fs::remove_file(&rt, FILE_NAME)?;
     Ok(())
 }

@@ -1,13 +1,143 @@
-//! Memory as separate objects, in both modes.
+//! Memory as separate objects, in both modes: calls by turns, each with its answer.
+ghost use Rattle.object_memory.specs.Memories.{IsSize};
 
 use cap_ops::Cause;
-use ck_base::Sequence;
+use ck_base::{NoMemory, Sequence};
 use ck_int::CmpOp;
+use obj_mem::Value::{Fun, Int, Live, Raw};
 use obj_mem::{Fault, Map, Mode, Reason, Value};
-use object_memory::{Memory, callee, has_tag, permissions_of};
+use object_memory::{Memory, callee, permissions_of};
 use std::alloc::{AllocError, Global};
+use std::process::Abort;
 
-// A map with a text of 1024 bytes, and functions 4 bytes apart.
+/// Calls that answer with a value.
+#[derive(Clone, Copy)]
+enum Valued {
+    Whole(u64),
+    Load(Value, u8),
+    Offset(Value, i64),
+    Narrow(Value, u64, bool),
+    Clear(Value),
+    Mask(Value, u64),
+    SetAddress(Value, u64),
+}
+
+/// Calls that answer with a number.
+#[derive(Clone, Copy)]
+enum Counted {
+    Count,
+    Address(Value),
+    Length(Value),
+    Offset(Value),
+    Distance(Value, Value),
+    Permissions(Value),
+    Callee(Value),
+}
+
+/// Calls that answer whether something holds.
+#[derive(Clone, Copy)]
+enum Judged {
+    Compare(bool, CmpOp, Value, Value),
+    IsTrue(Value),
+    Identical(Value, Value),
+}
+
+/// Calls that change memory.
+#[derive(Clone, Copy)]
+enum Changing {
+    Store(Value, u8, Value),
+    NoteMember(Value, u64),
+    Rest(u64),
+    Zero(u64),
+    Leave(u64),
+    End(u64),
+}
+
+/// A call, and its answer.
+#[derive(Clone, Copy)]
+enum Row {
+    Value(Valued, Result<Value, Fault>),
+    Number(Counted, Result<u64, Fault>),
+    Truth(Judged, Result<bool, Fault>),
+    Change(Changing, Result<(), Fault>),
+}
+
+/// A number of bytes that an access may have.
+fn size(n: u8) -> u8
+    ensures { IsSize result }
+{
+    match n {
+        1 => 1,
+        2 => 2,
+        4 => 4,
+        8 => 8,
+        _ => 16,
+    }
+}
+
+fn value_of(m: &Memory<'_>, call: Valued) -> Result<Value, Fault> {
+    match call {
+        Valued::Whole(object) => Ok(m.whole(object, 125)),
+        Valued::Load(v, n) => m.load(v, size(n)),
+        Valued::Offset(v, by) => m.offset(v, by.cast_unsigned()),
+        Valued::Narrow(v, length, exact) => m.narrow(v, length, exact),
+        Valued::Clear(v) => m.clear(v),
+        Valued::Mask(v, bits) => m.mask(v, bits),
+        Valued::SetAddress(v, to) => m.set_address(v, to),
+    }
+}
+
+fn number_of(m: &Memory<'_>, call: Counted) -> Result<u64, Fault> {
+    match call {
+        Counted::Count => Ok(m.count()),
+        Counted::Address(v) => m.address(v),
+        Counted::Length(v) => m.length(v),
+        Counted::Offset(v) => m.capability_offset(v),
+        Counted::Distance(v, w) => m.distance(v, w),
+        Counted::Permissions(v) => Ok(permissions_of(v)),
+        Counted::Callee(v) => callee(v).map(u64::from),
+    }
+}
+
+fn truth_of(m: &Memory<'_>, call: Judged) -> Result<bool, Fault> {
+    match call {
+        Judged::Compare(signed, op, v, w) => m.compare(signed, op, v, w),
+        Judged::IsTrue(v) => m.is_true(v),
+        Judged::Identical(v, w) => m.identical(v, w),
+    }
+}
+
+fn change(m: &mut Memory<'_>, call: Changing) -> Result<(), Fault> {
+    match call {
+        Changing::Store(v, n, w) => m.store(v, size(n), w)?,
+        Changing::NoteMember(v, own) => m.note_member(v, own).map_err(|_| Fault::Outside)?,
+        Changing::Rest(object) => m.rest(object),
+        Changing::Zero(object) => m.zero(object),
+        Changing::Leave(object) => m.leave(object),
+        Changing::End(object) => m.end(object),
+    }
+    Ok(())
+}
+
+fn is_so(m: &mut Memory<'_>, row: Row) -> bool {
+    match row {
+        Row::Value(call, answer) => value_of(m, call) == answer,
+        Row::Number(call, answer) => number_of(m, call) == answer,
+        Row::Truth(call, answer) => truth_of(m, call) == answer,
+        Row::Change(call, answer) => change(m, call) == answer,
+    }
+}
+
+fn are_so(m: &mut Memory<'_>, rows: &[Row]) -> bool {
+    for row in rows {
+        if !is_so(m, *row) {
+            return false;
+        }
+    }
+    true
+}
+
+/// A map with a text of 1024 bytes, and functions 4 bytes apart.
 fn map(alloc: Global) -> Result<Map, AllocError> {
     let entries = vec![in alloc; 65536, 65540]?;
     Ok(Map {
@@ -22,506 +152,428 @@ fn map(alloc: Global) -> Result<Map, AllocError> {
     })
 }
 
-// A pointer into an object of so many owned bytes.
-fn at(object: u64, owned: u64, offset: i64) -> Value {
-    Value::Live(object, 0, owned, offset, 125)
-}
-
-fn cause<A>(c: Cause) -> Result<A, Fault> {
-    Err(Fault::Cause(c))
-}
-
-fn says_nothing<A>(r: Reason) -> Result<A, Fault> {
-    Err(Fault::Unspecified(r))
-}
-
-// Three objects: of 40, of 16 and of 32 bytes.
-fn three<'a>(alloc: Global, mode: Mode<'a>) -> Result<Memory<'a>, ck_base::NoMemory> {
+/// Three objects, of 40, of 16 and of 32 bytes, or one of 100,000.
+fn memory<'a>(alloc: Global, mode: Mode<'a>, is_large: bool) -> Result<Memory<'a>, NoMemory> {
     let mut m = Memory::new(alloc, mode)?;
-    m.add(40, Some(131072))?;
-    m.add(16, Some(131120))?;
-    m.add(32, Some(131136))?;
+    if is_large {
+        if m.add(100000, None)? != 0 {
+            return Err(NoMemory);
+        }
+    } else {
+        m.add(40, Some(131072))?;
+        m.add(16, Some(131120))?;
+        m.add(32, Some(131136))?;
+    }
     Ok(m)
 }
 
-// Whether an answer is the one that is wanted.
-fn is(answer: Result<Value, Fault>, wanted: Result<Value, Fault>) -> bool {
-    answer == wanted
-}
-
-fn is_number(answer: Result<u64, Fault>, wanted: Result<u64, Fault>) -> bool {
-    answer == wanted
-}
-
-fn is_truth(answer: Result<bool, Fault>, wanted: Result<bool, Fault>) -> bool {
-    answer == wanted
-}
-
-fn is_done(answer: Result<(), Fault>, wanted: Result<(), Fault>) -> bool {
-    answer == wanted
-}
-
-#[test]
-fn whole_objects(rt: HostRuntime) {
-    let map = map(rt.alloc()).expect(&rt, "an answer");
-    for mode in [Mode::Strict, Mode::Placed(&map)] {
-        let m = three(rt.alloc(), mode).expect(&rt, "an answer");
-        assert_eq!(rt; m.count(), 3);
-        assert_eq!(rt; m.whole(0, 125), at(0, 40, 0));
+fn are_answered(alloc: Global, mode: Mode<'_>, is_large: bool, rows: &[Row]) -> bool {
+    match memory(alloc, mode, is_large) {
+        Ok(mut m) => are_so(&mut m, rows),
+        Err(_) => false,
     }
 }
 
-#[test]
-fn integers_are_stored_and_loaded(rt: HostRuntime) {
-    let map = map(rt.alloc()).expect(&rt, "an answer");
-    for mode in [Mode::Strict, Mode::Placed(&map)] {
-        let mut m = three(rt.alloc(), mode).expect(&rt, "an answer");
-        let ninth = m.offset(m.whole(0, 125), 36).expect(&rt, "an answer");
-        assert!(rt; is_done(m.store(ninth, 4, Value::Int(0xffff_ffff_ffff_fff9)), Ok(())));
-        assert!(rt; is(m.load(ninth, 4), Ok(Value::Int(0xffff_fff9))));
-        assert!(rt; is(m.load(at(0, 40, 39), 1), Ok(Value::Int(0xff))));
+/// Calls on memory of their own, with their answers, and what they show.
+type Turns = (&'static str, &'static [Row]);
+
+const DONE: Result<(), Fault> = Ok(());
+
+const BOUNDS: Fault = Fault::Cause(Cause::Bounds);
+
+const UNTAGGED: Fault = Fault::Cause(Cause::Tag);
+
+const ADDRESS: Fault = Fault::Unspecified(Reason::Address);
+
+const PADDING: Fault = Fault::Unspecified(Reason::Padding);
+
+/// The fifth and the sixth byte of the first object; the whole of the second, and its fifth byte; and the place for a
+/// pointer in the third, and the second half of that place.
+const A: Value = Live(0, 0, 40, 4, 125);
+
+const B: Value = Live(0, 0, 40, 5, 125);
+
+const X: Value = Live(1, 0, 16, 0, 125);
+
+const Y: Value = Live(1, 0, 16, 4, 125);
+
+const P: Value = Live(2, 0, 32, 16, 125);
+
+const HALF: Value = Live(2, 0, 32, 24, 125);
+
+/// The whole of the second object without its tag, by the format of capabilities.
+const CLEARED: Value = Raw(131120, 0x007d_0000_0411_8034);
+
+/// The first object without its tag, far from it and at its base.
+const FAR: Value = Raw(151072, 0x007d_0000_040b_8004);
+
+const BACK: Value = Raw(131072, 0x007d_0000_040b_8004);
+
+/// The same, two bytes before its end.
+const END: Value = Raw(131110, 0x007d_0000_040b_8004);
+
+/// The bytes of a member of the large object: two of 3 that it has, and the one of padding behind them.
+const MEMBER: Value = Live(0, 16, 20, 16, 125);
+
+const LAST: Value = Live(0, 16, 20, 18, 125);
+
+const BEHIND: Value = Live(0, 16, 20, 19, 125);
+
+const IN_BOTH: [Turns; 12] = [
+    (
+        "whole objects",
+        &[
+            Row::Number(Counted::Count, Ok(3)),
+            Row::Value(Valued::Whole(0), Ok(Live(0, 0, 40, 0, 125))),
+        ],
+    ),
+    (
+        "integers are stored and loaded",
+        &[
+            Row::Value(
+                Valued::Offset(Live(0, 0, 40, 0, 125), 36),
+                Ok(Live(0, 0, 40, 36, 125)),
+            ),
+            Row::Change(
+                Changing::Store(Live(0, 0, 40, 36, 125), 4, Int(0xffff_ffff_ffff_fff9)),
+                DONE,
+            ),
+            Row::Value(
+                Valued::Load(Live(0, 0, 40, 36, 125), 4),
+                Ok(Int(0xffff_fff9)),
+            ),
+            Row::Value(Valued::Load(Live(0, 0, 40, 39, 125), 1), Ok(Int(0xff))),
+        ],
+    ),
+    (
+        "integers beside their object",
+        &[
+            Row::Value(Valued::Load(Live(0, 0, 40, 40, 125), 4), Err(BOUNDS)),
+            Row::Value(Valued::Load(Live(0, 0, 40, -4, 125), 4), Err(BOUNDS)),
+            Row::Value(
+                Valued::Load(Live(0, 0, 40, 2, 125), 4),
+                Err(Fault::Cause(Cause::Align)),
+            ),
+        ],
+    ),
+    (
+        "integers by a value that may not",
+        &[
+            Row::Change(
+                Changing::Store(Live(0, 0, 40, 0, 21), 1, Int(1)),
+                Err(Fault::Cause(Cause::Store)),
+            ),
+            Row::Value(Valued::Load(Fun(0), 4), Err(Fault::Cause(Cause::Sealed))),
+            Row::Value(Valued::Load(Raw(131072, 0), 4), Err(UNTAGGED)),
+        ],
+    ),
+    (
+        "moves that keep the tag",
+        &[
+            Row::Value(
+                Valued::Offset(Live(0, 0, 40, 0, 125), 400),
+                Ok(Live(0, 0, 40, 400, 125)),
+            ),
+            Row::Value(
+                Valued::Offset(Live(0, 0, 40, 400, 125), -400),
+                Ok(Live(0, 0, 40, 0, 125)),
+            ),
+            Row::Value(Valued::Offset(Raw(7, 9), 3), Ok(Raw(10, 9))),
+        ],
+    ),
+    (
+        "lengths, permissions and callees",
+        &[
+            Row::Number(Counted::Length(Y), Ok(16)),
+            Row::Number(Counted::Offset(Y), Ok(4)),
+            Row::Number(Counted::Permissions(Y), Ok(125)),
+            Row::Number(Counted::Permissions(Fun(0)), Ok(3)),
+            Row::Number(Counted::Callee(Fun(1)), Ok(1)),
+            Row::Number(Counted::Callee(Y), Err(Fault::Cause(Cause::Execute))),
+        ],
+    ),
+    (
+        "narrowing",
+        &[
+            Row::Value(
+                Valued::Narrow(Live(0, 0, 40, 8, 125), 4, false),
+                Ok(Live(0, 8, 12, 8, 125)),
+            ),
+            Row::Value(
+                Valued::Narrow(Live(0, 0, 40, 8, 125), 4, true),
+                Ok(Live(0, 8, 12, 8, 125)),
+            ),
+        ],
+    ),
+    (
+        "a life begins",
+        &[
+            Row::Change(Changing::Rest(1), DONE),
+            Row::Value(Valued::Load(X, 4), Err(Fault::Outside)),
+            Row::Change(Changing::Zero(1), DONE),
+            Row::Change(Changing::Store(X, 4, Int(5)), DONE),
+        ],
+    ),
+    (
+        "a life ends",
+        &[
+            Row::Change(Changing::Leave(1), DONE),
+            Row::Change(Changing::Zero(1), DONE),
+            Row::Change(Changing::End(1), DONE),
+            Row::Value(Valued::Load(X, 4), Err(Fault::Outside)),
+            Row::Value(Valued::Load(Live(9, 0, 16, 0, 125), 4), Err(Fault::Outside)),
+        ],
+    ),
+    (
+        "comparisons",
+        &[
+            Row::Truth(Judged::Compare(false, CmpOp::Eq, A, X), Ok(false)),
+            Row::Truth(Judged::Compare(false, CmpOp::Ne, A, A), Ok(false)),
+            Row::Truth(Judged::Compare(false, CmpOp::Lt, A, B), Ok(true)),
+            Row::Truth(Judged::Compare(false, CmpOp::Ge, A, B), Ok(false)),
+        ],
+    ),
+    (
+        "truth and signs",
+        &[
+            Row::Truth(
+                Judged::Compare(true, CmpOp::Lt, Raw(u64::MAX, 0), Raw(0, 0)),
+                Ok(true),
+            ),
+            Row::Truth(Judged::IsTrue(A), Ok(true)),
+            Row::Truth(Judged::IsTrue(Raw(0, 7)), Ok(false)),
+            Row::Number(Counted::Distance(B, A), Ok(1)),
+        ],
+    ),
+    (
+        "the same value",
+        &[
+            Row::Truth(Judged::Identical(A, A), Ok(true)),
+            Row::Truth(Judged::Identical(A, Raw(131076, 0)), Ok(false)),
+            Row::Truth(Judged::Identical(Fun(1), Fun(0)), Ok(false)),
+        ],
+    ),
+];
+
+const WHERE_PLACED: [Turns; 9] = [
+    (
+        "bytes that were not written are zero",
+        &[
+            Row::Value(Valued::Load(Live(0, 0, 40, 8, 125), 8), Ok(Int(0))),
+            Row::Value(Valued::Load(Live(0, 0, 40, 16, 125), 16), Ok(Raw(0, 0))),
+        ],
+    ),
+    (
+        "a stored pointer keeps its tag, and its bytes are those of its address",
+        &[
+            Row::Change(Changing::Store(P, 16, X), DONE),
+            Row::Value(Valued::Load(P, 16), Ok(X)),
+            Row::Value(Valued::Load(P, 8), Ok(Int(131120))),
+            Row::Value(Valued::Load(P, 1), Ok(Int(48))),
+        ],
+    ),
+    (
+        "a byte of it that is stored over itself clears the tag",
+        &[
+            Row::Change(Changing::Store(P, 16, X), DONE),
+            Row::Change(Changing::Store(P, 1, Int(48)), DONE),
+            Row::Value(Valued::Load(P, 16), Ok(CLEARED)),
+            Row::Number(Counted::Address(CLEARED), Ok(131120)),
+            Row::Value(Valued::Load(CLEARED, 4), Err(UNTAGGED)),
+            Row::Value(Valued::Clear(X), Ok(CLEARED)),
+        ],
+    ),
+    (
+        "a pointer that goes 20,000 bytes out and comes back has no tag",
+        &[
+            Row::Value(Valued::Offset(Live(0, 0, 40, 0, 125), 20000), Ok(FAR)),
+            Row::Value(Valued::Offset(FAR, -20000), Ok(BACK)),
+            Row::Number(Counted::Address(BACK), Ok(131072)),
+            Row::Value(Valued::Load(BACK, 1), Err(UNTAGGED)),
+        ],
+    ),
+    (
+        "an address that becomes a capability integer keeps the pointer, and a plain integer doesn't",
+        &[
+            Row::Number(Counted::Address(Y), Ok(131124)),
+            Row::Value(Valued::SetAddress(Y, 131120), Ok(X)),
+            Row::Value(Valued::SetAddress(Raw(0, 0), 131124), Ok(Raw(131124, 0))),
+        ],
+    ),
+    (
+        "lengths of other values",
+        &[
+            Row::Number(Counted::Length(Fun(1)), Ok(1024)),
+            Row::Number(Counted::Offset(Fun(1)), Ok(4)),
+            Row::Number(Counted::Length(Raw(5, 0)), Ok(u64::MAX)),
+        ],
+    ),
+    (
+        "narrowing past the end loses the tag",
+        &[Row::Value(Valued::Narrow(Live(0, 0, 40, 38, 125), 4, false), Ok(END))],
+    ),
+    (
+        "a block that is left is known to the strict mode alone",
+        &[
+            Row::Change(Changing::Rest(1), DONE),
+            Row::Change(Changing::Zero(1), DONE),
+            Row::Change(Changing::Store(X, 4, Int(5)), DONE),
+            Row::Change(Changing::Leave(1), DONE),
+            Row::Value(Valued::Load(X, 4), Ok(Int(5))),
+        ],
+    ),
+    (
+        "comparisons across objects",
+        &[
+            Row::Truth(Judged::Compare(false, CmpOp::Lt, A, X), Ok(true)),
+            Row::Number(Counted::Distance(X, A), Ok(44)),
+        ],
+    ),
+];
+
+const STRICT: [Turns; 8] = [
+    (
+        "bytes that were not written say nothing",
+        &[Row::Value(
+            Valued::Load(Live(0, 0, 40, 8, 125), 8),
+            Err(Fault::Unspecified(Reason::Unwritten)),
+        )],
+    ),
+    (
+        "a pointer has no byte without addresses",
+        &[
+            Row::Change(Changing::Store(P, 16, X), DONE),
+            Row::Value(Valued::Load(P, 1), Err(ADDRESS)),
+        ],
+    ),
+    (
+        "half a pointer without addresses",
+        &[
+            Row::Change(Changing::Store(P, 16, X), DONE),
+            Row::Change(Changing::Store(HALF, 8, Int(0)), DONE),
+            Row::Value(Valued::Load(P, 16), Err(ADDRESS)),
+            Row::Value(Valued::Load(HALF, 8), Ok(Int(0))),
+        ],
+    ),
+    (
+        "moves that say nothing",
+        &[
+            Row::Value(
+                Valued::Offset(Live(0, 0, 40, 0, 125), 20000),
+                Err(Fault::Unspecified(Reason::Excursion)),
+            ),
+            Row::Value(Valued::Offset(Fun(0), 4), Err(ADDRESS)),
+        ],
+    ),
+    (
+        "no addresses",
+        &[
+            Row::Number(Counted::Address(Y), Err(ADDRESS)),
+            Row::Value(Valued::SetAddress(Y, 0), Err(ADDRESS)),
+            Row::Value(Valued::Mask(Y, 21), Ok(Live(1, 0, 16, 4, 21))),
+        ],
+    ),
+    (
+        "narrowing past the end says nothing",
+        &[Row::Value(
+            Valued::Narrow(Live(0, 0, 40, 38, 125), 4, false),
+            Err(ADDRESS),
+        )],
+    ),
+    (
+        "a block that is left",
+        &[
+            Row::Change(Changing::Rest(1), DONE),
+            Row::Change(Changing::Zero(1), DONE),
+            Row::Change(Changing::Store(X, 4, Int(5)), DONE),
+            Row::Change(Changing::Leave(1), DONE),
+            Row::Value(Valued::Load(X, 4), Err(Fault::Outside)),
+        ],
+    ),
+    (
+        "one past the end may be the address of another object",
+        &[
+            Row::Truth(Judged::Compare(false, CmpOp::Lt, A, X), Err(ADDRESS)),
+            Row::Truth(
+                Judged::Compare(false, CmpOp::Eq, Live(0, 0, 40, 40, 125), X),
+                Err(ADDRESS),
+            ),
+            Row::Number(Counted::Distance(X, A), Err(ADDRESS)),
+        ],
+    ),
+];
+
+/// In the strict mode, on an object of 100,000 bytes. The last of its owned bytes lie past its length.
+const LARGE: [Turns; 3] = [
+    (
+        "narrowing in a large object",
+        &[
+            Row::Value(
+                Valued::Narrow(Live(0, 0, 100096, 4, 125), 5001, false),
+                Err(Fault::Unspecified(Reason::Rounding)),
+            ),
+            Row::Value(
+                Valued::Narrow(Live(0, 0, 100096, 4, 125), 100093, false),
+                Err(ADDRESS),
+            ),
+        ],
+    ),
+    (
+        "padding",
+        &[
+            Row::Number(Counted::Count, Ok(1)),
+            Row::Value(Valued::Whole(0), Ok(Live(0, 0, 100096, 0, 125))),
+            Row::Change(
+                Changing::Store(Live(0, 0, 100096, 100095, 125), 1, Int(1)),
+                Err(PADDING),
+            ),
+            Row::Change(
+                Changing::Store(Live(0, 0, 100096, 100096, 125), 1, Int(1)),
+                Err(BOUNDS),
+            ),
+        ],
+    ),
+    (
+        "a member of 3 bytes has one of padding behind it",
+        &[
+            Row::Change(Changing::NoteMember(MEMBER, 2), DONE),
+            Row::Change(Changing::NoteMember(MEMBER, 3), DONE),
+            Row::Change(Changing::NoteMember(MEMBER, 1), DONE),
+            Row::Change(Changing::Store(LAST, 1, Int(1)), DONE),
+            Row::Change(Changing::Store(BEHIND, 1, Int(1)), Err(PADDING)),
+        ],
+    ),
+];
+
+/// What the first turns show that are not answered so, if any are not.
+fn wrong(alloc: Global, mode: Mode<'_>, is_large: bool, all: &[Turns]) -> &'static str {
+    for (shown, rows) in all {
+        if !are_answered(alloc, mode, is_large, *rows) {
+            return *shown;
+        }
     }
+    ""
+}
+
+fn answer_so(rt: &impl Abort, alloc: Global, mode: Mode<'_>, is_large: bool, all: &[Turns]) {
+    let wrong = wrong(alloc, mode, is_large, all);
+    assert!(rt; wrong.is_empty(), "{wrong}");
+}
+
+fn answer_in_both(rt: &impl Abort, alloc: Global, mode: Mode<'_>) {
+    answer_so(rt, alloc, mode, false, &IN_BOTH);
 }
 
 #[test]
-fn integers_beside_their_object(rt: HostRuntime) {
-    let map = map(rt.alloc()).expect(&rt, "an answer");
-    for mode in [Mode::Strict, Mode::Placed(&map)] {
-        let m = three(rt.alloc(), mode).expect(&rt, "an answer");
-        assert!(rt; is(m.load(at(0, 40, 40), 4), cause(Cause::Bounds)));
-        assert!(rt; is(m.load(at(0, 40, -4), 4), cause(Cause::Bounds)));
-        assert!(rt; is(m.load(at(0, 40, 2), 4), cause(Cause::Align)));
-    }
+fn placed_memory_answers(rt: HostRuntime) {
+    let map = map(rt.alloc()).expect(&rt, "a map");
+    answer_in_both(&rt, rt.alloc(), Mode::Placed(&map));
+    answer_so(&rt, rt.alloc(), Mode::Placed(&map), false, &WHERE_PLACED);
 }
 
 #[test]
-fn integers_by_a_value_that_may_not(rt: HostRuntime) {
-    let map = map(rt.alloc()).expect(&rt, "an answer");
-    for mode in [Mode::Strict, Mode::Placed(&map)] {
-        let mut m = three(rt.alloc(), mode).expect(&rt, "an answer");
-        assert!(rt;
-            is_done(
-                m.store(Value::Live(0, 0, 40, 0, 21), 1, Value::Int(1)),
-                cause(Cause::Store)
-            )
-        );
-        assert!(rt; is(m.load(Value::Fun(0), 4), cause(Cause::Sealed)));
-        assert!(rt; is(m.load(Value::Raw(131072, 0), 4), cause(Cause::Tag)));
-    }
-}
-
-#[test]
-fn bytes_that_were_not_written_are_zero_where_objects_are_placed(rt: HostRuntime) {
-    let map = map(rt.alloc()).expect(&rt, "an answer");
-    let placed = three(rt.alloc(), Mode::Placed(&map)).expect(&rt, "an answer");
-    assert!(rt; is(placed.load(at(0, 40, 8), 8), Ok(Value::Int(0))));
-    assert!(rt; is(placed.load(at(0, 40, 16), 16), Ok(Value::Raw(0, 0))));
-}
-
-#[test]
-fn bytes_that_were_not_written_say_nothing(rt: HostRuntime) {
-    let strict = three(rt.alloc(), Mode::Strict).expect(&rt, "an answer");
-    assert!(rt;
-        is(
-            strict.load(at(0, 40, 8), 8),
-            says_nothing(Reason::Unwritten)
-        )
-    );
-}
-
-// A stored pointer keeps its tag, and its bytes are those of its address.
-#[test]
-fn pointers_in_memory(rt: HostRuntime) {
-    let map = map(rt.alloc()).expect(&rt, "an answer");
-    let mut placed = three(rt.alloc(), Mode::Placed(&map)).expect(&rt, "an answer");
-    let p = at(2, 32, 16);
-    let x = at(1, 16, 0);
-    assert!(rt; is_done(placed.store(p, 16, x), Ok(())));
-    assert!(rt; is(placed.load(p, 16), Ok(x)));
-    assert!(rt; is(placed.load(p, 8), Ok(Value::Int(131120))));
-    assert!(rt; is(placed.load(p, 1), Ok(Value::Int(48))));
-}
-
-// A byte of it that is stored over itself clears the tag.
-#[test]
-fn a_pointer_of_which_a_byte_is_stored(rt: HostRuntime) {
-    let map = map(rt.alloc()).expect(&rt, "an answer");
-    let mut placed = three(rt.alloc(), Mode::Placed(&map)).expect(&rt, "an answer");
-    let p = at(2, 32, 16);
-    let x = at(1, 16, 0);
-    assert!(rt; is_done(placed.store(p, 16, x), Ok(())));
-    assert!(rt; is_done(placed.store(p, 1, Value::Int(48)), Ok(())));
-    let again = placed.load(p, 16).expect(&rt, "an answer");
-    assert!(rt; !has_tag(again));
-    assert!(rt; is_number(placed.address(again), Ok(131120)));
-    assert!(rt; is(placed.load(again, 4), cause(Cause::Tag)));
-    assert!(rt; is(placed.clear(x), Ok(again)));
-}
-
-#[test]
-fn a_pointer_has_no_byte_without_addresses(rt: HostRuntime) {
-    let mut strict = three(rt.alloc(), Mode::Strict).expect(&rt, "an answer");
-    let p = at(2, 32, 16);
-    let x = at(1, 16, 0);
-    assert!(rt; is_done(strict.store(p, 16, x), Ok(())));
-    assert!(rt; is(strict.load(p, 1), says_nothing(Reason::Address)));
-}
-
-#[test]
-fn half_a_pointer_without_addresses(rt: HostRuntime) {
-    let mut strict = three(rt.alloc(), Mode::Strict).expect(&rt, "an answer");
-    let p = at(2, 32, 16);
-    let x = at(1, 16, 0);
-    assert!(rt; is_done(strict.store(p, 16, x), Ok(())));
-    assert!(rt; is_done(strict.store(at(2, 32, 24), 8, Value::Int(0)), Ok(())));
-    assert!(rt; is(strict.load(p, 16), says_nothing(Reason::Address)));
-    assert!(rt; is(strict.load(at(2, 32, 24), 8), Ok(Value::Int(0))));
-}
-
-// A pointer that goes out and comes back: 400 bytes keep the tag, 20,000 don't.
-#[test]
-fn moves_that_keep_the_tag(rt: HostRuntime) {
-    let map = map(rt.alloc()).expect(&rt, "an answer");
-    for mode in [Mode::Strict, Mode::Placed(&map)] {
-        let m = three(rt.alloc(), mode).expect(&rt, "an answer");
-        assert!(rt; is(m.offset(at(0, 40, 0), 400), Ok(at(0, 40, 400))));
-        assert!(rt;
-            is(
-                m.offset(at(0, 40, 400), 0u64.wrapping_sub(400)),
-                Ok(at(0, 40, 0))
-            )
-        );
-        assert!(rt; is(m.offset(Value::Raw(7, 9), 3), Ok(Value::Raw(10, 9))));
-    }
-}
-
-#[test]
-fn moves_that_lose_the_tag(rt: HostRuntime) {
-    let map = map(rt.alloc()).expect(&rt, "an answer");
-    let placed = three(rt.alloc(), Mode::Placed(&map)).expect(&rt, "an answer");
-    let out = placed.offset(at(0, 40, 0), 20000).expect(&rt, "an answer");
-    assert!(rt; !has_tag(out));
-    let back = placed
-        .offset(out, 0u64.wrapping_sub(20000))
-        .expect(&rt, "an answer");
-    assert!(rt; is_number(placed.address(back), Ok(131072)));
-    assert!(rt; is(placed.load(back, 1), cause(Cause::Tag)));
-}
-
-#[test]
-fn moves_that_say_nothing(rt: HostRuntime) {
-    let strict = three(rt.alloc(), Mode::Strict).expect(&rt, "an answer");
-    assert!(rt;
-        is(
-            strict.offset(at(0, 40, 0), 20000),
-            says_nothing(Reason::Excursion)
-        )
-    );
-    assert!(rt;
-        is(
-            strict.offset(Value::Fun(0), 4),
-            says_nothing(Reason::Address)
-        )
-    );
-}
-
-// An address that becomes a capability integer keeps the pointer, and a plain integer doesn't.
-#[test]
-fn addresses(rt: HostRuntime) {
-    let map = map(rt.alloc()).expect(&rt, "an answer");
-    let placed = three(rt.alloc(), Mode::Placed(&map)).expect(&rt, "an answer");
-    let x = at(1, 16, 4);
-    assert!(rt; is_number(placed.address(x), Ok(131124)));
-    assert!(rt; is(placed.set_address(x, 131120), Ok(at(1, 16, 0))));
-    assert!(rt;
-        is(
-            placed.set_address(Value::Raw(0, 0), 131124),
-            Ok(Value::Raw(131124, 0))
-        )
-    );
-}
-
-#[test]
-fn lengths_of_pointers(rt: HostRuntime) {
-    let map = map(rt.alloc()).expect(&rt, "an answer");
-    for mode in [Mode::Strict, Mode::Placed(&map)] {
-        let m = three(rt.alloc(), mode).expect(&rt, "an answer");
-        assert!(rt; is_number(m.length(at(1, 16, 4)), Ok(16)));
-        assert!(rt; is_number(m.capability_offset(at(1, 16, 4)), Ok(4)));
-    }
-}
-
-#[test]
-fn lengths_of_other_values(rt: HostRuntime) {
-    let map = map(rt.alloc()).expect(&rt, "an answer");
-    let placed = three(rt.alloc(), Mode::Placed(&map)).expect(&rt, "an answer");
-    assert!(rt; is_number(placed.length(Value::Fun(1)), Ok(1024)));
-    assert!(rt; is_number(placed.capability_offset(Value::Fun(1)), Ok(4)));
-    assert!(rt; is_number(placed.length(Value::Raw(5, 0)), Ok(u64::MAX)));
-}
-
-#[test]
-fn no_addresses(rt: HostRuntime) {
-    let strict = three(rt.alloc(), Mode::Strict).expect(&rt, "an answer");
-    let x = at(1, 16, 4);
-    assert!(rt; is_number(strict.address(x), says_nothing(Reason::Address)));
-    assert!(rt; is(strict.set_address(x, 0), says_nothing(Reason::Address)));
-    assert!(rt; is(strict.mask(x, 21), Ok(Value::Live(1, 0, 16, 4, 21))));
-}
-
-#[test]
-fn permissions_and_callees(rt: HostRuntime) {
-    let x = at(1, 16, 4);
-    assert_eq!(rt; permissions_of(x), 125);
-    assert_eq!(rt; permissions_of(Value::Fun(0)), 3);
-    assert_eq!(rt;
-        (callee(Value::Fun(1)), callee(x)),
-        (Ok(1), cause(Cause::Execute))
-    );
-}
-
-#[test]
-fn narrowing(rt: HostRuntime) {
-    let map = map(rt.alloc()).expect(&rt, "an answer");
-    for mode in [Mode::Strict, Mode::Placed(&map)] {
-        let m = three(rt.alloc(), mode).expect(&rt, "an answer");
-        assert!(rt;
-            is(
-                m.narrow(at(0, 40, 8), 4, false),
-                Ok(Value::Live(0, 8, 12, 8, 125))
-            )
-        );
-        assert!(rt;
-            is(
-                m.narrow(at(0, 40, 8), 4, true),
-                Ok(Value::Live(0, 8, 12, 8, 125))
-            )
-        );
-    }
-}
-
-#[test]
-fn narrowing_past_the_end(rt: HostRuntime) {
-    let map = map(rt.alloc()).expect(&rt, "an answer");
-    let placed = three(rt.alloc(), Mode::Placed(&map)).expect(&rt, "an answer");
-    let past = placed
-        .narrow(at(0, 40, 38), 4, false)
-        .expect(&rt, "an answer");
-    assert!(rt; !has_tag(past));
-    let strict = three(rt.alloc(), Mode::Strict).expect(&rt, "an answer");
-    assert!(rt;
-        is(
-            strict.narrow(at(0, 40, 38), 4, false),
-            says_nothing(Reason::Address)
-        )
-    );
-}
-
-#[test]
-fn narrowing_in_a_large_object(rt: HostRuntime) {
-    let mut large = Memory::new(rt.alloc(), Mode::Strict).expect(&rt, "an answer");
-    large.add(100000, None).expect(&rt, "an answer");
-    assert!(rt;
-        is(
-            large.narrow(at(0, 100096, 4), 5001, false),
-            says_nothing(Reason::Rounding)
-        )
-    );
-    assert!(rt;
-        is(
-            large.narrow(at(0, 100096, 4), 100093, false),
-            says_nothing(Reason::Address)
-        )
-    );
-}
-
-// The last owned bytes of 100,000 lie past the object's length.
-#[test]
-fn padding(rt: HostRuntime) {
-    let mut m = Memory::new(rt.alloc(), Mode::Strict).expect(&rt, "an answer");
-    assert_eq!(rt; m.add(100000, None).expect(&rt, "an answer"), 0);
-    assert_eq!(rt; m.whole(0, 125), at(0, 100096, 0));
-    assert!(rt;
-        is_done(
-            m.store(at(0, 100096, 100095), 1, Value::Int(1)),
-            says_nothing(Reason::Padding)
-        )
-    );
-    assert!(rt;
-        is_done(
-            m.store(at(0, 100096, 100096), 1, Value::Int(1)),
-            cause(Cause::Bounds)
-        )
-    );
-}
-
-// A member of 3 bytes has one of padding behind it.
-#[test]
-fn padding_behind_a_member(rt: HostRuntime) {
-    let mut m = Memory::new(rt.alloc(), Mode::Strict).expect(&rt, "an answer");
-    assert_eq!(rt; m.add(100000, None).expect(&rt, "an answer"), 0);
-    let member = Value::Live(0, 16, 20, 16, 125);
-    m.note_member(member, 2).expect(&rt, "an answer");
-    m.note_member(member, 3).expect(&rt, "an answer");
-    m.note_member(member, 1).expect(&rt, "an answer");
-    assert!(rt;
-        is_done(
-            m.store(Value::Live(0, 16, 20, 18, 125), 1, Value::Int(1)),
-            Ok(())
-        )
-    );
-    assert!(rt;
-        is_done(
-            m.store(Value::Live(0, 16, 20, 19, 125), 1, Value::Int(1)),
-            says_nothing(Reason::Padding)
-        )
-    );
-}
-
-#[test]
-fn a_life_begins(rt: HostRuntime) {
-    let map = map(rt.alloc()).expect(&rt, "an answer");
-    for mode in [Mode::Strict, Mode::Placed(&map)] {
-        let mut m = three(rt.alloc(), mode).expect(&rt, "an answer");
-        let x = at(1, 16, 0);
-        m.rest(1);
-        assert!(rt; is(m.load(x, 4), Err(Fault::Outside)));
-        m.zero(1);
-        assert!(rt; is_done(m.store(x, 4, Value::Int(5)), Ok(())));
-    }
-}
-
-#[test]
-fn a_life_is_left(rt: HostRuntime) {
-    let map = map(rt.alloc()).expect(&rt, "an answer");
-    for mode in [Mode::Strict, Mode::Placed(&map)] {
-        let mut m = three(rt.alloc(), mode).expect(&rt, "an answer");
-        let x = at(1, 16, 0);
-        m.rest(1);
-        m.zero(1);
-        assert!(rt; is_done(m.store(x, 4, Value::Int(5)), Ok(())));
-        m.leave(1);
-        let left = matches!(mode, Mode::Strict);
-        assert!(rt;
-            is(
-                m.load(x, 4),
-                if left {
-                    Err(Fault::Outside)
-                } else {
-                    Ok(Value::Int(5))
-                }
-            )
-        );
-    }
-}
-
-#[test]
-fn a_life_ends(rt: HostRuntime) {
-    let map = map(rt.alloc()).expect(&rt, "an answer");
-    for mode in [Mode::Strict, Mode::Placed(&map)] {
-        let mut m = three(rt.alloc(), mode).expect(&rt, "an answer");
-        let x = at(1, 16, 0);
-        m.leave(1);
-        m.zero(1);
-        m.end(1);
-        assert!(rt; is(m.load(x, 4), Err(Fault::Outside)));
-        assert!(rt; is(m.load(at(9, 16, 0), 4), Err(Fault::Outside)));
-    }
-}
-
-#[test]
-fn comparisons(rt: HostRuntime) {
-    let map = map(rt.alloc()).expect(&rt, "an answer");
-    for mode in [Mode::Strict, Mode::Placed(&map)] {
-        let m = three(rt.alloc(), mode).expect(&rt, "an answer");
-        assert!(rt;
-            is_truth(
-                m.compare(false, CmpOp::Eq, at(0, 40, 4), at(1, 16, 0)),
-                Ok(false)
-            )
-        );
-        assert!(rt;
-            is_truth(
-                m.compare(false, CmpOp::Ne, at(0, 40, 4), at(0, 40, 4)),
-                Ok(false)
-            )
-        );
-        assert!(rt;
-            is_truth(
-                m.compare(false, CmpOp::Lt, at(0, 40, 4), at(0, 40, 5)),
-                Ok(true)
-            )
-        );
-        assert!(rt;
-            is_truth(
-                m.compare(false, CmpOp::Ge, at(0, 40, 4), at(0, 40, 5)),
-                Ok(false)
-            )
-        );
-    }
-}
-
-#[test]
-fn truth_and_signs(rt: HostRuntime) {
-    let map = map(rt.alloc()).expect(&rt, "an answer");
-    for mode in [Mode::Strict, Mode::Placed(&map)] {
-        let m = three(rt.alloc(), mode).expect(&rt, "an answer");
-        assert!(rt;
-            is_truth(
-                m.compare(true, CmpOp::Lt, Value::Raw(u64::MAX, 0), Value::Raw(0, 0)),
-                Ok(true)
-            )
-        );
-        assert!(rt; is_truth(m.is_true(at(0, 40, 4)), Ok(true)));
-        assert!(rt; is_truth(m.is_true(Value::Raw(0, 7)), Ok(false)));
-        assert!(rt; is_number(m.distance(at(0, 40, 5), at(0, 40, 4)), Ok(1)));
-    }
-}
-
-#[test]
-fn the_same_value(rt: HostRuntime) {
-    let map = map(rt.alloc()).expect(&rt, "an answer");
-    for mode in [Mode::Strict, Mode::Placed(&map)] {
-        let m = three(rt.alloc(), mode).expect(&rt, "an answer");
-        assert!(rt; is_truth(m.identical(at(0, 40, 4), at(0, 40, 4)), Ok(true)));
-        assert!(rt; is_truth(m.identical(at(0, 40, 4), Value::Raw(131076, 0)), Ok(false)));
-        assert!(rt; is_truth(m.identical(Value::Fun(1), Value::Fun(0)), Ok(false)));
-    }
-}
-
-#[test]
-fn comparisons_across_objects(rt: HostRuntime) {
-    let map = map(rt.alloc()).expect(&rt, "an answer");
-    let placed = three(rt.alloc(), Mode::Placed(&map)).expect(&rt, "an answer");
-    assert!(rt;
-        is_truth(
-            placed.compare(false, CmpOp::Lt, at(0, 40, 4), at(1, 16, 0)),
-            Ok(true)
-        )
-    );
-    assert!(rt; is_number(placed.distance(at(1, 16, 0), at(0, 40, 4)), Ok(44)));
-}
-
-// One past the end may be the address of another object.
-#[test]
-fn comparisons_across_objects_say_nothing(rt: HostRuntime) {
-    let strict = three(rt.alloc(), Mode::Strict).expect(&rt, "an answer");
-    assert!(rt;
-        is_truth(
-            strict.compare(false, CmpOp::Lt, at(0, 40, 4), at(1, 16, 0)),
-            says_nothing(Reason::Address)
-        )
-    );
-    assert!(rt;
-        is_truth(
-            strict.compare(false, CmpOp::Eq, at(0, 40, 40), at(1, 16, 0)),
-            says_nothing(Reason::Address)
-        )
-    );
-    assert!(rt;
-        is_number(
-            strict.distance(at(1, 16, 0), at(0, 40, 4)),
-            says_nothing(Reason::Address)
-        )
-    );
+fn strict_memory_answers(rt: HostRuntime) {
+    answer_in_both(&rt, rt.alloc(), Mode::Strict);
+    answer_so(&rt, rt.alloc(), Mode::Strict, false, &STRICT);
+    answer_so(&rt, rt.alloc(), Mode::Strict, true, &LARGE);
 }
