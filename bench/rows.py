@@ -54,6 +54,30 @@ RUN = [
     ("int f(void);" + END, "", "", "exit 0", 0),
 ]
 
+# A C file, what `run` puts and its line (None where it has an own row, or where addresses decide), what `mean` puts and its line.
+MEAN = [
+    ("int main(void){int a[10];int i;for(i=0;i<=10;i=i+1){a[i]=i;putchar(65+i);}return 0;}", ("ABCDEFGHIJ", "trap bounds 1:54"),
+     "ABCDEFGHIJ", "trap bounds 1:54"),
+    ("int main(void){char *p=malloc(100000);p[100095]=1;putchar(79);p[100096]=1;return 0;}", ("O", "trap bounds 1:64"),
+     "", "unspecified padding 1:40"),
+    ("int main(void){int x=5;int *p=&x;unsigned char *c=(unsigned char*)&p;c[0]=c[0];putchar(48+*p);return 0;}", ("", "trap tag 1:91"),
+     "", "unspecified address 1:76"),
+    ("int main(void){\nchar a[40];char *p=a+400;p=p-400;p[0]=65;putchar(a[0]);\np=a+20000;p=p-20000;\np[0]=66;return 0;}",
+     ("A", "trap tag 4:2"), "A", "unspecified excursion 3:4"),
+    ("int main(void){int a=7,z=0,m=-2147483647-1,k=-1;if(a/z==-1)putchar(65);if(m/k==m)putchar(66);return 0;}", ("AB", "exit 0"),
+     "", "unspecified undefined 1:53"),
+    ("int main(void){char *s=\"ab\";putchar(s[0]);s[1]=65;return 0;}", ("a", "trap store 1:44"), "a", "trap store 1:44"),
+    ("int main(void){int x=8;struct P{int *p;char c;}a,b;a.p=&x;b=a;putchar(48+*b.p);return 0;}", ("8", "exit 0"), "8", "exit 0"),
+    ("int *f(void){int x=1;return &x;}int main(void){int *p=f();return *p;}", None, "", "outside 1:66"),
+    ("int main(void){int x;return x;}", ("", "exit 0"), "", "unspecified unwritten 1:29"),
+    ("int *f(void){int x=1;return &x;}int main(void){int *p=f();int *q=f();return p==q;}", None, "", "unspecified address 1:78"),
+    ("int main(void){int x=1,y=2;return &x==&y;}", ("", "exit 0"), "", "exit 0"),
+    ("int main(void){int x=1,y=2;return &x<&y;}", None, "", "unspecified address 1:37"),
+    ("int main(void){return 1<<32;}", ("", "exit 1"), "", "unspecified undefined 1:24"),
+    ("struct S{int a[4];}s[2];int main(void){struct S *p=(struct S*)((int*)s+1);s[0]=*p;return 0;}", ("", "exit 0"),
+     "", "unspecified overlap 1:79"),
+]
+
 
 class Rows:
     """A folder, in which the rows run, and the rows that were answered otherwise."""
@@ -73,14 +97,14 @@ class Rows:
         return sorted(os.listdir(self.folder))
 
     def row(self, words, output, line, status, taken="", out=None):
-        """The words behind `cheric` are answered so; with any output where it is None."""
+        """The words behind `cheric` are answered so; with any output where it is None, without a line where that is."""
         self.count += 1
         run = subprocess.run([CHERIC, *words], cwd=self.folder, input=None if taken is None else taken.encode(),
                              stdout=out or subprocess.PIPE, stderr=subprocess.PIPE)
         got = (run.stdout.decode("latin-1") if run.stdout is not None else output, run.stderr.decode(), run.returncode)
         first = got[1].splitlines()[0] if got[1] else ""
-        # A refusal by 120 is at any place.
-        same = first.startswith(line + " ") if line == "refused 120" else got[1] == line + "\n"
+        # A refusal by 120 is at any place, and texts are put without a line.
+        same = first.startswith(line + " ") if line == "refused 120" else got[1] == ("" if line is None else line + "\n")
         if (output is not None and got[0] != output) or got[2] != status or not same:
             self.wrong += 1
             print(f"cheric {' '.join(words)}: {got}, and not {(output, line, status)}")
@@ -133,6 +157,39 @@ def run_rows(rows):
     rows.write("echo.c", ECHO)
     rows.row_of_a_broken_input(["run", "echo.c"], "a", "input", 21)
     rows.row(["run", "none.c"], "", "file", 20)
+
+
+def status_of(line):
+    """The status of a line that `run` or `mean` ends with."""
+    word = line.split()[0]
+    return {"trap": 2, "stack": 3, "unspecified": 5, "outside": 5}.get(word, int(line != "exit 0"))
+
+
+def mean_rows(rows):
+    for text, run, output, line in MEAN:
+        rows.write("a.c", text)
+        if run is not None:
+            rows.row(["run", "a.c"], *run, status_of(run[1]))
+        rows.row(["mean", "a.c"], output, line, status_of(line))
+    rows.write("loop.c", "int main(void){while(1){}}")
+    rows.row(["mean", "loop.c", "--turns", "10"], "", "turns", 4)
+    rows.write("deep.c", "int f(int n){putchar(46);return f(n+1);}int main(void){return f(0);}")
+    rows.row(["mean", "deep.c", "--turns", "1000000"], "." * 1_000_000, "turns", 4)
+    rows.row(["mean", f"{ROOT}/examples/words.c"], "be 2\nnot 1\nor 1\nto 2\n", "exit 0", 0, "to be or not to be\n")
+
+
+def text_rows(rows):
+    for number, summary in [(1, "functions 1\nsource 150\nexit 16\n"), (3, "functions 3\nsource 322\nexit 40\n")]:
+        for words in [["gen", str(number)]] * 2:
+            rows.row(words, summary, None, 0)
+    rows.row(["gen", "0"], "", "words", 11)
+    rows.write("a.c", HI)
+    rows.row(["map", "a.c"], None, None, 0)
+    rows.row(["list", "a.c"], None, None, 0)
+    text = subprocess.run([CHERIC, "map", "a.c"], cwd=rows.folder, capture_output=True, text=True).stdout
+    size = next(int(row.split()[2]) for row in text.splitlines() if row.startswith("text "))
+    listing = subprocess.run([CHERIC, "list", "a.c"], cwd=rows.folder, capture_output=True, text=True).stdout
+    rows.holds("the listing has a line for each word of the text", len(listing.splitlines()) == size // 4)
 
 
 def line_rows(rows):
@@ -203,7 +260,7 @@ def main():
     prepared()
     with tempfile.TemporaryDirectory() as folder:
         rows = Rows(folder)
-        for part in (run_rows, line_rows, image_rows, example_rows):
+        for part in (run_rows, mean_rows, text_rows, line_rows, image_rows, example_rows):
             part(rows)
         print(f"{rows.count} rows, {rows.wrong} answered otherwise")
         return 1 if rows.wrong else 0
