@@ -25,7 +25,7 @@ use Rattle.c_tree.specs.Declarators.{Formed, kind_at, judge, formed, specified_t
 use Rattle.c_tree.specs.Declarators.{place_of}
 use Rattle.c_tree.specs.Declarators.{parameter_of, bind_local, bind_parameter, parameter_list, prototype_of, names_type}
 use Rattle.c_tree.specs.Programs.{type_of_kind}
-use Rattle.c_facts.proofs.Facts.{AllNames}
+use Rattle.typing_laws.proofs.Facts.{AllNames}
 use Rattle.c_scopes.proofs.Stepping.{More, among_left, among_right, among_either, EntityOpen, NamesOpen, At, at_more}
 use Rattle.c_scopes.proofs.Stepping.{moved, Runs, Goes, Keeps, Any, going, run_give, run_kept, run_refuse, run_need}
 use Rattle.c_scopes.proofs.Stepping.{run_then, run_next, give_goes, give_keeps, refuse_goes, goes_then, goes_next}

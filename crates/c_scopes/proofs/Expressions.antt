@@ -33,7 +33,7 @@ use Rattle.c_tree.specs.Expressions.{all_asked}
 use Rattle.c_tree.specs.Expressions.{library_call, is_shift}
 use Rattle.c_tree.specs.Expressions.{moves, differ, both_agree, is_void_pointer, is_counted}
 use Rattle.c_tree.specs.Expressions.{arms_type, is_additive, is_modifiable, compounds, points_to_function}
-use Rattle.c_facts.proofs.Places.{find_name_ok}
+use Rattle.typing_laws.proofs.Places.{find_name_ok}
 use Rattle.c_scopes.specs.Scoping.{ShapeScoped, TermScoped, TermsScoped}
 use Rattle.c_scopes.proofs.Stepping.{EntityOpen, BodiesScoped, moved, Keeps, Any, going, on, run_give, run_kept}
 use Rattle.c_scopes.proofs.Stepping.{run_need, run_then, run_next, give_keeps, refuse_goes, goes_then, goes_next}

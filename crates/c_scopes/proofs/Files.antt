@@ -26,14 +26,14 @@ use Rattle.c_tree.specs.Programs.{body_context}
 use Rattle.c_tree.specs.Programs.{gives_complete, first_incomplete, refused_at, define_body, define_named}
 use Rattle.c_tree.specs.Programs.{function_definition, external_of, reading, readings, beginning, last_faults, earliest}
 use Rattle.c_tree.specs.Programs.{program_of, has_main, ended, all_externals, finished, typing}
-use Rattle.c_facts.specs.Fitting.{IsFit, AreFit}
-use Rattle.c_facts.proofs.Facts.{AllNames, EntityOk}
-use Rattle.c_facts.proofs.Growing.{scopes_more}
-use Rattle.c_facts.proofs.Growing as growing
-use Rattle.c_facts.proofs.Steps.{given, first_then, changed_from}
-use Rattle.c_facts.proofs.Functions.{Outside}
-use Rattle.c_facts.proofs.Readable.{good}
-use Rattle.c_facts.proofs.Ended.{outside_beginning}
+use Rattle.typing_laws.specs.Fitting.{IsFit, AreFit}
+use Rattle.typing_laws.proofs.Facts.{AllNames, EntityOk}
+use Rattle.typing_laws.proofs.Growing.{scopes_more}
+use Rattle.typing_laws.proofs.Growing as growing
+use Rattle.typing_laws.proofs.Steps.{given, first_then, changed_from}
+use Rattle.typing_laws.proofs.Functions.{Outside}
+use Rattle.typing_laws.proofs.Readable.{good}
+use Rattle.typing_laws.proofs.Ended.{outside_beginning}
 use Rattle.c_scopes.specs.Scoping.{ActionScoped}
 use Rattle.c_scopes.proofs.Stepping.{More, among_either, EntityOpen, entity_more, NamesOpen, names_more, BodiesScoped}
 use Rattle.c_scopes.proofs.Stepping.{At}

@@ -22,15 +22,15 @@ use Rattle.c_tree.specs.Passed.{given_back}
 use Rattle.c_tree.specs.Passed.{passed_action, passed_actions, result_types, result_variable, result_pointer}
 use Rattle.c_tree.specs.Passed.{written_params, copied_param, copied_params, named_variables, param_number}
 use Rattle.c_tree.specs.Passed.{variable_number, passing, param_copy, param_copies, opened, passed_routine}
-use Rattle.c_facts.proofs.Facts.{TypeOk, Inv}
-use Rattle.c_facts.proofs.Scalars.{bare_bare}
-use Rattle.c_facts.proofs.Acts.{ActionOk, ActionsOk}
-use Rattle.c_facts.proofs.Wholes.{ParamsFit, with_locals, BodyOk}
-use Rattle.c_facts.proofs.Pointers.{pointer_agrees}
-use Rattle.c_facts.proofs.PassedHidden.{Holds, holds_append, holds_hidden, holds_call, ActionsHold, holds_action}
-use Rattle.c_facts.proofs.PassedHidden.{holds_first, holds_last, holds_return}
-use Rattle.c_facts.proofs.PassedVariables.{holds_body, vars_count, numbers_length}
-use Rattle.c_facts.proofs.PassedStates.{written, passed_whole}
+use Rattle.typing_laws.proofs.Facts.{TypeOk, Inv}
+use Rattle.typing_laws.proofs.Scalars.{bare_bare}
+use Rattle.typing_laws.proofs.Acts.{ActionOk, ActionsOk}
+use Rattle.typing_laws.proofs.Wholes.{ParamsFit, with_locals, BodyOk}
+use Rattle.typing_laws.proofs.Pointers.{pointer_agrees}
+use Rattle.typing_laws.proofs.PassedHidden.{Holds, holds_append, holds_hidden, holds_call, ActionsHold, holds_action}
+use Rattle.typing_laws.proofs.PassedHidden.{holds_first, holds_last, holds_return}
+use Rattle.typing_laws.proofs.PassedVariables.{holds_body, vars_count, numbers_length}
+use Rattle.typing_laws.proofs.PassedStates.{written, passed_whole}
 use Rattle.c_scopes.specs.Scoping.{IsAmong, ShapeScoped, TermScoped, TermsScoped, in_values, FormScoped, ActionScoped}
 use Rattle.c_scopes.specs.Scoping.{ActionsScoped}
 use Rattle.c_scopes.proofs.Stepping.{among_left, among_right, among_either}

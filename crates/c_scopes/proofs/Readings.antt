@@ -18,7 +18,7 @@ use Rattle.c_tree.specs.Readings.{Specified, Prototype, Wrap, Gives, Derived, Sl
 use Rattle.c_tree.specs.Readings.{Reading}
 use Rattle.c_tree.specs.Expressions.{read_value, read_values, called, prefixed, assignment, selected, expression_of}
 use Rattle.c_tree.specs.Expressions.{called_library, called_name}
-use Rattle.c_facts.proofs.Facts.{AllNames}
+use Rattle.typing_laws.proofs.Facts.{AllNames}
 use Rattle.c_scopes.specs.Scoping.{TermScoped, ActionsScoped}
 use Rattle.c_scopes.proofs.Stepping.{EntityOpen, Goes, Keeps, Any, give_keeps, refuse_goes, goes_then, going}
 use Rattle.c_scopes.proofs.Expressions.{Scoped, AllScoped, value_keeps, named_keeps, text_keeps, unary_keeps}

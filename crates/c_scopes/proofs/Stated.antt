@@ -16,7 +16,7 @@ use Rattle.c_tree.specs.Statements.{case_label, labels, switch_item, switch_item
 use Rattle.c_tree.specs.Statements.{statement_of}
 use Rattle.c_tree.specs.WellTyped.{form_vars}
 use Rattle.c_tree.specs.Programs.{reading_of, reading, readings}
-use Rattle.c_facts.specs.Fitting.{KindFits, IsStatement, IsFit, AreFit}
+use Rattle.typing_laws.specs.Fitting.{KindFits, IsStatement, IsFit, AreFit}
 use Rattle.c_scopes.specs.Scoping.{TermScoped, TermsScoped, ActionsScoped}
 use Rattle.c_scopes.proofs.Stepping.{among_right, actions_more, actions_append, Runs, at_more, Goes, Keeps}
 use Rattle.c_scopes.proofs.Stepping.{Any, going, give_goes, give_keeps, refuse_goes, goes_then, goes_next}

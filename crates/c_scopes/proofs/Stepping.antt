@@ -12,10 +12,10 @@ use Rattle.c_tree.specs.Scopes.{Doing, give, refuse, need, look, change, some_or
 use Rattle.c_tree.specs.Scopes.{Tagging, in_innermost, bind_name, bind_tag, changed_at, enter, leave, in_scope}
 use Rattle.c_tree.specs.Scopes as scopes
 use Rattle.c_tree.specs.WellTyped.{form_vars}
-use Rattle.c_facts.proofs.Facts.{AllScopes}
-use Rattle.c_facts.proofs.Growing.{scopes_more}
-use Rattle.c_facts.proofs.Steps.{ok_is, refused, changed_from}
-use Rattle.c_facts.proofs.Tags.{there_from}
+use Rattle.typing_laws.proofs.Facts.{AllScopes}
+use Rattle.typing_laws.proofs.Growing.{scopes_more}
+use Rattle.typing_laws.proofs.Steps.{ok_is, refused, changed_from}
+use Rattle.typing_laws.proofs.Tags.{there_from}
 use Rattle.c_scopes.specs.Scoping.{IsAmong, ShapeScoped, TermScoped, TermsScoped, in_values, FormScoped, ActionScoped}
 use Rattle.c_scopes.specs.Scoping.{ActionsScoped}
 

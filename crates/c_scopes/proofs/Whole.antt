@@ -17,10 +17,10 @@ use Rattle.c_tree.specs.Views.{types_of, actions_of, action_at, Shows}
 use Rattle.c_tree.specs.Views as views
 use Rattle.c_tree.specs.WellTyped.{form_vars}
 use Rattle.c_tree.specs.Typing.{Sound}
-use Rattle.c_facts.proofs.Accepted.{fit_of_reads}
-use Rattle.c_facts.proofs.Wholes.{mapped_from}
-use Rattle.c_facts.proofs.PassedStates.{passed_whole, passed_function, passed_state}
-use Rattle.c_facts.proofs.PassingShown.{passed_shown}
+use Rattle.typing_laws.proofs.Accepted.{fit_of_reads}
+use Rattle.typing_laws.proofs.Wholes.{mapped_from}
+use Rattle.typing_laws.proofs.PassedStates.{passed_whole, passed_function, passed_state}
+use Rattle.typing_laws.proofs.PassingShown.{passed_shown}
 use Rattle.c_scopes.specs.Scoping.{ShapeScoped, TermScoped, TermsScoped, in_values, ActionScoped, ActionsScoped}
 use Rattle.c_scopes.specs.Scoping.{AreScoped}
 use Rattle.c_scopes.proofs.Stepping.{BodiesScoped}

@@ -6,5 +6,6 @@ pub mod Uses
 pub mod Weighed
 pub mod ViewLayout
 pub mod ViewRoom
+pub mod Sizes
 pub mod OneFile
 pub mod Examples

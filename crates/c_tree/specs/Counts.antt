@@ -1,8 +1,8 @@
 -- The two counts of a program that bound the steps of its run beside its weight, both in parts of 16 bytes.
 use Rattle.std.specs.Prelude.{ℕ, ◌+◌, ◌/◌, List, Option, Some, None, slice_get, Bool, true, false, if◌then◌else◌}
-use Rattle.std.specs.Prelude.{nat_le, sum_by}
+use Rattle.std.specs.Prelude.{sum_by}
 use Rattle.cap_concentrate.specs.Rounding.{owned}
-use Rattle.c_tree.specs.Layout.{Extent, extent, bare, size_limit}
+use Rattle.c_tree.specs.Layout.{extent, bare, size_of}
 use Rattle.c_tree.specs.declared.typed.CType.{CType}
 use Rattle.c_tree.specs.declared.typed.CType.TheVariants as types
 use Rattle.c_tree.specs.declared.typed.Typed.{Typed}
@@ -18,11 +18,6 @@ use Rattle.c_tree.specs.declared.typed.StmtKind.TheVariants as stmts
 -- the parts of 16 bytes that n bytes take, the last one rounded up
 abbrev pub parts : ℕ → ℕ
 parts n = (n + 15) / 16
-
--- a size within the limit; other types have none to count, and no object of a program whose types fit has one
-abbrev pub size_of : Option Extent → ℕ
-size_of None = 0
-size_of (Some x) = (if nat_le x.size size_limit then x.size else 0)
 
 -- ---- granules: the parts of all locals that are objects
 

@@ -7,7 +7,7 @@ use Rattle.ck_int.specs.declared.kinds.IntKind.TheVariants as kind
 use Rattle.ck_int.specs.Kinds.{wrapped}
 use Rattle.c_tree.specs.declared.syntax.RecordKind.{RecordKind}
 use Rattle.c_tree.specs.declared.syntax.RecordKind.TheVariants.{Struct, Union}
-use Rattle.c_tree.specs.Layout.{Extent, behind, member_offset, no_members}
+use Rattle.c_tree.specs.Layout.{Extent, behind, member_offset, no_members, within, size_limit}
 use Rattle.c_tree.specs.Syntax.{Syns}
 use Rattle.c_tree.specs.Types.{Ty, Int, Array, Tagged, Const, bare}
 use Rattle.c_tree.specs.Terms.{Constant, leaf}
@@ -19,15 +19,20 @@ use Rattle.c_tree.specs.Expressions.{text_bytes}
 
 -- ---- the parts of an object
 
--- the members of a struct with their offsets
 abbrev pub or_none : {A : Type 0} → Option Extent → (Extent → List A) → List A
 or_none None f = []
 or_none (Some y) f = f y
 
+-- the extent of the next member, if it and those before it are within the limit
+abbrev pub next_within : Extent → Option Extent → Option Extent
+next_within before o = (if nat_le before.size size_limit then within o else None)
+
+-- the members of a struct with their offsets. (A struct over the limit, which is refused, can lack its last ones)
 abbrev pub struct_places : List TagState → List Part → Extent → List (ℕ × Ty)
 struct_places tags [] x = []
 struct_places tags (m ∷ ms) x =
-    or_none (type_extent tags m.of) (λ y. (member_offset y x, m.of) ∷ struct_places tags ms (behind y x))
+    or_none (next_within x (type_extent tags m.of))
+    (λ y. (member_offset y x, m.of) ∷ struct_places tags ms (behind y x))
 
 -- of a union the first member alone counts
 abbrev pub first_place : List Part → List (ℕ × Ty)

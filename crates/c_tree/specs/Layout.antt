@@ -1,6 +1,7 @@
 -- Sizes, alignments and member offsets of types (C11 6.2.8, 6.5.3.4, 6.7.2.1), where each pointer is a capability of
 -- 128 bits and a member that is an array, a struct or a union can have exact bounds of its own.
 use Rattle.std.specs.Prelude.{ℕ, zero, suc, ◌+◌, ◌*◌, max, List, [], ◌∷◌, length, Option, Some, None, slice_get}
+use Rattle.std.specs.Prelude.{nat_le, if◌then◌else◌}
 use Rattle.cap_concentrate.specs.Rounding.{rounded_up, alignment, owned}
 use Rattle.ck_int.specs.declared.kinds.IntKind.{IntKind}
 use Rattle.ck_int.specs.declared.kinds.IntKind.TheVariants as kind
@@ -32,6 +33,20 @@ bytes_of kind.U64 = 8
 
 abbrev pub scalar : ℕ → Extent
 scalar n = record { size = n; align = n }
+
+-- So many bytes, if within the limit. A type over the limit is refused where it is formed, and has none to count
+abbrev pub fitting : ℕ → ℕ
+fitting n = if nat_le n size_limit then n else 0
+
+-- the size of a type
+abbrev pub size_of : Option Extent → ℕ
+size_of None = 0
+size_of (Some x) = fitting x.size
+
+-- an extent within the limit
+abbrev pub within : Option Extent → Option Extent
+within None = None
+within (Some x) = if nat_le x.size size_limit then Some x else None
 
 abbrev pub with_extent : {A : Type 0} → Option Extent → (Extent → Option A) → Option A
 with_extent None f = None

@@ -5,7 +5,7 @@ use Rattle.std.specs.Prelude.{Result, Ok, Err, bytes_eq, slice_get, slice_set}
 use Rattle.ck_base.specs.declared.positions.Pos.{Pos}
 use Rattle.ck_base.specs.Tokens.{Lexeme}
 use Rattle.c_tree.specs.declared.syntax.RecordKind.{RecordKind}
-use Rattle.c_tree.specs.Layout.{Extent, with_extent, scalar, times, bytes_of}
+use Rattle.c_tree.specs.Layout.{Extent, with_extent, scalar, times, bytes_of, size_of}
 use Rattle.c_tree.specs.Types.{Ty, Void, Int, Cap, Pointer, Array, Tagged, Function, Const}
 use Rattle.c_tree.specs.Terms.{Action, Aim, Text}
 
@@ -270,5 +270,6 @@ abbrev pub extent_size : Option Extent → ℕ
 extent_size None = 0
 extent_size (Some x) = x.size
 
+-- the bytes of a type, within the limit
 abbrev pub size : State → Ty → ℕ
-size s t = extent_size (type_extent s.tags t)
+size s t = size_of (type_extent s.tags t)

@@ -9,6 +9,7 @@ use Rattle.ck_int.specs.Kinds.{value_of, kept_of, twos_complement}
 use Rattle.cap_concentrate.specs.Rounding.{owned, least_base, least_top}
 use Rattle.c_tree.specs.declared.syntax.RecordKind.{RecordKind}
 use Rattle.c_tree.specs.declared.syntax.RecordKind.TheVariants.{Struct, Union}
+use Rattle.c_tree.specs.Layout.{fitting}
 use Rattle.c_tree.specs.Types.{Ty, Pointer, Tagged, bare, is_capability, is_pointer}
 use Rattle.c_tree.specs.Terms.{Shape, Literal, Global, Fun, Load, Decay, Deref, Member, Address, Convert, Capability}
 use Rattle.c_tree.specs.Terms.{Plus, Term, term, Terms, no_terms, with_term, type_of, Aim, To_global, To_literal}
@@ -39,7 +40,7 @@ static_length s (Some g) = (if is_complete s g.of then Some (owned (size s g.of)
 
 abbrev pub text_length : Option Text → Option ℕ
 text_length None = None
-text_length (Some t) = Some (owned (length t.bytes))
+text_length (Some t) = Some (owned (fitting (length t.bytes)))
 
 abbrev pub aim_length : State → Aim → Option ℕ
 aim_length s (To_global k) = static_length s (slice_get s.statics k)
@@ -206,14 +207,16 @@ pub record Placed : Type 0 where
   pub width : ℕ
   pub number : ℕ
 
-abbrev pub byte_in : ℕ → Placed → ℕ
-byte_in k x = (if nat_le x.at k && nat_lt k (x.at + x.width) then x.number / 256 ^ (k - x.at) % 256 else 0)
+-- the byte at an offset: the number's, where it has one there, else what stood there
+abbrev pub byte_in : ℕ → ℕ → Placed → ℕ
+byte_in k b x = (if nat_le x.at k && nat_lt k (x.at + x.width) then x.number / 256 ^ (k - x.at) % 256 else b)
 
 abbrev pub end_of : Placed → ℕ
 end_of x = (if x.number == 0 then 0 else x.at + significant x.width x.number)
 
+-- 6.7.9p19, p21: the last of the numbers that have a byte there gives it; what none has is zero
 abbrev pub byte_at : List Placed → ℕ → ℕ
-byte_at xs k = fold (λ b x. b + byte_in k x) 0 xs
+byte_at xs k = fold (byte_in k) 0 xs
 
 abbrev pub bytes_from : List Placed → ℕ → ℕ → List ℕ
 bytes_from xs k zero = []

@@ -31,7 +31,7 @@ use Rattle.c_tree.specs.Terms.{Aim, To_global, To_literal, To_function}
 use Rattle.c_tree.specs.Types.{Array, Ty, bare, is_function}
 use Rattle.c_tree.specs.declared.syntax.NodeKind.{NodeKind}
 use Rattle.c_tree.specs.declared.syntax.NodeKind.TheVariants as Kinds
-use Rattle.c_facts.proofs.Tags.{last_of}
+use Rattle.typing_laws.proofs.Tags.{last_of}
 use Rattle.c_values.proofs.Sorts.{is_stored}
 use Rattle.c_values.proofs.Made.{TermWorth, InitsMade, inits_append, actions_append}
 use Rattle.c_values.proofs.Stepping.{LocalsKept, changed_locals, pushed_locals, run_on, run_from, run_refuse, still}

@@ -32,7 +32,7 @@ use Rattle.c_tree.specs.declared.syntax.InfixOperator.TheVariants as infixes
 use Rattle.c_tree.specs.declared.syntax.StepOperator.{StepOperator}
 use Rattle.c_tree.specs.declared.typed.UnaryOp.{UnaryOp}
 use Rattle.c_tree.specs.declared.typed.UnaryOp.TheVariants as unary
-use Rattle.c_facts.proofs.Scalars.{promoted_self, common_is_promoted}
+use Rattle.typing_laws.proofs.Scalars.{promoted_self, common_is_promoted}
 use Rattle.c_values.specs.Valued.{IsComputed}
 use Rattle.c_values.proofs.Made.{TermMade, TermsMade, TermWorth, if_worth, value_made, converted_made}
 use Rattle.c_values.proofs.Stepping.{LocalsKept, Runs, run_refuse, changed_locals, still, BodiesMade, Keeps, Any, going}

@@ -23,12 +23,12 @@ use Rattle.c_tree.specs.Terms.{Program, numbers_from}
 use Rattle.c_tree.specs.Types.{Ty, is_function}
 use Rattle.c_tree.specs.declared.syntax.NodeKind.{NodeKind}
 use Rattle.c_tree.specs.declared.syntax.NodeKind.TheVariants as Kinds
-use Rattle.c_facts.specs.Fitting.{IsFit, AreFit}
-use Rattle.c_facts.proofs.PassedVariables.{numbers_length}
-use Rattle.c_facts.proofs.Steps.{ok_is, refused, given, first_then, changed_from}
-use Rattle.c_facts.proofs.Functions.{Outside}
-use Rattle.c_facts.proofs.Readable.{good}
-use Rattle.c_facts.proofs.Ended.{outside_beginning}
+use Rattle.typing_laws.specs.Fitting.{IsFit, AreFit}
+use Rattle.typing_laws.proofs.PassedVariables.{numbers_length}
+use Rattle.typing_laws.proofs.Steps.{ok_is, refused, given, first_then, changed_from}
+use Rattle.typing_laws.proofs.Functions.{Outside}
+use Rattle.typing_laws.proofs.Readable.{good}
+use Rattle.typing_laws.proofs.Ended.{outside_beginning}
 use Rattle.c_values.proofs.Readings.{ParamsMade, WrapsMade, DerivedMade, ItemsMade}
 use Rattle.c_values.proofs.Sorts.{is_stored}
 use Rattle.c_values.proofs.Stepping.{BodyMade, AreAdjusted, LocalsKept, bodies_then, BodiesMade, Runs, Keeps, Any}

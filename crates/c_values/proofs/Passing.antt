@@ -21,12 +21,13 @@ use Rattle.c_tree.specs.Terms.{no_actions, with_action, Variable, Routine, numbe
 use Rattle.c_tree.specs.Types.{count, Ty, Tys, no_types, also, Void, Int, Cap, Pointer, Array, Tagged, Function, Const}
 use Rattle.c_tree.specs.Types.{bare, is_integer, is_scalar, is_tagged, is_void}
 use Rattle.c_tree.specs.WellTyped.{Inside, inside_of, in_loop, in_switch, outside, count_of, ArgumentsFit}
-use Rattle.c_facts.proofs.PassedStates.{as_local, written, passed_whole}
-use Rattle.c_facts.proofs.PassingTypes.{function_cases, tagged_passed, void_passed, scalar_passed}
-use Rattle.c_facts.proofs.PassedVariables.{numbers_length}
-use Rattle.c_facts.proofs.Wholes.{ParamsFit, mapped_from, with_locals, BodyOk}
-use Rattle.c_facts.proofs.Facts.{Inv, IsValue as IsTyped, scalar, nothing, tagged, TermOk, TermsOk, Complete, AllTaken}
-use Rattle.c_facts.proofs.Acts.{FormOk, ActionOk, ActionsOk}
+use Rattle.typing_laws.proofs.PassedStates.{as_local, written, passed_whole}
+use Rattle.typing_laws.proofs.PassingTypes.{function_cases, tagged_passed, void_passed, scalar_passed}
+use Rattle.typing_laws.proofs.PassedVariables.{numbers_length}
+use Rattle.typing_laws.proofs.Wholes.{ParamsFit, mapped_from, with_locals, BodyOk}
+use Rattle.typing_laws.proofs.Facts.{Inv, IsValue as IsTyped, scalar, nothing, tagged, TermOk, TermsOk, Complete}
+use Rattle.typing_laws.proofs.Facts.{AllTaken}
+use Rattle.typing_laws.proofs.Acts.{FormOk, ActionOk, ActionsOk}
 use Rattle.c_values.specs.Valued.{AreScalars, is_plain, IsValue, IsPlace, AreAsked, ActionValued, Begins, FirstBegin}
 use Rattle.c_values.specs.Valued.{ActionsValued, IsComputed}
 use Rattle.c_values.proofs.Stepping.{AreAdjusted}
@@ -169,8 +170,10 @@ module _ (names : Names) (number : ℕ → ℕ) (s : State) (functions : AreFunc
         (tt, (place_passed n a h.0.1.0 o.0.0 (modifiable_site a o.1.0), (value_passed _ b h.0.1.1.0 o.0.1.0, tt)))
     value_passed n (term tree.Assign (with_term a no_terms) t p) h o = absurd o.1
     value_passed n (term tree.Assign (with_term a (with_term b (with_term c xs))) t p) h o = absurd o.1
-    value_passed n (term (tree.Compound op of) (with_term a (with_term b no_terms)) t p) h o =
-        (computed_passed of h.0.0, (place_passed n a h.0.1.0 o.0.0 (modifiable_site a o.1.0), (value_passed _ b h.0.1.1.0 o.0.1.0, tt)))
+    value_passed n (term (tree.Compound op of) (with_term a (with_term b no_terms)) t p) h o = (
+      computed_passed of h.0.0,
+      (place_passed n a h.0.1.0 o.0.0 (modifiable_site a o.1.0), (value_passed _ b h.0.1.1.0 o.0.1.0, tt)),
+    )
     value_passed n (term (tree.Compound op of) no_terms t p) h o = absurd o.1
     value_passed n (term (tree.Compound op of) (with_term a no_terms) t p) h o = absurd o.1
     value_passed n (term (tree.Compound op of) (with_term a (with_term b (with_term c xs))) t p) h o = absurd o.1

@@ -16,8 +16,8 @@ use Rattle.c_tree.specs.Types.{is_void, is_tagged, is_function, is_capability}
 use Rattle.c_tree.specs.WellTyped.{UnaryFits, Decays, AllAskedFit, list_of}
 use Rattle.c_tree.specs.declared.typed.UnaryOp.{UnaryOp}
 use Rattle.c_tree.specs.declared.typed.UnaryOp.TheVariants as unary
-use Rattle.c_facts.proofs.Agreeing.{refines}
-use Rattle.c_facts.proofs.Facts.{IsValue, scalar, nothing, tagged, ShapeOk, TermOk}
+use Rattle.typing_laws.proofs.Agreeing.{refines}
+use Rattle.typing_laws.proofs.Facts.{IsValue, scalar, nothing, tagged, ShapeOk, TermOk}
 use Rattle.c_values.specs.Valued.{is_plain}
 use Rattle.c_values.proofs.Made.{is_read, TermWorth}
 
@@ -189,7 +189,7 @@ module _ (s : State) (functions : AreFunctions s) where
       ⊎_elim (λ d. ap is_stored d.3) (λ d. ap is_stored d.1) o.1
   unstored (term tree.Address (with_term a no_terms) t p) h o = ap is_stored o.1.1
   unstored (term tree.Convert (with_term a no_terms) t p) h o =
-      ⊎_elim (λ v. void_unstored t v) (λ c. scalar_unstored t c.0) o.1
+      ⊎_elim (λ v. void_unstored t v) (λ c. scalar_unstored t c.0) o.1.0
   unstored (term (tree.Unary op) (with_term a no_terms) t p) h o = unary_unstored op (type_of a) t o.1
   unstored (term (tree.Step adds in_front) (with_term a no_terms) t p) h o =
       ⊎_elim (λ i. integer_unstored t i) (λ q. ap is_stored q.1) o.1.2

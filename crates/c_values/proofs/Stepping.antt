@@ -7,8 +7,8 @@ use Rattle.ck_base.specs.declared.positions.Pos.{Pos}
 use Rattle.c_tree.specs.Scopes.{LocalState, RoutineState, Body, State, Doing, give, refuse, need, look, some_or}
 use Rattle.c_tree.specs.Scopes.{continued, ◌>>=◌, ◌>>◌, changed_at, leave, in_scope}
 use Rattle.c_tree.specs.Scopes as scopes
-use Rattle.c_facts.proofs.Steps.{ok_is, refused, changed_from, changed_to}
-use Rattle.c_facts.proofs.Tags.{there_from, there_in}
+use Rattle.typing_laws.proofs.Steps.{ok_is, refused, changed_from, changed_to}
+use Rattle.typing_laws.proofs.Tags.{there_from, there_in}
 use Rattle.c_values.proofs.Made.{ActionMade}
 use Rattle.c_values.proofs.Sorts.{is_stored}
 

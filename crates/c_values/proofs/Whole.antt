@@ -18,10 +18,10 @@ use Rattle.c_tree.specs.Views as views
 use Rattle.c_tree.specs.WellTyped.{type_in}
 use Rattle.c_tree.specs.declared.typed.FunDef.{FunDef}
 use Rattle.c_tree.specs.declared.typed.Typed.{Typed}
-use Rattle.c_facts.proofs.Accepted.{fit_of_reads}
-use Rattle.c_facts.proofs.Wholes.{mapped_from}
-use Rattle.c_facts.proofs.PassedStates.{passed_whole, passed_function, passed_state}
-use Rattle.c_facts.proofs.PassingShown.{passed_shown}
+use Rattle.typing_laws.proofs.Accepted.{fit_of_reads}
+use Rattle.typing_laws.proofs.Wholes.{mapped_from}
+use Rattle.typing_laws.proofs.PassedStates.{passed_whole, passed_function, passed_state}
+use Rattle.typing_laws.proofs.PassingShown.{passed_shown}
 use Rattle.c_values.specs.Valued.{AreAdjusted, ParametersFit, AreDirect, AreScalars, Begins, FirstBegin, GivesValue}
 use Rattle.c_values.specs.Valued.{IsValue, IsPlace, AreAsked, FormValued, ActionValued, ActionsValued, AreValues}
 use Rattle.c_values.specs.Valued.{asks_place}

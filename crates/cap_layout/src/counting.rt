@@ -3,7 +3,8 @@ ghost use Rattle.std.specs.Prelude.{◌≡◌, ◌≤◌, sum_by, slice_get};
 ghost use Rattle.c_tree.specs.Layout.{extent, bare, size_limit};
 ghost use Rattle.c_tree.specs.Weight.{counted};
 ghost use Rattle.cap_layout.specs.Kept.{AreLayoutsOf};
-ghost use Rattle.c_tree.specs.Counts.{parts, size_of, var_granules, fun_granules, granules, is_record, copied};
+ghost use Rattle.c_tree.specs.Counts.{parts, var_granules, fun_granules, granules, is_record, copied};
+ghost use Rattle.c_tree.specs.Layout.{size_of};
 ghost use Rattle.c_tree.specs.Counts.{expr_copies, value_copies, stmt_copies, copies};
 
 use crate::kept::Layouts;

@@ -21,4 +21,5 @@ pub use counting::{copies, granules};
 pub use kept::Layouts;
 pub use offsets::offset_of;
 pub use owning::owned;
+pub use shapes::LIMIT;
 pub use sizes::layout;

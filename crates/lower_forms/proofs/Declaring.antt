@@ -1,6 +1,9 @@
--- Each object of a function is a parameter, or a block in its body declares it; so it becomes zero in the function's code.
-use Rattle.std.proofs.Common.{◌≡◌, ℕ, zero, suc, ◌+◌, ◌<◌, ◌≤◌, Bool, true, false, List, [], ◌∷◌, ◌++◌, length, map, get_or}
-use Rattle.std.proofs.Common.{Option, Some, None, refl, sym, ap, subst, arith, inl, inr, ◌⊎◌, ⊎_elim, if◌then◌else◌, ◌∙◌}
+-- Each object of a function is a parameter, or a block in its body declares it; so it becomes zero in the function's
+-- code.
+use Rattle.std.proofs.Common.{◌≡◌, ℕ, zero, suc, ◌+◌, ◌<◌, ◌≤◌, Bool, true, false, List, [], ◌∷◌, ◌++◌, length, map}
+use Rattle.std.proofs.Common.{get_or}
+use Rattle.std.proofs.Common.{Option, Some, None, refl, sym, ap, subst, arith, inl, inr, ◌⊎◌, ⊎_elim, if◌then◌else◌}
+use Rattle.std.proofs.Common.{◌∙◌}
 use Rattle.std.specs.Prelude.{slice_get, ◌==◌}
 use Rattle.std.proofs.lemmas.Bool.{cases_lt, eqb-true}
 use Rattle.std.proofs.lemmas.Option.{slice_get-get_or, same_Some}
@@ -15,7 +18,7 @@ use Rattle.c_tree.specs.declared.typed.StmtKind.{StmtKind}
 use Rattle.c_tree.specs.declared.typed.StmtKind.TheVariants as stmts
 use Rattle.c_tree.specs.declared.typed.Typed.{Typed}
 use Rattle.c_tree.specs.declared.typed.VarDef.{VarDef}
-use Rattle.c_facts.proofs.Sound.{well_typed}
+use Rattle.typing_laws.proofs.Sound.{well_typed}
 use Rattle.c_scopes.specs.Scoping.{IsAmong}
 use Rattle.cheri_c_sem.specs.Expressions.{expr_tree}
 use Rattle.cheri_c_sem.specs.Programs as means
@@ -175,7 +178,8 @@ module _ (p : Typed) (w : IsOrdered p) (vars : List VarDef) (x : ℕ) (object : 
         let e = slice_get-get_or p.stmts k empty there in
         subst (Declares o) (sym (statement_node p vars (ordered_of p w) k c e))
         (kind_declares c.kind c.pos
-        (λ j a z. let l = w.parts_before k j a c e z in below_declares n a (omega (arith, lt, l)) (omega (arith, there, l)))
+        (λ j a z. let l = w.parts_before k j a c e z in
+        below_declares n a (omega (arith, lt, l)) (omega (arith, there, l)))
         (subst (λ a. IsAmong (declared a) x) (statement_is p w k c e) i))
 
 -- a parameter, or a variable of a block
@@ -192,7 +196,8 @@ declared_somewhere p w d fits below n o h =
     by (inl lt) = inl (takes p w d.vars h.var h.object d.params
         (at_among d.params h.var h.var (fits.params_first h.var lt)))
     by (inr le) = inr (below_declares p w d.vars h.var h.object (suc d.body) d.body (omega arith) below
-        (times_among (declared (action_at (actions_of p) d.body)) h.var (omega (arith, fits.declared_once h.var le h.below))))
+        (times_among (declared (action_at (actions_of p) d.body)) h.var
+        (omega (arith, fits.declared_once h.var le h.below))))
 
 -- ---- programs
 
@@ -200,7 +205,8 @@ record HasCode (p : Typed) (signs : ℕ → Signature) (d : FunDef) (f : TacFun)
   number : ℕ
   is : IsCodeOf p signs number d f
 
-has_code : (p : Typed) (signs : ℕ → Signature) (n : ℕ) (ds : List FunDef) (fs : List TacFun) → AreCodeOf p signs n ds fs →
+has_code : (p : Typed) (signs : ℕ → Signature) (n : ℕ) (ds : List FunDef) (fs : List TacFun) →
+    AreCodeOf p signs n ds fs →
     (k : ℕ) (d : FunDef) (f : TacFun) → slice_get ds k ≡ Some d → slice_get fs k ≡ Some f → HasCode p signs d f
 has_code p signs n [] fs h k d f e i = absurd cc
 has_code p signs n (y ∷ ds) [] h k d f e i = absurd h

@@ -19,7 +19,8 @@ use Rattle.lower_runs.specs.Expressions.{IsAssignment, IsStructAssignment, IsCop
 use Rattle.lower_runs.specs.Expressions.{choice_code, guarded_code, first_kind, same}
 use Rattle.lower_forms.specs.Forms.{IsMade}
 use Rattle.lower_forms.proofs.Trees.{Works, AllWork}
-use Rattle.lower_forms.proofs.Operations.{none, more, joined, Makes, transfers, gives, negates, signs, computes, derives, moves, differs}
+use Rattle.lower_forms.proofs.Operations.{none, more, joined, Makes, transfers, gives, negates, signs, computes}
+use Rattle.lower_forms.proofs.Operations.{derives, moves, differs}
 use Rattle.lower_forms.proofs.Operations.{changes, steps, reaches, serving, jumps}
 
 -- ---- pieces of code

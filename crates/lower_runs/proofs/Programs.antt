@@ -7,7 +7,7 @@ use Rattle.std.proofs.lemmas.List.{length-map}
 use Rattle.std.proofs.lemmas.Option.{slice_get_within}
 use Rattle.ck_base.specs.World.{World, GivesBytes}
 use Rattle.ck_base.specs.declared.positions.Pos.{Pos}
-use Rattle.c_facts.proofs.Sound.{well_typed}
+use Rattle.typing_laws.proofs.Sound.{well_typed}
 use Rattle.c_tree.specs.Types.{Ty, Tys, Function, no_types, count}
 use Rattle.c_tree.specs.Typing.{Sound}
 use Rattle.c_tree.specs.WellTyped.{WellTyped}

@@ -6,7 +6,7 @@ use Rattle.std.specs.Prelude.{slice_get}
 use Rattle.std.proofs.lemmas.Bool.{and_from, eq-eqb}
 use Rattle.std.proofs.lemmas.Nat.{pow-add, pow_pos}
 use Rattle.std.proofs.Math.Nat.{mul-mod_left}
-use Rattle.c_facts.proofs.Divides.{Multiple, multiple_self, multiple_on, multiple_times}
+use Rattle.typing_laws.proofs.Divides.{Multiple, multiple_self, multiple_on, multiple_times}
 use Rattle.c_tree.specs.Layout.{Extent, bytes_of, with_extent, behind, beside, no_members, members, whole, times}
 use Rattle.c_tree.specs.Layout.{extent_of, extent_within}
 use Rattle.c_tree.specs.declared.typed.CType.{CType}

@@ -1,5 +1,5 @@
--- The trees that have code: values, places and jumps stand where these are asked for, and the blocks of the objects that
--- are named have been entered.
+-- The trees that have code: values, places and jumps stand where these are asked for, and the blocks of the objects
+-- that are named have been entered.
 use Rattle.ck_base.specs.declared.positions.Pos.{Pos}
 use Rattle.std.specs.Prelude.{◌≡◌, ◌≢◌, ℕ, ◌≤◌, true, List, [], ◌∷◌, ◌⊎◌, Option, Some, None}
 use Rattle.c_tree.specs.WellTyped as typed
@@ -117,7 +117,8 @@ module _ (vars : List VarDef) (params : ℕ) where
     Does i g (For ds first test step b) = AreInner ds × ((h : Scene) (c : Code) → IsEntered g ds h c →
         DoAll i h first × ValuesTested h test × ValuesIfAny h step × Does typed.in_loop h b)
     Does i g (Switch q k e ds ls ss) = AreInner ds × Values g e × AreOthers (held_by e) ds × IsOnce ls ×
-        AreAmong ls (count_statements ss) × ((h : Scene) (c : Code) → IsEntered g ds h c → DoAll (typed.in_switch i) h ss)
+        AreAmong ls (count_statements ss) ×
+        ((h : Scene) (c : Code) → IsEntered g ds h c → DoAll (typed.in_switch i) h ss)
     Does i g Break = i.breakable ≡ true
     Does i g Continue = i.loop ≡ true
     Does i g (Return None) = Unit {0}

@@ -5,10 +5,10 @@
 //! each function stands for it, that of a sound program runs under a legal map as the program means, for every input of
 //! bytes and any number of turns. `calls_fit` and `copies_fit` say what the relation asks of types. Definitions
 //! (`specs/`): the relation of trees and code in `Expressions`, `Statements`, `Operating`, `Functions` and `Programs`,
-//! and of code and shorter code in `Shortened`; which trees have code, in `Trees`; the relation of states in `States` and
-//! `Sound`; the simulation in `Simulation`, `Following` and `Calling`; the results in `Laws`, `StatementLaws`, `Result`,
-//! `Frames`, `Functions`, `Programs` and `Fitting`. Main lemmas (`proofs/`): `Agreement`, `Operands`, `Conditions`,
-//! `Places`, `Changes`, `Placed`, `Functions`, `Shortened`, `Starts`, `Programs`, `Fitting`.
+//! and of code and shorter code in `Shortened`; which trees have code, in `Trees`; the relation of states in `States`
+//! and `Sound`; the simulation in `Simulation`, `Following` and `Calling`; the results in `Laws`, `StatementLaws`,
+//! `Result`, `Frames`, `Functions`, `Programs` and `Fitting`. Main lemmas (`proofs/`): `Agreement`, `Operands`,
+//! `Conditions`, `Places`, `Changes`, `Placed`, `Functions`, `Shortened`, `Starts`, `Programs`, `Fitting`.
 #![tactic(auto)]
 
 mod laws;

@@ -1,6 +1,7 @@
 -- What holds of where objects are and of the calls in progress is kept by each act, where it is kept by allocations,
 -- and as calls begin and end.
-use Rattle.std.proofs.Common.{◌≡◌, ℕ, zero, suc, ◌+◌, ◌/◌, Bool, true, false, not, List, [], ◌∷◌, length, Option, Some, None}
+use Rattle.std.proofs.Common.{◌≡◌, ℕ, zero, suc, ◌+◌, ◌/◌, Bool, true, false, not, List, [], ◌∷◌, length, Option, Some}
+use Rattle.std.proofs.Common.{None}
 use Rattle.std.proofs.Common.{◌<◌, Result, Ok, Err, refl, sym, ◌∙◌, subst}
 use Rattle.std.specs.Prelude.{slice_get, slice_index_or, if◌then◌else◌}
 use Rattle.ck_base.specs.World.{World, Done, fails_after}
@@ -392,7 +393,8 @@ module _ {M V : Type 0} (ops : Operations M) (funs : List Fun) (view : M → V)
             (next_of (frame ops o f g m.now) (λ _. pass ops g.name g.params vs))
         entered None e = tt
         entered (Some at) e =
-            steady_pass (g ∷ functions_of m.work) (caller_of m.now ∷ m.callers) g.name g.params vs (fits f g is).params _
+            steady_pass (g ∷ functions_of m.work) (caller_of m.now ∷ m.callers) g.name g.params vs
+            (fits f g is).params _
             (keeps.opens m.now.mem f at m.now.first m.now.frame g m.now.vars (functions_of m.work) m.callers is e h.0)
 
     closed_kept : (first : Bool) (g : Fun) (v : Value) (cs : List Caller) (m : Moment M) → m.callers ≡ cs
@@ -551,10 +553,12 @@ module _ {M V : Type 0} (ops : Operations M) (funs : List Fun) (view : M → V)
         (λ _ t. jumped ops funs Breaks is t) h.0 (λ x t k. jumped_kept Breaks is (record m { now = t }) (k, h.1.1))
     jumped_kept Continues (Leave ds ∷ is) m h =
         after (functions_of is) m.callers (leave ops ds) (steady_leave (functions_of is) m.callers ds) m
-        (λ _ t. jumped ops funs Continues is t) h.0 (λ x t k. jumped_kept Continues is (record m { now = t }) (k, h.1.1))
+        (λ _ t. jumped ops funs Continues is t) h.0
+        (λ x t k. jumped_kept Continues is (record m { now = t }) (k, h.1.1))
     jumped_kept (Returns v) (Leave ds ∷ is) m h =
         after (functions_of is) m.callers (leave ops ds) (steady_leave (functions_of is) m.callers ds) m
-        (λ _ t. jumped ops funs (Returns v) is t) h.0 (λ x t k. jumped_kept (Returns v) is (record m { now = t }) (k, h.1.1))
+        (λ _ t. jumped ops funs (Returns v) is t) h.0
+        (λ x t k. jumped_kept (Returns v) is (record m { now = t }) (k, h.1.1))
     jumped_kept Breaks (Again l ∷ is) m h = (h.0, h.1.1)
     jumped_kept Breaks (Switch_end ∷ is) m h = (h.0, h.1.1)
     jumped_kept Continues (Again l ∷ is) m h = h
@@ -610,7 +614,8 @@ module _ {M V : Type 0} (ops : Operations M) (funs : List Fun) (view : M → V)
         (steady_part gs cs p local offset) (λ to. steady_store gs cs k to (first_of m.values)))
         (less_value m) (λ _ t. Goes t) h (λ x t i. i)
     initialize_kept (Fill p local offset bytes unit e) m h =
-        goes_on (λ n. next_of (part_of_local ops p local offset n) (λ to. copy ops p bytes unit (first_place m.places) to))
+        goes_on (λ n. next_of (part_of_local ops p local offset n)
+        (λ to. copy ops p bytes unit (first_place m.places) to))
         (λ gs cs. bind gs cs (part_of_local ops p local offset)
         (λ to. copy ops p bytes unit (first_place m.places) to) (steady_part gs cs p local offset)
         (λ to. steady_copy gs cs p bytes unit (first_place m.places) to))
@@ -670,7 +675,8 @@ module _ {M V : Type 0} (ops : Operations M) (funs : List Fun) (view : M → V)
     again_kept (Before t (Some e) b) m f h = (h.0, (tt, (tt, (f, h.1))))
     again_kept (Behind p k e b) m f h = (h.0, (f, h.1))
 
-    rest_fits : (n : ℕ) (ss : Sts) (j : ℕ) → DoFit globals functions n ss → DoFit globals functions n (execs_behind ss j)
+    rest_fits : (n : ℕ) (ss : Sts) (j : ℕ) → DoFit globals functions n ss →
+        DoFit globals functions n (execs_behind ss j)
     rest_fits n End j f = f
     rest_fits n (Seq a ss) zero f = f
     rest_fits n (Seq a ss) (suc j) f = rest_fits n ss j f.1
@@ -746,7 +752,8 @@ module _ {M V : Type 0} (ops : Operations M) (funs : List Fun) (view : M → V)
     act_in_kept w s d next (Reads to) h i f = by (fails_after w.failing_read d.reads)
       where
         by : (c : Bool)
-            → Holds (if c then stopped s d limits.read_fault else next (to (slice_get w.bytes d.reads)) (with_read d)).state
+            → Holds (if c then stopped s d limits.read_fault
+            else next (to (slice_get w.bytes d.reads)) (with_read d)).state
         by true = h
         by false = f (to (slice_get w.bytes d.reads)) (with_read d) (i (slice_get w.bytes d.reads))
     act_in_kept w s d next (Ends e) h i f = h

@@ -214,7 +214,10 @@ module _ (funs : List Fun) (m : Map) where
         f ∷ r.0,
         (h.is, r.1),
         (λ e l. (inl (omega (arith, l, q)), r.2 e (omega (arith, l, q, above)))),
-        (λ e a. (smaller e.0 e.1 m.stack.0 m.stack.1 c.frame f.saved from (omega (arith, saved, above, most)) a, r.3 e a)),
+        (λ e a. (
+          smaller e.0 e.1 m.stack.0 m.stack.1 c.frame f.saved from (omega (arith, saved, above, most)) a,
+          r.3 e a,
+        )),
         (λ k e l there. by r.0 r.2 r.4 k e l there),
       )
     where

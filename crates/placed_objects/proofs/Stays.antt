@@ -11,7 +11,7 @@ use Rattle.ck_base.specs.World.{nothing_done}
 use Rattle.cap_concentrate.specs.Rounding.{owned, rounded_up}
 use Rattle.cap_concentrate.proofs.Least.{rounded_up_ge}
 use Rattle.cap_ops.specs.Permissions.{data_permissions}
-use Rattle.c_facts.proofs.Sound.{well_typed}
+use Rattle.typing_laws.proofs.Sound.{well_typed}
 use Rattle.c_tree.specs.Types.{bare}
 use Rattle.c_tree.specs.Views.{IsOrdered}
 use Rattle.c_tree.specs.WellTyped.{WellTyped, outside}
@@ -32,7 +32,8 @@ use Rattle.obj_mem.specs.declared.ending.UnitFault.{UnitFault}
 use Rattle.obj_mem.specs.declared.map.Frame.{Frame}
 use Rattle.obj_mem.specs.declared.map.Map.{Map}
 use Rattle.cheri_c_sem.specs.Meaning.{further}
-use Rattle.cheri_c_sem.specs.Calls.{add_locals, end_locals, add_globals, add_literals, memory_or, written, with_bytes, with_links}
+use Rattle.cheri_c_sem.specs.Calls.{add_locals, end_locals, add_globals, add_literals, memory_or, written, with_bytes}
+use Rattle.cheri_c_sem.specs.Calls.{with_links}
 use Rattle.cheri_c_sem.specs.Calls.{all_bytes, fill_globals, link_globals, fill_literals, start}
 use Rattle.cheri_c_sem.specs.Modes.{Store, with_memory, stored, copied, taken, with_local, operations}
 use Rattle.cheri_c_sem.specs.Modes.{slot_offset, local_offset, placed_plan}
@@ -56,7 +57,8 @@ use Rattle.placement.proofs.TypedFits.{globals_same_lengths, literals_lengths, f
 use Rattle.placed_objects.specs.Calls.{Call, calls_from, functions_of}
 use Rattle.placed_objects.specs.Extents.{extent_of, IsLocalOf, IsWithin, IsAlive, ExtentsAreApart, ExtentsStayApart}
 use Rattle.placed_objects.proofs.Moments.{locals_in, Keeps, run_kept}
-use Rattle.placed_objects.proofs.Places.{Extent, get_below, Place, old, new, place_of, Serves, Stand, allocated as more_allocated}
+use Rattle.placed_objects.proofs.Places.{Extent, get_below, Place, old, new, place_of, Serves, Stand}
+use Rattle.placed_objects.proofs.Places.{allocated as more_allocated}
 use Rattle.placed_objects.proofs.Places.{locals_at, entered, left, frames_of, alive_apart, alive_off}
 
 -- ---- extents of objects

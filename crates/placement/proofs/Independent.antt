@@ -19,7 +19,7 @@ use Rattle.c_tree.specs.Terms as terms
 use Rattle.c_tree.specs.Views.{Shows, IsOrdered}
 use Rattle.c_tree.specs.WellTyped.{WellTyped, OwnsBytes, outside}
 use Rattle.c_tree.specs.Types.{bare}
-use Rattle.c_facts.proofs.Sound.{well_typed}
+use Rattle.typing_laws.proofs.Sound.{well_typed}
 use Rattle.obj_mem.specs.declared.map.Map.{Map}
 use Rattle.obj_mem.specs.declared.ending.Ending.{Ending}
 use Rattle.obj_mem.specs.declared.ending.Ending.TheVariants as ending

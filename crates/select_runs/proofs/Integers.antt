@@ -50,7 +50,8 @@ use Rattle.place_inject.proofs.Results.{numbers_read_back_law}
 use Rattle.select_words.specs.Standing.{HasAt}
 use Rattle.select_words.specs.Emitted.{IsNumber}
 use Rattle.select_words.specs.Forms.{OfOne, Other}
-use Rattle.select_words.specs.Operations.{AtKind, reduce_code, is_exact, finish_code, selected_op, add_op, shift_by, OneThen, TwoThen}
+use Rattle.select_words.specs.Operations.{AtKind, reduce_code, is_exact, finish_code, selected_op, add_op, shift_by}
+use Rattle.select_words.specs.Operations.{OneThen, TwoThen}
 use Rattle.select_words.specs.Operations.{IntegerWords, Registers, WithNumber, NumberWith, LessNumber, Shifted, Times}
 use Rattle.select_words.specs.Operations.{TimesFirst}
 use Rattle.select_runs.specs.Instructions.{OperationsRun}
@@ -209,7 +210,8 @@ module _ (s : Setting) (code : List Instr) (x : IsText s code) (p : Point) (t : 
     by_word : (i : Instr) (v : ℕ) → is_call i ≡ false
         → ((u : Machine) → register u q ≡ null_at r → row u i ≡ set_integer u q v) → HasAt code mid (i ∷ [])
         → Computed s code n (count + 1) (mid + 1) q q (null_at v)
-    by_word i v plain does w = next_word s code x p t n at count mid q (null_at r) (null_at v) point h i w.0 plain range does
+    by_word i v plain does w =
+        next_word s code x p t n at count mid q (null_at r) (null_at v) point h i w.0 plain range does
 
     abbrev Reduced : List Instr → ℕ → Type 0
     Reduced ws v = Computed s code n (count + length ws) (mid + length ws) q q (null_at v)
@@ -260,7 +262,8 @@ module _ (s : Setting) (code : List Instr) (x : IsText s code) (p : Point) (t : 
   finished int.U64 o by_number r v gives n mid count at point q range h has = none_more r v
       (gives.exact refl) n mid count q h
   finished int.Bool o by_number r v gives n mid count at point q range h has =
-      narrow_finished int.Bool (omega arith) r v gives.below (gives.else_reduced refl) n mid count at point q range h has
+      narrow_finished int.Bool (omega arith) r v gives.below
+      (gives.else_reduced refl) n mid count at point q range h has
   finished int.I8 o by_number r v gives n mid count at point q range h has =
       narrow_finished int.I8 (omega arith) r v gives.below (gives.else_reduced refl) n mid count at point q range h has
   finished int.U8 o by_number r v gives n mid count at point q range h has =

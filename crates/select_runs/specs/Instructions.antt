@@ -11,7 +11,8 @@ use Rattle.place_inject.specs.Spills.{StackIsThere}
 use Rattle.place_inject.specs.Tables.{TableIsThere}
 use Rattle.select_words.specs.Capabilities.{IsNarrow, NarrowWords, IsOffset, OffsetWords, IsIntrinsic, CapWords}
 use Rattle.select_words.specs.Capabilities.{IsPointing, PointingWords}
-use Rattle.select_words.specs.Operations.{AtKind, OperationWords, IsComparison, CompareWords, IsConversion, ConversionWords}
+use Rattle.select_words.specs.Operations.{AtKind, OperationWords, IsComparison, CompareWords, IsConversion}
+use Rattle.select_words.specs.Operations.{ConversionWords}
 use Rattle.select_words.specs.Words.{IsConst, ConstantWords, IsCopy, CopyWords, IsPassed, NoWords}
 use Rattle.select_runs.specs.Operands.{IsText}
 use Rattle.select_runs.specs.Results.{GoOn, EachGoesOn}

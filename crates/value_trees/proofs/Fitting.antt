@@ -22,7 +22,7 @@ use Rattle.c_tree.specs.declared.typed.Stmt.{Stmt}
 use Rattle.c_tree.specs.declared.typed.StmtKind.TheVariants as stmts
 use Rattle.c_tree.specs.declared.typed.Typed.{Typed}
 use Rattle.c_tree.specs.declared.typed.VarDef.{VarDef}
-use Rattle.c_facts.proofs.Sound.{well_typed}
+use Rattle.typing_laws.proofs.Sound.{well_typed}
 use Rattle.c_values.specs.Valued.{AreScalars, is_plain, IsValue, IsPlace, ActionValued, AreValues}
 use Rattle.c_values.proofs.Whole.{valued}
 use Rattle.cheri_c_sem.specs.Expressions as meant

@@ -17,8 +17,8 @@ use Rattle.c_tree.specs.Types.{Ty, Tagged, Const, Array, Function, compatible}
 use Rattle.c_tree.specs.declared.syntax.RecordKind.{RecordKind}
 use Rattle.c_tree.specs.declared.syntax.RecordKind.TheVariants as kinds
 use Rattle.c_tree.proofs.Aligned.{alignment_is_power}
-use Rattle.c_facts.proofs.Divides.{power_pos}
-use Rattle.c_facts.proofs.Extents.{tree_up}
+use Rattle.typing_laws.proofs.Divides.{power_pos}
+use Rattle.typing_laws.proofs.Extents.{tree_up}
 use Rattle.c_values.specs.Valued.{is_plain}
 use Rattle.cap_concentrate.specs.Rounding.{alignment}
 use Rattle.cap_concentrate.proofs.Laws.{owned_ge}

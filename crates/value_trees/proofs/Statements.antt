@@ -29,7 +29,7 @@ use Rattle.c_tree.specs.declared.typed.StmtKind.TheVariants as stmts
 use Rattle.c_tree.specs.declared.typed.SwitchLabel.{SwitchLabel}
 use Rattle.c_tree.specs.declared.typed.Typed.{Typed}
 use Rattle.c_tree.specs.declared.typed.VarDef.{VarDef}
-use Rattle.c_facts.proofs.Sound.{well_typed}
+use Rattle.typing_laws.proofs.Sound.{well_typed}
 use Rattle.c_scopes.specs.Scoping.{IsAmong, TermScoped, ActionScoped, ActionsScoped}
 use Rattle.c_scopes.proofs.Whole.{scoped}
 use Rattle.c_values.specs.Valued.{is_plain, AreOnce, Begins, FirstBegin, IsValue, ActionValued, ActionsValued}

@@ -19,7 +19,7 @@ use Rattle.c_tree.specs.declared.typed.ExprKind.TheVariants as exprs
 use Rattle.c_tree.specs.declared.typed.FunDef.{FunDef}
 use Rattle.c_tree.specs.declared.typed.Stmt.{Stmt}
 use Rattle.c_tree.specs.declared.typed.Typed.{Typed}
-use Rattle.c_facts.proofs.Sound.{well_typed}
+use Rattle.typing_laws.proofs.Sound.{well_typed}
 use Rattle.c_values.specs.Valued.{IsValue, IsPlace, AreAsked, ActionValued, ActionsValued, AreValues}
 use Rattle.c_values.proofs.Whole.{valued}
 use Rattle.value_trees.specs.Nodes.{IsUsed, AreUsed}

@@ -3,4 +3,5 @@ pub mod Lists
 pub mod Statements
 pub mod Types
 pub mod Whole
+pub mod Tagged
 pub mod Written

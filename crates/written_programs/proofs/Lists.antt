@@ -11,7 +11,8 @@ use Rattle.written_programs.specs.Writable.{Every}
 
 -- ---- each item
 
-pub every_at : {A : Type 0} (P : A → Type 0) (xs : List A) → Every P xs → (k : ℕ) (x : A) → slice_get xs k ≡ Some x → P x
+pub every_at : {A : Type 0} (P : A → Type 0) (xs : List A) → Every P xs → (k : ℕ) (x : A) → slice_get xs k ≡ Some x →
+    P x
 every_at P [] h k x e = absurd cc
 every_at P (y ∷ ys) h zero x e = subst P (same_Some y x e) h.0
 every_at P (y ∷ ys) h (suc k) x e = every_at P ys h.1 k x e

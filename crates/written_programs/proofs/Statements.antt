@@ -130,7 +130,8 @@ stmts_kept : (es ds : List Expr) (ss : List Stmt) → Extends es ds → AreStmts
 stmts_kept es ds ss x h k s e =
     let f = h k s e in
     record {
-      there = every_more (λ a. a < length es) (λ a. a < length ds) (values s.kind) (λ a l. still_there a es ds x l) f.there;
+      there =
+          every_more (λ a. a < length es) (λ a. a < length ds) (values s.kind) (λ a l. still_there a es ds x l) f.there;
       before = f.before;
     }
 

@@ -16,7 +16,8 @@ use Rattle.c_tree.proofs.Forest.{forest_reads}
 use Rattle.c_copy.specs.Copying.{Extends}
 use Rattle.c_copy.proofs.Copies.{grow-append, at_seam, forest_front, extends_same, extends_then, extends_push}
 use Rattle.written_programs.specs.Writable.{Every, TagsBelow, AllTagsBelow, member_types, tag_types}
-use Rattle.written_programs.proofs.Lists.{every_at, every_more, every_split, push_each, get-split, get-behind, cons_same}
+use Rattle.written_programs.proofs.Lists.{every_at, every_more, every_split, push_each, get-split, get-behind}
+use Rattle.written_programs.proofs.Lists.{cons_same}
 
 -- ---- lists of types
 
@@ -115,7 +116,8 @@ mutual
       push_type n cs b.new (ctypes.Function g.number b.numbers) (Function r ps)
       (extends_then cs a.new b.new a.more b.more) b.fine
       (g.here, every_at (λ k. k < length b.new) b.numbers b.here)
-      (function_same (type_at (types_of b.new) g.number) r (tys (map (type_at (types_of b.new)) b.numbers)) ps g.is b.are)
+      (function_same (type_at (types_of b.new) g.number) r (tys (map (type_at (types_of b.new)) b.numbers)) ps g.is
+      b.are)
   write_type n (Const t) cs f h =
       let a = write_type n t cs f h in
       push_type n cs a.new (ctypes.Const a.has.number) (Const t) a.more a.fine a.has.here (ap Const a.has.is)
@@ -387,7 +389,8 @@ module _ (tags : List Tag) (ts : List Ty) (all : AllTypes tags ts) where
   types_written = record {
     types = types;
     agree = λ k c e. ⊎_elim
-        (λ h. subst (λ us. TagAgrees us tags c) (sym same_types) (heads.agree tags (λ i t q. let z : 0 + i ≡ i = omega arith in ap (slice_get tags) z ∙ q) k c h))
+        (λ h. subst (λ us. TagAgrees us tags c) (sym same_types) (heads.agree tags
+        (λ i t q. let z : 0 + i ≡ i = omega arith in ap (slice_get tags) z ∙ q) k c h))
         (λ h. plain_agrees (types_of types) tags k c (behind h.0 k c h.1 h.2))
         (get-split heads.heads rest k c e);
     below = λ k c e. ⊎_elim

@@ -12,14 +12,14 @@ use Rattle.c_tree.specs.Programs.{shape_with, term_with, terms_with, action_with
 use Rattle.c_tree.specs.Programs.{with_body, routine_of, numbers_of}
 use Rattle.c_tree.specs.Programs as programs
 use Rattle.c_tree.specs.WellTyped.{Inside, inside_of, count_of, TestsFit}
-use Rattle.c_facts.specs.Fitting.{IsFit}
-use Rattle.c_facts.proofs.Facts.{ShapeOk, TermOk, TermsOk}
-use Rattle.c_facts.proofs.Acts.{FormOk, ActionOk, ActionsOk}
-use Rattle.c_facts.proofs.Ended.{typed_end}
-use Rattle.c_facts.proofs.Standing.{BodyStands, Standing}
-use Rattle.c_facts.proofs.PassedStates.{passed_state}
-use Rattle.c_facts.proofs.PassingState.{passed_stands}
-use Rattle.c_facts.proofs.PassingShown.{passed_shown}
+use Rattle.typing_laws.specs.Fitting.{IsFit}
+use Rattle.typing_laws.proofs.Facts.{ShapeOk, TermOk, TermsOk}
+use Rattle.typing_laws.proofs.Acts.{FormOk, ActionOk, ActionsOk}
+use Rattle.typing_laws.proofs.Ended.{typed_end}
+use Rattle.typing_laws.proofs.Standing.{BodyStands, Standing}
+use Rattle.typing_laws.proofs.PassedStates.{passed_state}
+use Rattle.typing_laws.proofs.PassingState.{passed_stands}
+use Rattle.typing_laws.proofs.PassingShown.{passed_shown}
 use Rattle.written_programs.specs.Writable.{Every, HasOperands, IsWhole, AreWhole, HasTests, HasMore, HasParts}
 use Rattle.written_programs.specs.Writable.{IsWholeAction, AreWholeActions, IsWholeRoutine}
 use Rattle.written_programs.proofs.Lists.{every_both}
@@ -220,7 +220,7 @@ mutual
 
 -- ---- programs
 
-every_flat : {A B : Type 0} (P : B → Type 0) (f : A → List B) (xs : List A) →
+pub every_flat : {A B : Type 0} (P : B → Type 0) (f : A → List B) (xs : List A) →
     ((k : ℕ) (x : A) → slice_get xs k ≡ Some x → Every P (f x)) → Every P (flat_map f xs)
 every_flat P f [] h = tt
 every_flat P f (x ∷ xs) h = every_both P (f x) (flat_map f xs) (h 0 x refl)

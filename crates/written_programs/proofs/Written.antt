@@ -46,8 +46,9 @@ link_back l = record { at = l.at; target = target_back l.aim; low = l.low; lengt
 links_back : (ls : List Pointing) → map pointing_of (map link_back ls) ≡ ls
 links_back [] = refl
 links_back (l ∷ ls) = cons_same (pointing_of (link_back l)) l (map pointing_of (map link_back ls)) ls
-    (ap (λ (a : Aim). let z : Pointing = record { at = l.at; aim = a; low = l.low; length = l.length; offset = l.offset }
-    in z) (aim_back l.aim)) (links_back ls)
+    (ap (λ (a : Aim).
+    let z : Pointing = record { at = l.at; aim = a; low = l.low; length = l.length; offset = l.offset } in z)
+    (aim_back l.aim)) (links_back ls)
 
 abbrev text_back : Text → Literal
 text_back x = record { pos = x.place; bytes = x.bytes }

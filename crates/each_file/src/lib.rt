@@ -1,0 +1,25 @@
+//! Each C file is accepted or refused.
+//!
+//! Promise: a file is a typed program, or the first rule that it breaks refuses it, and never both (`each_file`). So the
+//! definitions leave no file out, whatever a parser or an elaborator does.
+//! Definitions (`specs/`): `Each`; `File` of `c_tree`.
+//! Main lemma (`proofs/`): `Deciding`, rule by rule; what typing gives can be written down, by `written_programs`.
+#![tactic(auto)]
+
+ghost use Rattle.each_file.specs.Each.{EachFile};
+
+use c_codes::typing_codes;
+use c_lex::token_count;
+use c_parse::{one_file, readings_are_trees};
+
+/// A file is accepted as some program or refused by some code, and not both. Typing refuses by 130 to 136 or 140 alone.
+pub fn each_file(file: &[u8])
+    ensures { EachFile file.now }
+{
+    one_file();
+    readings_are_trees();
+    typing_codes();
+    if file.len() <= 4_194_304 {
+        let _ = token_count(file);
+    }
+}
