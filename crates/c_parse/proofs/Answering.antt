@@ -10,18 +10,18 @@ use Rattle.c_tree.specs.declared.syntax.Tree.{Tree}
 use Rattle.c_tree.specs.Syntax.{Syn, StandsAt}
 use Rattle.c_tree.specs.Parses.{DerivesFile}
 use Rattle.c_tree.specs.File.{IsCut}
-use Rattle.c_parse.specs.Statements.{read_file}
-use Rattle.c_parse.specs.Reading.{Names}
-use Rattle.c_parse.specs.declared.cursor.Stop.{Stop}
-use Rattle.c_parse.specs.declared.cursor.Stop.TheVariants.{NoTree}
-use Rattle.c_parse.specs.Got.{Fails}
+use Rattle.c_externals.specs.Statements.{read_file}
+use Rattle.c_phrases.specs.Reading.{Names}
+use Rattle.c_phrases.specs.declared.cursor.Stop.{Stop}
+use Rattle.c_phrases.specs.declared.cursor.Stop.TheVariants.{NoTree}
+use Rattle.c_phrases.specs.Got.{Fails}
 use Rattle.c_parse.specs.Parsed.{IsTreeOf, IsRefused, lexical, HasNoTree, OnCode}
-use Rattle.c_parse.proofs.Tools.{given}
-use Rattle.c_parse.proofs.StatementsSound.{file_sound}
-use Rattle.c_parse.proofs.StatementsComplete.{file_complete}
+use Rattle.c_phrases.proofs.Tools.{given}
+use Rattle.c_externals.proofs.StatementsSound.{file_sound}
+use Rattle.c_externals.proofs.StatementsComplete.{file_complete}
 use Rattle.std.proofs.Math.Seq.{take-suc}
-use Rattle.c_parse.proofs.Force.{reversed_push}
-use Rattle.c_parse.proofs.Outer.{file_of_none}
+use Rattle.c_phrases.proofs.Force.{reversed_push}
+use Rattle.c_externals.proofs.Outer.{file_of_none}
 
 pub tree_made : (file : List ℕ) (tokens ts : List Lexeme) (x : Syn) (tree : Tree) → IsCut file tokens → ts ≡ tokens →
     read_file 199 ts ≡ Some x → StandsAt tree.nodes tree.root x → length tree.nodes ≤ 67_108_864 → IsTreeOf file tree

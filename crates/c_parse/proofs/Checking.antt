@@ -8,7 +8,7 @@ use Rattle.ck_base.specs.Lexes.{Reads, NextToken}
 use Rattle.c_lex.proofs.OneReading.{Reads-push}
 use Rattle.c_tree.specs.File.{IsTokenPlace}
 use Rattle.c_lex.specs.Reader.{Reader}
-use Rattle.c_parse.specs.Left.{Leaves}
+use Rattle.c_phrases.specs.Left.{Leaves}
 use Rattle.c_parse.specs.Checked.{HasRead, IsChecked}
 
 -- one token more was read

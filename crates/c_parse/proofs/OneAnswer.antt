@@ -8,7 +8,7 @@ use Rattle.c_tree.specs.declared.syntax.Tree.{Tree}
 use Rattle.c_tree.specs.Parses.{DerivesFile}
 use Rattle.c_tree.specs.Brackets.{excess}
 use Rattle.c_parse.specs.Parsed.{IsTreeOf, IsRefused, lexical, brackets, no_tree}
-use Rattle.c_parse.proofs.StatementsComplete.{one_tree}
+use Rattle.c_externals.proofs.StatementsComplete.{one_tree}
 
 -- what is known of the tokens of a file
 pub record ReadsOnce (file : List ℕ) : Type 0 where

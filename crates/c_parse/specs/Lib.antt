@@ -1,17 +1,3 @@
-pub mod Begins
-pub mod Blocks
 pub mod Checked
-pub mod Climbing
-pub mod Counted
-pub mod Gathering
-pub mod Got
-pub mod Left
-pub mod OneRest
 pub mod Parsed
-pub mod Reading
-pub mod Runs
-pub mod Statements
-pub mod Steps
-pub mod Suffixes
 pub mod Turns
-pub mod Words

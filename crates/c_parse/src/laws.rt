@@ -8,7 +8,7 @@ ghost use Rattle.ck_base.specs.Tokens.{Lexeme};
 ghost use Rattle.c_tree.specs.Syntax.{Syn, height};
 ghost use Rattle.c_tree.specs.Parses.{DerivesFile};
 ghost use Rattle.c_tree.specs.File.{OneFile};
-ghost use Rattle.c_parse.specs.Statements.{read_file};
+ghost use Rattle.c_externals.specs.Statements.{read_file};
 
 use c_lex::one_reading;
 use c_tree::Tree;

@@ -1,6 +1,6 @@
 use Rattle.std.proofs.Common.{◌++◌, map, reverse, ap, ◌∙◌, arith}
 use Rattle.std.proofs.lemmas.List.{take_all}
-use Rattle.c_parse.specs.Got.{in_force}
+use Rattle.c_phrases.specs.Got.{in_force}
 use Rattle.c_parse.proofs.Answering.{names_taken}
 use Rattle.c_parse.proofs.files.declare_all.Goals as goal
 

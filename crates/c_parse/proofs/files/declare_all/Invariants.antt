@@ -1,5 +1,5 @@
 use Rattle.std.proofs.Common.{◌≡◌, ◌++◌, map, reverse, take}
-use Rattle.c_parse.specs.Got.{in_force}
+use Rattle.c_phrases.specs.Got.{in_force}
 use Rattle.c_parse.proofs.files.declare_all.Given as goal
 
 abbrev pub invariant-loop-name : goal.invariant-loop-name

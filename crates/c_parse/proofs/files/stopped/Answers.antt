@@ -1,5 +1,5 @@
 use Rattle.std.proofs.Common.{◌++◌, ◌∷◌, [], ◌<◌, length, refl, ap, sym, subst, ◌∙◌}
-use Rattle.c_parse.specs.Reading.{past}
+use Rattle.c_phrases.specs.Reading.{past}
 use Rattle.c_parse.proofs.Checking.{among_last, among_more, none_among, passed, all_passed, place_of, IsAmong}
 use Rattle.c_parse.proofs.files.stopped.Goals as goal
 

@@ -1,9 +1,9 @@
 use Rattle.std.proofs.Common.{◌≡◌, ◌<◌, length, ap, sym, subst, ◌∙◌, arith, None}
 use Rattle.c_tree.specs.Syntax.{StandsAt}
 use Rattle.c_tree.specs.File.{IsTokenPlace}
-use Rattle.c_parse.specs.Left.{Leaves}
-use Rattle.c_parse.specs.Statements.{read_file}
-use Rattle.c_parse.specs.Got.{rest_of}
+use Rattle.c_phrases.specs.Left.{Leaves}
+use Rattle.c_externals.specs.Statements.{read_file}
+use Rattle.c_phrases.specs.Got.{rest_of}
 use Rattle.c_parse.specs.Parsed.{no_tree}
 use Rattle.c_parse.proofs.Answering.{tree_made, none_made, some_token, fails_none}
 use Rattle.c_parse.proofs.Checking.{checked_left}

@@ -1,6 +1,6 @@
 use Rattle.c_lex.proofs.OneReading.{one_lexing, one_refusal, lexing_no_refusal}
 use Rattle.c_tree.proofs.OneFile as files
-use Rattle.c_parse.proofs.StatementsComplete.{one_tree}
+use Rattle.c_externals.proofs.StatementsComplete.{one_tree}
 use Rattle.c_parse.proofs.laws.one_file.Goals as goal
 
 pub returns : goal.returns

@@ -1,4 +1,4 @@
-use Rattle.c_parse.proofs.StatementsComplete.{one_tree}
+use Rattle.c_externals.proofs.StatementsComplete.{one_tree}
 use Rattle.c_parse.proofs.laws.one_tree.Goals as goal
 
 pub returns : goal.returns

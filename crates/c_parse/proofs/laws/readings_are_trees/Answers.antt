@@ -1,6 +1,6 @@
-use Rattle.c_parse.proofs.Tools.{given}
-use Rattle.c_parse.proofs.StatementsSound.{file_sound}
-use Rattle.c_parse.proofs.StatementsComplete.{file_complete}
+use Rattle.c_phrases.proofs.Tools.{given}
+use Rattle.c_externals.proofs.StatementsSound.{file_sound}
+use Rattle.c_externals.proofs.StatementsComplete.{file_complete}
 use Rattle.c_parse.proofs.laws.readings_are_trees.Goals as goal
 
 pub returns-clause-sound : goal.returns-clause-sound

@@ -1,0 +1,12 @@
+pub mod Begins
+pub mod Climbing
+pub mod Counted
+pub mod Gathering
+pub mod Got
+pub mod Left
+pub mod OneRest
+pub mod Reading
+pub mod Runs
+pub mod Steps
+pub mod Suffixes
+pub mod Words
