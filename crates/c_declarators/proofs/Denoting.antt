@@ -7,13 +7,13 @@ use Rattle.c_tree.specs.declared.typed.Typed.{Typed}
 use Rattle.c_tree.specs.Types.{Ty}
 use Rattle.c_tree.specs.Views.{types_of}
 use Rattle.c_tree.specs.Scopes as meant
-use Rattle.c_tree.specs.Scopes.{State, some_or, find_in, innermost, bind_name}
+use Rattle.c_tree.specs.Scopes.{State, some_or, bind_name}
 use Rattle.c_tree.specs.Declarators.{alias_type, is_new, in_int, enumerate}
 use Rattle.c_types.specs.declared.entries.Entity.{Entity}
 use Rattle.c_types.specs.declared.entries.Entity.TheVariants.{Local, Static, Routine, Alias, Enumerator, Library}
 use Rattle.c_types.specs.declared.scopes.Scopes.{Scopes}
 use Rattle.c_types.specs.Calls.{Given}
-use Rattle.c_types.specs.Declares.{denoted, declares_constant}
+use Rattle.c_types.specs.Declares.{declares_constant}
 use Rattle.c_interner.specs.Numbers.{type_named}
 use Rattle.c_types.proofs.Looking.{type_is}
 use Rattle.c_types.specs.Stands.{Stands, Seen, alias, named, entity_kept, entity_seen}
@@ -107,26 +107,21 @@ pair_state a b v w x e f = ap (λ r. state_in r v) (sym e ∙ f)
 
 -- a new constant is declared
 constant_steps : (t : Lexeme) (z : ℤ) (s : State) → is_new s t.text ≡ true →
-    denoted t (declares_constant t z) s
-    ≡ Ok (
-      find_in (innermost (bind_name t.text (meant.Enumerator z) s).scopes).names t.text,
-      bind_name t.text (meant.Enumerator z) s,
-    )
+    declares_constant t z s ≡ Ok (meant.Enumerator z, bind_name t.text (meant.Enumerator z) s)
 constant_steps t z s b = rw b refl
 
 -- what the scopes stand for once the constant is declared
 pub constant_stands : (sc : Scopes) (p : Typed) (t : Lexeme) (z : ℤ) (s : State)
-    (F : State → Option meant.Entity → Type 0) → is_new s t.text ≡ true →
-    Given sc p (denoted t (declares_constant t z) s) F → Stands sc p (bind_name t.text (meant.Enumerator z) s)
+    (F : State → meant.Entity → Type 0) → is_new s t.text ≡ true →
+    Given sc p (declares_constant t z s) F → Stands sc p (bind_name t.text (meant.Enumerator z) s)
 constant_stands sc p t z s F b g =
     let u : State = bind_name t.text (meant.Enumerator z) s in
     let e = constant_steps t z s b in
     subst (λ (v : State). Stands sc p v) (sym
-    (pair_state (find_in (innermost u.scopes).names t.text) g.value u g.state
-    (denoted t (declares_constant t z) s) e g.is)) g.stands
+    (pair_state (meant.Enumerator z) g.value u g.state (declares_constant t z s) e g.is)) g.stands
 
 pub constant_not_refused : (t : Lexeme) (z : ℤ) (s : State) (f : meant.Fault) → is_new s t.text ≡ true →
-    denoted t (declares_constant t z) s ≡ Err f → ⊥
+    declares_constant t z s ≡ Err f → ⊥
 constant_not_refused t z s f b g =
     let u : State = bind_name t.text (meant.Enumerator z) s in
     let e = constant_steps t z s b in

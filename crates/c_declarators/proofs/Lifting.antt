@@ -14,7 +14,7 @@ use Rattle.c_expressions.specs.declared.nodes.Nodes.{Nodes}
 use Rattle.c_expressions.specs.Nodes.{IsWhole}
 use Rattle.c_elaborator.specs.declared.work.Work.{Work}
 use Rattle.c_elaborator.specs.Work.{Shows, MembersAreSpelled}
-use Rattle.c_elaborator.specs.Answers.{Quiet, quietly, Done, Answers}
+use Rattle.c_elaborator.specs.Answers.{Quiet, quietly, Given, Done, Answers}
 use Rattle.c_elaborator.proofs.Extending.{AreExtended, extends_goes_on, extended_whole, extended_keeps, extended_values}
 use Rattle.c_elaborator.proofs.Extending.{extended_definition, extended_there}
 use Rattle.c_elaborator.proofs.Growing.{begins_same}
@@ -29,7 +29,7 @@ pub scopes_declared : (n : Nodes) (sc : Scopes) → sc.file.now ≡ n.scopes.fil
     IsDeclared n (record n { scopes = sc })
 scopes_declared n sc f = record { program = extends_same n.p n.p refl; facts = refl; void = refl; file = f }
 
-quiet_declared : (w : Work) (m : Nodes) → IsWhole w.nodes → IsDeclared w.nodes m → Quiet w (record w { nodes = m })
+pub quiet_declared : (w : Work) (m : Nodes) → IsWhole w.nodes → IsDeclared w.nodes m → Quiet w (record w { nodes = m })
 quiet_declared w m n d = record {
   keeps = extended_keeps w m n (extended w.nodes m d);
   literals = ([], d.program.literals ∙ sym (append-nil w.nodes.p.literals));
@@ -76,26 +76,35 @@ shows_declared w m s t n d e h st =
 
 -- ---- answers
 
--- a step that only declares is done
+pub whole_declared : (w : Work) (m : Nodes) → IsWhole w.nodes → IsDeclared w.nodes m → IsWhole m
+whole_declared w m n d = extended_whole w.nodes m n (extended w.nodes m d)
+
+-- a step that only declares is done in a state
+pub given_declared : {A : Type 0} (w : Work) (m : Nodes) (d : Doing A) (s : State) (I K : State → A → Type 0) →
+    IsWhole w.nodes → IsDeclared w.nodes m → IsDeclaring w.file.now d → Shows w s →
+    ((t : State) (a : A) → I t a → K t a) → types.Given m.scopes m.p (d s) I →
+    Given quietly (record w { nodes = m }) s (d s) K
+given_declared w m d s I K n e f h k x =
+    let y : Declares w.file.now s x.state = f s x.state x.value x.is in
+    record {
+      value = x.value;
+      state = x.state;
+      is = x.is;
+      stays = declares_still w.file.now s x.state y;
+      shows = shows_declared w m s x.state n e y h x.stands;
+      fits = k x.state x.value x.fits;
+    }
+
+-- it is done in each state
 pub declared : {A : Type 0} (w : Work) (m : Nodes) (d : Doing A) (T : Type 0) (I K : State → A → Type 0) →
     IsWhole w.nodes → IsDeclared w.nodes m → IsDeclaring w.file.now d → T →
     ((s : State) → Shows w s → types.Given m.scopes m.p (d s) I) → ((s : State) (a : A) → I s a → K s a) →
     Done quietly w (record w { nodes = m }) d T K
 declared w m d T I K n e f t g k = record {
-  whole = extended_whole w.nodes m n (extended w.nodes m e);
+  whole = whole_declared w m n e;
   grows = quiet_declared w m n e;
   there = t;
-  gives = λ s h.
-      let x : types.Given m.scopes m.p (d s) I = g s h in
-      let y : Declares w.file.now s x.state = f s x.state x.value x.is in
-      record {
-        value = x.value;
-        state = x.state;
-        is = x.is;
-        stays = declares_still w.file.now s x.state y;
-        shows = shows_declared w m s x.state n e y h x.stands;
-        fits = k x.state x.value x.fits;
-      };
+  gives = λ s h. given_declared w m d s I K n e f h k (g s h);
 }
 
 -- it is refused

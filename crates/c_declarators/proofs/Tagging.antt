@@ -21,7 +21,8 @@ use Rattle.c_tree.specs.Scopes.{need, look, change, continued, enter, leave, inn
 use Rattle.c_tree.specs.Scopes.{or_else, bind_name, bind_tag, ◌>>=◌, ◌>>◌}
 use Rattle.c_tree.specs.Readings as meant_parts
 use Rattle.c_tree.specs.Declarators.{is_new, in_int, enumerate, new_tag, declare_tag, as_record, named_tag, kind_at}
-use Rattle.c_tree.specs.Declarators.{is_begun, begin_tag, complete_tag, completed, record_extent, bind_local}
+use Rattle.c_tree.specs.Declarators.{has_kind, same_record, is_begun, begin_tag, complete_tag, completed}
+use Rattle.c_tree.specs.Declarators.{record_extent, bind_local}
 use Rattle.c_tree.specs.Declarators.{bind_parameter}
 use Rattle.c_tree.specs.Declarators as meant_types
 use Rattle.c_tree.specs.Scopes.{extent_size}
@@ -32,23 +33,29 @@ use Rattle.c_types.specs.declared.entries.TagKind.{TagKind}
 use Rattle.c_types.specs.declared.entries.TagKind.TheVariants.{Enum}
 use Rattle.c_types.specs.declared.scopes.Scope.{Scope}
 use Rattle.c_types.specs.declared.scopes.Scopes.{Scopes}
-use Rattle.c_types.specs.Calls as types
 use Rattle.c_types.specs.Calls.{Given, HasParts, Completes}
 use Rattle.c_types.specs.Declares.{name_of, declares_tag}
 use Rattle.c_types.specs.Looks.{tag_kind_of, ShowsInnermost}
-use Rattle.c_types.specs.Stands.{Stands, ShowsScope, named, part_seen, member_kept, text_at, name_in, tag_in, entity_kept}
-use Rattle.c_types.specs.Stands.{tagging_of}
-use Rattle.c_expressions.specs.Nodes.{type_in, type_count}
+use Rattle.c_types.specs.Naming.{IsTagOf}
+use Rattle.c_types.specs.Stands.{Stands, ShowsScope, named, part_seen, member_kept, text_at, name_in, tag_in}
+use Rattle.c_types.specs.Stands.{entity_kept, tagging_of}
+use Rattle.c_expressions.specs.declared.nodes.Nodes.{Nodes}
+use Rattle.c_expressions.specs.Nodes.{IsWhole, type_in, type_count}
 use Rattle.c_elaborator.specs.declared.work.Work.{Work}
 use Rattle.c_elaborator.specs.declared.work.Name.{Name}
 use Rattle.c_elaborator.specs.Work.{Shows}
+use Rattle.c_elaborator.specs.Answers.{quietly, NothingThere, IsNothing}
+use Rattle.c_elaborator.specs.Answers as work
+use Rattle.c_elaborator.specs.Shown.{AnswersFor}
 use Rattle.c_elaborator.specs.Parts.{token_of}
+use Rattle.c_declarators.specs.Calling.{IsDeclared}
 use Rattle.c_declarators.specs.declared.parts.Param.{Param}
 use Rattle.c_declarators.specs.Parts.{AreMembers, MembersThere, param_in}
 use Rattle.c_declarators.specs.Steps.{tag_there, new_enumeration_of, closing}
 use Rattle.c_declarators.proofs.Declaring.{Declares, declares_same, declares_scopes, declares_changed, declares_added}
 use Rattle.c_declarators.proofs.Declaring.{IsDeclaring, giving_declares, refusing_declares, needing_declares}
 use Rattle.c_declarators.proofs.Declaring.{changing_declares, then_declares, looking_declares}
+use Rattle.c_declarators.proofs.Lifting.{given_declared, whole_declared, quiet_declared}
 
 -- ---- steps that only declare
 
@@ -75,20 +82,22 @@ begin_tag_declares file n p =
     looking_declares file (λ s. need (not (is_begun (slice_get s.tags n))) 131 p >> change now) (λ s.
     then_declares file (need (not (is_begun (slice_get s.tags n))) 131 p) (λ y. change now)
     (needing_declares file (not (is_begun (slice_get s.tags n))) 131 p) (λ y.
-    changing_declares file now (λ u. declares_changed file u open_it n (λ t h. h))))
+    changing_declares file now (λ u. declares_changed file u open_it n (λ t. refl) (λ t h. h))))
 
 pub complete_tag_declares : (file : List ℕ) (k : RecordKind) (n : ℕ) (ms : List Part) (p : Pos) →
     ((j : ℕ) (m : Part) → slice_get ms j ≡ Some m → m.name.text ≡ text_at file m.name.span) →
     IsDeclaring file (complete_tag k n ms p)
 complete_tag_declares file k n ms p h =
     let now : State → State = λ (s : State). record s { tags = changed_at (completed s.tags k ms) s.tags n } in
-    let all : (ns : List Part) → Some ms ≡ Some ns → (j : ℕ) (m : Part) → slice_get ns j ≡ Some m → m.name.text ≡ text_at file m.name.span =
+    let Spelled : List Part → Type 0 =
+    λ ns. (j : ℕ) (m : Part) → slice_get ns j ≡ Some m → m.name.text ≡ text_at file m.name.span in
+    let all : (ns : List Part) → Some ms ≡ Some ns → Spelled ns =
     λ ns e j m g. let i : ns ≡ ms = cc in h j m (ap (λ xs. slice_get xs j) (sym i) ∙ g) in
     looking_declares file (λ s. need (nat_le (extent_size (record_extent s.tags k ms)) size_limit) 140 p >> change now)
     (λ s.
     then_declares file (need (nat_le (extent_size (record_extent s.tags k ms)) size_limit) 140 p) (λ y. change now)
     (needing_declares file (nat_le (extent_size (record_extent s.tags k ms)) size_limit) 140 p) (λ y.
-    changing_declares file now (λ u. declares_changed file u (completed u.tags k ms) n (λ t g. all))))
+    changing_declares file now (λ u. declares_changed file u (completed u.tags k ms) n (λ t. refl) (λ t g. all))))
 
 new_enumeration_declares : (file : List ℕ) (t : Lexeme) (o : Option Tagging) →
     IsDeclaring file (meant_types.new_enumeration t o)
@@ -168,14 +177,39 @@ declare_steps : (k : RecordKind) (t : Lexeme) (s : State) → declare_tag k t s 
 unfolding new_state
 declare_steps k t s = refl
 
+-- a new tag is of its kind
+same_kind : (k : RecordKind) → same_record k k ≡ true
+same_kind records.Struct = refl
+same_kind records.Union = refl
+
+kind_last : (xs : List TagState) (x : TagState) → has_kind (slice_get (xs ++ x ∷ []) (length xs)) x.kind ≡ true
+kind_last [] x = same_kind x.kind
+kind_last (y ∷ ys) x = kind_last ys x
+
+new_of_kind : (k : RecordKind) (t : Lexeme) (s : State) → kind_at (new_state k t s) (length s.tags) k ≡ true
+unfolding new_state
+new_of_kind k t s = kind_last s.tags (record { kind = k; begun = false; members = None; extent = None })
+
+pub tag_added : (sc : Scopes) (q : Typed) (k : RecordKind) (s : State) (n : ℕ) →
+    Given sc q (new_tag k s) (λ v m. m ≡ n) → Given sc q (new_tag k s) (IsTagOf k n)
+tag_added sc q k s n g =
+    let x : TagState = record { kind = k; begun = false; members = None; extent = None } in
+    let t : State = record s { tags = s.tags ++ x ∷ [] } in
+    let l : length s.tags ≡ n =
+    sym (ap (λ (p : ℕ × State). p.0) (same_result (g.value, g.state) (length s.tags, t) (new_tag k s) g.is refl))
+    ∙ g.fits in
+    given_at sc q (new_tag k) (new_tag k) s t (length s.tags) (length s.tags) (λ v m. m ≡ n) (IsTagOf k n) refl refl
+    (l, subst (λ j. kind_at t j k ≡ true) l (kind_last s.tags x)) g
+
 -- a tag that the scope does not have is declared
 pub tag_declared : (sc : Scopes) (q : Typed) (k : RecordKind) (j : TagKind) (t u : Lexeme) (b : Bool) (s : State)
     (n : ℕ) (F : State → Tagging → Type 0) → j ≡ tag_kind_of k → u ≡ t → b ≡ false →
     find_in (innermost s.scopes).tags t.text ≡ None → n ≡ length s.tags →
-    Given sc q (declares_tag j u b s) F → Given sc q (declare_tag k t s) (λ v m. m ≡ n)
+    Given sc q (declares_tag j u b s) F → Given sc q (declare_tag k t s) (IsTagOf k n)
 tag_declared sc q k j t u b s n F kind name braces e l g =
     given_at sc q (declares_tag (tag_kind_of k) t false) (declare_tag k t) s (new_state k t s)
-    (Recorded (length s.tags)) (length s.tags) F (λ v m. m ≡ n) (tag_steps k t s e) (declare_steps k t s) (sym l)
+    (Recorded (length s.tags)) (length s.tags) F (IsTagOf k n) (tag_steps k t s e) (declare_steps k t s)
+    (sym l, subst (λ i. kind_at (new_state k t s) i k ≡ true) (sym l) (new_of_kind k t s))
     (subst (λ i. Given sc q (declares_tag i t false s) F) kind
     (subst (λ c. Given sc q (declares_tag j t c s) F) braces
     (subst (λ x. Given sc q (declares_tag j x b s) F) name g)))
@@ -296,14 +330,26 @@ parts_spelled w (m ∷ ms) (y ∷ ys) a zero x e =
     (a.0.text ∙ ap (text_at w.file.now) (sym a.0.span))
 parts_spelled w (m ∷ ms) (y ∷ ys) a (suc j) x e = parts_spelled w ms ys a.1 j x e
 
--- where the kind is that of the tag
-pub completes : (sc sd : Scopes) (p q : Typed) (k : RecordKind) (n : ℕ) (parts : List Part) (place : Pos)
-    (r : Result (Unit {0}) Refusal) → ((s : State) → Stands sc p s → kind_at s n k ≡ true) →
-    Completes sc p sd q k n parts place r → types.Answers sc p sd q (complete_tag k n parts place) (λ x t a. Unit {0}) r
-completes sc sd p q k n parts place (Ok x) h a = λ s g. a s g (h s g)
-completes sc sd p q k n parts place (Err (Code code at)) h a =
-    record { refused = λ s g. a.0 s g (h s g); program = a.1; keeps = a.2 }
-completes sc sd p q k n parts place (Err NoMemory) h a = a
+-- the members of a tag of the kind are answered
+pub completes : (w : Work) (m : Nodes) (k : RecordKind) (n : ℕ) (parts : List Part) (place : Pos)
+    (r : Result (Unit {0}) Refusal) → IsWhole w.nodes → IsDeclared w.nodes m →
+    IsDeclaring w.file.now (complete_tag k n parts place) →
+    Completes w.nodes.scopes w.nodes.p m.scopes m.p k n parts place r →
+    AnswersFor quietly w (record w { nodes = m }) (IsTagOf k n) (λ i. complete_tag k i parts place) NothingThere
+    IsNothing r
+completes w m k n parts place (Ok x) whole d f a = record {
+  whole = whole_declared w m whole d;
+  grows = quiet_declared w m whole d;
+  there = tt;
+  gives = λ s h i e.
+      subst (λ j. work.Given quietly (record w { nodes = m }) s (complete_tag k j parts place s) (λ t u. Unit {0}))
+      (sym e.0) (given_declared w m (complete_tag k n parts place) s (λ t u. Unit {0}) (λ t u. Unit {0}) whole d f h
+      (λ t u y. y) (a s h.stands e.1));
+}
+completes w m k n parts place (Err (Code code at)) whole d f a = λ s h i e.
+    subst (λ j. complete_tag k j parts place s ≡ Err (record { code = code; place = at })) (sym e.0)
+    (a.0 s h.stands e.1)
+completes w m k n parts place (Err NoMemory) whole d f a = tt
 
 -- ---- scopes of parameters
 

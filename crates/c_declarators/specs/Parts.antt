@@ -5,6 +5,7 @@ use Rattle.std.specs.List.{list_any}
 use Rattle.std.specs.Map.{lookup}
 use Rattle.ck_base.specs.declared.refusal.Refusal.{Refusal}
 use Rattle.ck_base.specs.declared.refusal.Refusal.TheVariants.{Code, NoMemory}
+use Rattle.c_tree.specs.declared.syntax.RecordKind.{RecordKind}
 use Rattle.c_tree.specs.declared.typed.Member.{Member}
 use Rattle.ck_base.specs.Tokens.{Lexeme}
 use Rattle.c_tree.specs.Views.{types_of}
@@ -15,6 +16,7 @@ use Rattle.c_tree.specs.Declarators as meant_types
 use Rattle.c_types.specs.declared.scopes.Scope.{Scope}
 use Rattle.c_types.specs.declared.entries.Faults.{Faults}
 use Rattle.c_types.specs.Declares.{storage_of}
+use Rattle.c_types.specs.Naming.{IsTagOf}
 use Rattle.c_types.specs.Stands.{ShowsScope, text_at}
 use Rattle.c_expressions.specs.Nodes.{type_in, type_count}
 use Rattle.c_elaborator.specs.declared.work.Work.{Work}
@@ -166,6 +168,10 @@ CountThere w n = Unit {0}
 
 abbrev pub IsCount : Work → ℕ → ℕ → Type 0
 IsCount w n x = x ≡ n
+
+-- the number of a struct or union of this kind
+abbrev pub IsRecord : RecordKind → Work → ℕ → State → ℕ → Type 0
+IsRecord k w n s m = IsTagOf k n s m
 
 -- a whole number
 abbrev pub NumberThere : Work → ℤ → Type 0

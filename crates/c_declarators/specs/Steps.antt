@@ -5,7 +5,7 @@ use Rattle.ck_base.specs.declared.positions.Pos.{Pos}
 use Rattle.ck_base.specs.Tokens.{Lexeme}
 use Rattle.c_tree.specs.declared.syntax.SpecifierWord.TheVariants as words
 use Rattle.c_tree.specs.Syntax.{Syns}
-use Rattle.c_tree.specs.Types.{Ty, Tagged, qualified, bare, is_function}
+use Rattle.c_tree.specs.Types.{Ty, qualified, bare, is_function}
 use Rattle.c_tree.specs.Constants.{constant_of}
 use Rattle.c_tree.specs.Conversions.{Operand, operand_type}
 use Rattle.c_tree.specs.Scopes.{Part, Scope, State, Tagging, find_in, find_tag, innermost, leave, is_complete, Doing}
@@ -92,9 +92,6 @@ has_no_parts d = is_none d.name && length d.wraps.items == 0
 -- what a tag denotes, in this scope or in force
 abbrev pub tag_there : Bool → Lexeme → State → Option Tagging
 tag_there here t s = (if here then find_in (innermost s.scopes).tags t.text else find_tag s.scopes t.text)
-
-abbrev pub tagged : ℕ → Doing Ty
-tagged n = give (Tagged n)
 
 abbrev pub new_enumeration_of : Lexeme → Doing Unit
 new_enumeration_of t = look >>= λ s. meant.new_enumeration t (find_in (innermost s.scopes).tags t.text)

@@ -1,24 +1,26 @@
 //! Tags of structs, unions and enumerations (C11 6.7.2.1 to 6.7.2.3).
 
-ghost use Rattle.std.specs.Prelude.{◌≡◌, true, None, List, option_map, IfOk};
+ghost use Rattle.std.specs.Prelude.{◌≡◌, ◌<◌, true, None, List, option_map, IfOk};
 ghost use Rattle.c_tree.specs.Types.{Tagged};
 ghost use Rattle.c_tree.specs.Scopes.{State, Part, find_in, innermost};
-ghost use Rattle.c_tree.specs.Declarators.{new_tag, declare_tag, named_tag, begin_tag, complete_tag};
+ghost use Rattle.c_tree.specs.Declarators.{kind_at, new_tag, declare_tag, named_tag, begin_tag, complete_tag};
 ghost use Rattle.c_tree.specs.Views.{types_of};
 ghost use Rattle.c_types.specs.Calls.{Answers as Declared, Does, HasParts, Completes, IsTag};
 ghost use Rattle.c_types.specs.Declares.{declares_tag, name_of};
 ghost use Rattle.c_types.specs.Looks.{tag_kind_of};
+ghost use Rattle.c_types.specs.Naming.{IsTagOf};
 ghost use Rattle.c_types.specs.Stands.{tagging_of};
-ghost use Rattle.c_expressions.specs.Nodes.{IsWhole, IsType};
+ghost use Rattle.c_expressions.specs.Nodes.{IsWhole, type_in, type_count};
 ghost use Rattle.c_elaborator.specs.Work.{Shows};
-ghost use Rattle.c_elaborator.specs.Answers.{Answers, quietly, TypeThere, IsType as IsTypeOf, NothingThere, IsNothing};
+ghost use Rattle.c_elaborator.specs.Answers.{Answers, quietly, NothingThere, IsNothing};
+ghost use Rattle.c_elaborator.specs.Shown.{AnswersFor};
 ghost use Rattle.c_elaborator.specs.Parts.{token_of};
 ghost use Rattle.c_declarators.specs.Calling.{IsDeclared};
-ghost use Rattle.c_declarators.specs.Parts.{CountThere, IsCount, MembersThere, AreMembers, in_any};
-ghost use Rattle.c_declarators.specs.Steps.{tag_there, new_enumeration_of, named_enumeration_of, tagged};
+ghost use Rattle.c_declarators.specs.Parts.{CountThere, IsRecord, MembersThere, AreMembers};
+ghost use Rattle.c_declarators.specs.Steps.{tag_there, new_enumeration_of, named_enumeration_of};
 
 use c_elaborator::{Name, Work};
-use c_expressions::{Class, Nodes};
+use c_expressions::Nodes;
 use c_tree::{Member, RecordKind};
 use c_types::{Decl, DeclKind, Entry, Faults, Storage, TagKind, Tagging};
 use ck_base::{NoMemory, Pos, Refusal};
@@ -53,7 +55,7 @@ fn fill_tag(nodes: &mut Nodes<'_>, tag: u32, members: Vec<Member>, pos: Pos) -> 
 /// A new struct or union without a tag, which is not complete. The answer is its number.
 pub fn new_tag(work: &mut Work<'_>, kind: RecordKind) -> Result<u32, Refusal>
     requires { IsWhole work.old.nodes }
-    ensures { Answers quietly work.old work.new (new_tag kind) CountThere (in_any IsCount) result }
+    ensures { Answers quietly work.old work.new (new_tag kind) CountThere (IsRecord kind) result }
 {
     let tag = add_tag(&mut work.nodes, kind)?;
     Ok(tag)
@@ -108,7 +110,7 @@ fn declare_tag(work: &mut Work<'_>, kind: RecordKind, name: Name) -> Result<u32,
     requires new { (s : State) → Shows work.old s →
         find_in (innermost s.scopes).tags (token_of work.old name).text ≡ None }
     ensures { Answers quietly work.old work.new (declare_tag kind (token_of work.old name)) CountThere
-        (in_any IsCount) result }
+        (IsRecord kind) result }
 {
     let Ok(tag) = u32::try_from(work.nodes.scopes.tag_count()) else {
         return Err(Refusal::NoMemory);
@@ -130,7 +132,7 @@ pub fn named_tag(
 ) -> Result<u32, Refusal>
     requires { IsWhole work.old.nodes }
     ensures { Answers quietly work.old work.new (named_tag here kind (token_of work.old name)) CountThere
-        (in_any IsCount) result }
+        (IsRecord kind) result }
 {
     match found_tag(work, here, name) {
         None => declare_tag(work, kind, name),
@@ -153,7 +155,7 @@ pub fn begin_tag(work: &mut Work<'_>, tag: u32, pos: Pos) -> Result<(), Refusal>
     work.nodes.scopes.begin_tag(tag, pos)
 }
 
-/// A struct or union gets its members: 140 at the place if it is over the limit.
+/// A struct or union of this kind gets its members: 140 at the place if it is over the limit.
 pub fn complete_tag(
     work: &mut Work<'_>,
     kind: RecordKind,
@@ -164,46 +166,20 @@ pub fn complete_tag(
     requires whole { IsWhole work.old.nodes }
     requires members { MembersThere work.old members.items }
     ensures { (ms : List Part) → AreMembers work.old members.items ms →
-        Answers quietly work.old work.new (complete_tag kind tag ms pos) NothingThere IsNothing result }
+        AnswersFor quietly work.old work.new (IsTagOf kind tag) (λ n. complete_tag kind n ms pos) NothingThere
+        IsNothing result }
 {
-    if !work.nodes.scopes.is_of_kind(tag, kind) {
-        return Err(Refusal::NoMemory);
-    }
     fill_tag(&mut work.nodes, tag, members, pos)
 }
 
-// Whether a number names the type of a struct or union.
-fn names_tag(nodes: &Nodes<'_>, of: u32, tag: u32) -> bool
-    requires whole { IsWhole nodes.now }
-    ensures { result ≡ true → IsType nodes.now of (Tagged tag) }
-{
-    if (of as usize) < nodes.p.types.as_slice().len() {
-        match nodes.class(of) {
-            Class::Tagged(found) => found == tag,
-            Class::Void
-            | Class::Int(_, _)
-            | Class::Cap(_)
-            | Class::Pointer(_)
-            | Class::Array(_, _)
-            | Class::Function(_)
-            | Class::Const(_) => false,
-        }
-    } else {
-        false
-    }
-}
-
 /// The type of a struct or union, by its number.
-pub fn tagged(work: &Work<'_>, tag: u32) -> Result<u32, Refusal>
+pub fn tagged(work: &Work<'_>, tag: u32) -> u32
     requires { IsWhole work.now.nodes }
-    ensures { Answers quietly work.now work.now (tagged tag) TypeThere IsTypeOf result }
+    ensures there { result < type_count work.now.nodes }
+    ensures is { (s : State) (k : RecordKind) → Shows work.now s → kind_at s tag k ≡ true →
+        type_in work.now.nodes result ≡ Tagged tag }
 {
-    let of = work.nodes.scopes.type_of_tag(tag);
-    if names_tag(&work.nodes, of, tag) {
-        Ok(of)
-    } else {
-        Err(Refusal::NoMemory)
-    }
+    work.there(work.nodes.scopes.type_of_tag(tag))
 }
 
 /// The tag of an enumeration with a list, which is new in its scope: otherwise 131, and 133 for the tag of a struct or

@@ -20,8 +20,8 @@ use Rattle.c_tree.specs.Declarations.{definition_agrees, linked_routine}
 use Rattle.c_tree.specs.Expressions.{routine_type}
 use Rattle.c_tree.specs.Programs.{reading, body_context, own_prototype, define_named, is_there, is_typedef}
 use Rattle.c_tree.specs.Programs.{gives_complete, first_incomplete, refused_at}
-use Rattle.c_facts.proofs.Declared.{checked}
-use Rattle.c_facts.proofs.Steps.{first_then}
+use Rattle.typing_laws.proofs.Declared.{checked}
+use Rattle.typing_laws.proofs.Steps.{first_then}
 use Rattle.c_types.specs.Declares.{declares_definition, storage_of, name_of, formed_of}
 use Rattle.c_types.specs.declared.entries.Decl.{Decl}
 use Rattle.c_types.specs.declared.entries.DeclKind.TheVariants as kinds

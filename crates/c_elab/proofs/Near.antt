@@ -7,17 +7,16 @@ use Rattle.std.proofs.lemmas.Int.{ints}
 use Rattle.std.proofs.lemmas.Option.{none-some, same_Some}
 use Rattle.cap_concentrate.specs.Rounding.{owned}
 use Rattle.cap_concentrate.proofs.Laws.{owned_small}
-use Rattle.c_tree.specs.Layout.{Extent, size_limit}
+use Rattle.c_tree.specs.Layout.{Extent, fitting, size_of}
+use Rattle.c_tree.proofs.Sizes.{fitting_limit}
 use Rattle.c_tree.specs.Terms.{Aim, To_global, To_literal, To_function}
 use Rattle.c_tree.specs.Scopes.{Reach, All, Within, StaticState, Pending, State, Fault, is_complete, type_extent}
-use Rattle.c_tree.specs.Scopes.{has_extent, extent_size}
+use Rattle.c_tree.specs.Scopes.{has_extent}
 use Rattle.c_tree.specs.Statics.{aim_length, static_length, text_length, is_near}
 use Rattle.c_tree.specs.Programs.{static_faults, routine_faults, pending_faults, last_faults, earlier, earliest, reaches}
 use Rattle.c_tree.specs.Programs.{fault, undefined_use, stands_before}
-use Rattle.c_facts.proofs.Functions.{Outside}
-use Rattle.c_facts.proofs.Numbers.{extent_within_limit}
-use Rattle.c_facts.proofs.Placed.{IsWaiting, Awaits, Reaches, Aims}
-use Rattle.c_facts.proofs.Started.{IsThere}
+use Rattle.typing_laws.proofs.Placed.{IsWaiting, Awaits, Reaches, Aims}
+use Rattle.typing_laws.proofs.Started.{IsThere}
 use Rattle.c_finish.specs.Finished.{IsNear}
 
 -- ---- no rule fails
@@ -59,21 +58,20 @@ reached s (p ∷ ps) e k z h =
 
 -- ---- what is pointed to has at most 2 ^ 26 bytes
 
-owned_within : (o : Option Extent) (n : ℕ) → ((x : Extent) → o ≡ Some x → x.size ≤ size_limit) →
-    (if has_extent o then Some (owned (extent_size o)) else None) ≡ Some n → n ≤ 2 ^ 26
-owned_within None n f e = absurd (none-some n e)
-owned_within (Some x) n f e = subst (λ m. m ≤ 2 ^ 26) (same_Some (owned x.size) n e) (owned_small x.size (f x refl))
+owned_within : (k n : ℕ) → Some (owned (fitting k)) ≡ Some n → n ≤ 2 ^ 26
+owned_within k n e =
+    subst (λ m. m ≤ 2 ^ 26) (same_Some (owned (fitting k)) n e) (owned_small (fitting k) (fitting_limit k))
 
-length_within : (s : State) → Outside s → (a : Aim) (n : ℕ) → IsThere s a → aim_length s a ≡ Some n → n ≤ 2 ^ 26
-length_within s o (To_global k) n h e =
-    let g = h.0 in
-    owned_within (type_extent s.tags g.of) n (λ x q. extent_within_limit s.tags o.inv.tags g.of x (o.inv.statics k g h.1) q)
-    (sym (ap (static_length s) h.1) ∙ e)
-length_within s o (To_literal k) n h e =
-    let t = h.0 in
-    subst (λ m. m ≤ 2 ^ 26) (same_Some (owned (length t.bytes)) n (sym (ap text_length h.1) ∙ e))
-    (owned_small (length t.bytes) h.2)
-length_within s o (To_function k) n h e = absurd h
+object_within : (o : Option Extent) (n : ℕ) → (if has_extent o then Some (owned (size_of o)) else None) ≡ Some n →
+    n ≤ 2 ^ 26
+object_within None n e = absurd (none-some n e)
+object_within (Some x) n e = owned_within x.size n e
+
+length_within : (s : State) (a : Aim) (n : ℕ) → IsThere s a → aim_length s a ≡ Some n → n ≤ 2 ^ 26
+length_within s (To_global k) n h e =
+    object_within (type_extent s.tags h.0.of) n (sym (ap (static_length s) h.1) ∙ e)
+length_within s (To_literal k) n h e = owned_within (length h.0.bytes) n (sym (ap text_length h.1) ∙ e)
+length_within s (To_function k) n h e = absurd h
 
 -- where no rule fails, each object that is used has a length
 complete_length : (s : State) (k : ℕ) (g : StaticState) → flat_map (static_faults s) s.statics ≡ [] →
@@ -82,9 +80,9 @@ complete_length s k g e h =
     let f = none_flat (static_faults s) s.statics e k g h in
     let c = holds_if (is_complete s g.of) (fault 132 g.name.pos)
     (empty_both (if is_complete s g.of then [] else fault 132 g.name.pos ∷ []) (undefined_use g.defined g.used) f).0 in (
-      owned (extent_size (type_extent s.tags g.of)),
+      owned (size_of (type_extent s.tags g.of)),
       ap (static_length s) h
-          ∙ ap (λ (b : Bool). if b then Some (owned (extent_size (type_extent s.tags g.of))) else None) c,
+          ∙ ap (λ (b : Bool). if b then Some (owned (size_of (type_extent s.tags g.of))) else None) c,
     )
 
 -- ---- near
@@ -107,7 +105,7 @@ asked_close n z l a b = (grind (arith, ints, a), grind (arith, ints, b))
 small_pos : (m n : ℕ) → pos m ≤ℤ pos n → n ≤ 2 ^ 26 → m ≤ 2 ^ 26
 small_pos m n h l = grind (arith, ints, h)
 
-module _ (s : State) (o : Outside s) (e : earliest (last_faults s) ≡ None) where
+module _ (s : State) (e : earliest (last_faults s) ≡ None) where
   all : last_faults s ≡ []
   all = earliest_none (last_faults s) e
 
@@ -125,7 +123,7 @@ module _ (s : State) (o : Outside s) (e : earliest (last_faults s) ≡ None) whe
       let c = complete_length s k h.0 statics h.1 in
       let r = reached s s.pending waits.1 k z w in (
         c.0,
-        length_within s o (To_global k) c.0 h c.1,
+        length_within s (To_global k) c.0 h c.1,
         below c.0 z (ap (λ l. reaches l z) (sym c.1) ∙ r),
       )
   asked_below (To_literal k) z h w = absurd w
@@ -135,12 +133,12 @@ module _ (s : State) (o : Outside s) (e : earliest (last_faults s) ≡ None) whe
   reach_close a All z t h =
       let c : (neg_ℤ (pos (2 ^ 32)) ≤ℤ z) × (z ≤ℤ pos (2 ^ 32)) =
       ⊎_elim (λ w. near_close 0 0 z (omega arith) (omega arith) w) (λ k. ⊎_elim
-      (λ w. near_close 0 w.0 z (omega arith) (length_within s o a w.0 t w.1) w.2)
+      (λ w. near_close 0 w.0 z (omega arith) (length_within s a w.0 t w.1) w.2)
       (λ w. let b = asked_below a (z -ℤ pos 1023) t w.1 in asked_close b.0 z b.1 w.0 b.2) k) h in
       (tt, c.0, c.1)
   reach_close a (Within low n) z t h =
       let m = h.2.0 in
-      let l : m ≤ 2 ^ 26 = ⊎_elim (λ w. length_within s o a m t w)
+      let l : m ≤ 2 ^ 26 = ⊎_elim (λ w. length_within s a m t w)
       (λ w. let b = asked_below a (pos m) t w in small_pos m b.0 b.2 b.1) h.2.2 in
       let low_small : low ≤ 2 ^ 26 = omega (arith, h.2.1, l) in
       let n_small : n ≤ 2 ^ 26 = omega (arith, h.2.1, l) in

@@ -1,23 +1,15 @@
 -- The tree that reading a file gives stands for its syntax in the file's bytes.
-use Rattle.std.proofs.Common.{◌≡◌, ℕ, zero, suc, List, [], ◌∷◌, Some, refl, sym, subst}
+use Rattle.std.proofs.Common.{◌≡◌, ℕ, List, Some, refl, sym, subst}
 use Rattle.std.specs.Prelude.{slice_get}
-use Rattle.std.proofs.lemmas.Option.{same_Some}
 use Rattle.ck_base.specs.Tokens.{Lexeme}
-use Rattle.ck_base.specs.Lexes.{IsAccepted, IsTokenOf, NextToken}
-use Rattle.ck_base.specs.Lexes as lexing
+use Rattle.ck_base.specs.Lexes.{IsAccepted, IsTokenOf}
 use Rattle.c_tree.specs.declared.syntax.Tree.{Tree}
 use Rattle.c_tree.specs.Syntax.{Syn, Syns, node, nil, more, StandsAt}
 use Rattle.c_tree.specs.Parses.{DerivesFile}
 use Rattle.c_tree.specs.File.{IsCut}
 use Rattle.c_tree.specs.Typing.{AreBytes, bytes_at, IsSpelled, AreSpelled, Reads}
+use Rattle.typing_laws.proofs.Accepted.{token_of}
 use Rattle.c_elab.proofs.Written.{IsFrom, AreFrom, file_read, all_known}
-
--- each token that was read is a token of the file
-token_of : (file : List ℕ) (i : ℕ) (tokens : List Lexeme) (k : ℕ) → lexing.Reads file i tokens k →
-    (j : ℕ) (t : Lexeme) → slice_get tokens j ≡ Some t → IsTokenOf file t
-token_of file i [] k r j t e = absurd cc
-token_of file i (u ∷ us) k r zero t e = subst (IsTokenOf file) (same_Some u t e) r.0.1
-token_of file i (u ∷ us) k r (suc j) t e = token_of file u.span.end us k r.1 j t e
 
 module _ (bytes : List ℕ) where
   abbrev Stands : Lexeme → Type 0

@@ -1,16 +1,15 @@
 -- What typing sees to of the state at the end of a file.
 use Rattle.std.proofs.Common.{◌≡◌, ℕ, zero, suc, ◌+◌, ◌≤◌, true, false, List, [], ◌∷◌, length, Some}
-use Rattle.std.proofs.Common.{Ok, refl, sym, ap, subst, ◌∙◌, arith}
+use Rattle.std.proofs.Common.{Ok, refl, ap, subst, ◌∙◌, arith}
 use Rattle.std.specs.Prelude.{slice_get, ◌&&◌}
 use Rattle.std.proofs.lemmas.Bool.{false≢true}
 use Rattle.std.proofs.lemmas.Option.{same_Some, slice_get_within}
 use Rattle.c_tree.specs.declared.syntax.Tree.{Tree}
-use Rattle.c_tree.specs.Layout.{size_limit}
 use Rattle.c_tree.specs.Syntax.{Syn, node}
 use Rattle.c_tree.specs.Types.{Ty, Tys, no_types, also, count}
 use Rattle.c_tree.specs.Terms.{Shape, Var, Global, Fun, Term, Terms, term, no_terms, with_term, Form, Init, Block, For}
 use Rattle.c_tree.specs.Terms.{Switch, Action, Actions, action, no_actions, with_action, Aim, To_global, To_literal}
-use Rattle.c_tree.specs.Terms.{To_function, Text, numbers_from}
+use Rattle.c_tree.specs.Terms.{To_function, numbers_from}
 use Rattle.c_tree.specs.Scopes.{Aiming, Body}
 use Rattle.c_tree.specs.Scopes.{LocalState, State}
 use Rattle.c_tree.specs.Programs.{beginning, all_externals, readings, parts}
@@ -18,16 +17,15 @@ use Rattle.c_tree.specs.Typing.{Reads}
 use Rattle.c_tree.specs.WellTyped.{Inside, inside_of, outside, count_of}
 use Rattle.c_copy.specs.Standing.{Stands, StandAll, ActionStands, ActionsStand, AnyForm, NamesWithin}
 use Rattle.c_passing.specs.Passes.{VarWithin, FormWithin}
-use Rattle.c_facts.specs.Fitting.{IsFit, AreFit}
-use Rattle.c_facts.proofs.Accepted.{fit_of_reads}
-use Rattle.c_facts.proofs.Acts.{FormOk, ActionOk, ActionsOk}
-use Rattle.c_facts.proofs.Ended.{outside_beginning}
-use Rattle.c_facts.proofs.Facts.{ShapeOk, TermOk, TermsOk}
-use Rattle.c_facts.proofs.Functions.{Outside}
-use Rattle.c_facts.proofs.Numbers.{extent_within_limit}
-use Rattle.c_facts.proofs.Placed.{Aims, AimingOk, AllAim}
-use Rattle.c_facts.proofs.Readable.{all_good, externals_ok}
-use Rattle.c_facts.proofs.Wholes.{ParamsFit, BodyOk, with_locals}
+use Rattle.typing_laws.specs.Fitting.{IsFit, AreFit}
+use Rattle.typing_laws.proofs.Accepted.{fit_of_reads}
+use Rattle.typing_laws.proofs.Acts.{FormOk, ActionOk, ActionsOk}
+use Rattle.typing_laws.proofs.Ended.{outside_beginning}
+use Rattle.typing_laws.proofs.Facts.{ShapeOk, TermOk, TermsOk}
+use Rattle.typing_laws.proofs.Functions.{Outside}
+use Rattle.typing_laws.proofs.Placed.{Aims, AimingOk, AllAim}
+use Rattle.typing_laws.proofs.Readable.{all_good, externals_ok}
+use Rattle.typing_laws.proofs.Wholes.{ParamsFit, BodyOk, with_locals}
 use Rattle.c_finish.specs.Finished.{BodyFits, AimFits, IsTyped}
 use Rattle.c_elab.proofs.Near.{aims_near}
 
@@ -48,8 +46,7 @@ aim_fits : (s : State) (n : ℕ) (a : Aiming) → AimingOk s n a → AimFits s a
 aim_fits s n a h = fits a.aim h.aims
   where
     fits : (b : Aim) → Aims s b a.reach a.offset → AimFits s b
-    fits (To_literal k) i = λ x e. subst (λ (y : Text). length y.bytes ≤ size_limit)
-        (same_Some i.0.0 x (sym i.0.1 ∙ e)) i.0.2
+    fits (To_literal k) i = tt
     fits (To_global k) i = slice_get_within s.statics k i.0.0 i.0.1
     fits (To_function k) i = slice_get_within s.routines k i.2 i.3
 
@@ -140,11 +137,10 @@ body_fits s t b h =
 
 typed_outside : (s : State) → Outside s → IsTyped s
 typed_outside s o = record {
-  sizes = λ k g x e f. extent_within_limit s.tags o.inv.tags g.of x (o.inv.statics k g e) f;
   aims = λ k j g i a e f q. let b = o.strict.begins k g i e f in
       aim_fits s b.0.size a (aim_at s b.0.size j i.1 a b.2.links q);
   near = λ n k j g i a e f q. let b = o.strict.begins k g i e f in
-      let h = aim_at s b.0.size j i.1 a b.2.links q in aims_near s o n a.aim a.reach a.offset h.aims;
+      let h = aim_at s b.0.size j i.1 a b.2.links q in aims_near s n a.aim a.reach a.offset h.aims;
   bodies = λ k f b e i. body_fits s f.of b (o.strict.bodies k f b e i);
 }
 

@@ -1,5 +1,6 @@
 -- Rules that begin with a test.
-use Rattle.std.proofs.Common.{◌≡◌, ℕ, Bool, true, false, Option, Some, None, Result, Ok, refl, sym, ap, ◌∙◌}
+use Rattle.std.proofs.Common.{◌≡◌, ℕ, Bool, true, false, Option, Some, None, Result, Ok, Err, refl, sym, ap, subst}
+use Rattle.std.proofs.Common.{◌∙◌}
 use Rattle.std.specs.Prelude.{◌&&◌, not}
 use Rattle.ck_int.specs.declared.kinds.IntOp.{IntOp}
 use Rattle.c_tree.specs.declared.syntax.StepOperator.{StepOperator}
@@ -8,15 +9,18 @@ use Rattle.ck_base.specs.declared.positions.Pos.{Pos}
 use Rattle.ck_base.specs.declared.refusal.Refusal.{Refusal}
 use Rattle.c_tree.specs.Types.{Ty, bare, is_scalar, Pointer, target_of, unsigned_long}
 use Rattle.cap_layout.specs.declared.answers.Layout.{Layout}
-use Rattle.cap_layout.specs.Answers.{Fits}
+use Rattle.cap_layout.specs.declared.answers.LayoutFault.{LayoutFault}
+use Rattle.cap_layout.specs.declared.answers.LayoutFault.TheVariants.{TooLarge}
+use Rattle.cap_layout.specs.Answers.{Fits, Exceeds, IsLayout}
 use Rattle.c_tree.specs.Layout.{Extent}
 use Rattle.c_tree.specs.Terms.{leaf, Constant, Term, Compound, Step, Deref, join, step}
 use Rattle.c_tree.specs.Conversions as meant
 use Rattle.c_tree.specs.Conversions.{operand_type}
-use Rattle.c_tree.specs.Scopes.{State, Doing, need, give, refuse, ◌>>=◌, ◌>>◌, type_extent, has_extent, extent_size}
+use Rattle.c_tree.specs.Scopes.{State, Doing, need, give, refuse, ◌>>=◌, ◌>>◌, type_extent, has_extent, size}
 use Rattle.c_tree.specs.Expressions.{gives, sized, pointed, dereference, compound, compounds, computed_in, right_of}
 use Rattle.c_tree.specs.Expressions.{is_modifiable, stepped, increments, points_to_function, is_counted, sum, sum_of}
 use Rattle.c_tree.specs.Expressions.{difference, difference_of}
+use Rattle.c_types.proofs.Sizing.{size_fits, size_over}
 use Rattle.c_expressions.specs.declared.nodes.Nodes.{Nodes}
 use Rattle.c_expressions.specs.declared.nodes.Operand.{Operand}
 use Rattle.c_expressions.specs.Nodes.{HasTerm, IsType, type_in}
@@ -133,5 +137,14 @@ dereferencing_is u x p first s = need_then (is_sized s u) 132 first (give u) (λ
 pub sized_is : (s : State) (t : Ty) (l : Layout) (p : Pos) → Fits (type_extent s.tags t) l →
     sized t p s ≡ gives (leaf (Constant l.size) unsigned_long p) p s
 sized_is s t l p h =
-    ap (λ (o : Option Extent). (need (has_extent o) 132 p >> gives (leaf (Constant (extent_size o)) unsigned_long p) p)
-    s) h.is
+    ap (λ (o : Option Extent). (need (has_extent o) 132 p >> gives (leaf (Constant (size s t)) unsigned_long p) p) s)
+    h.is
+    ∙ ap (λ n. gives (leaf (Constant n) unsigned_long p) p s) (size_fits _ l h)
+
+pub sized_over : (s : State) (t : Ty) (p : Pos) (f : LayoutFault) → f ≡ TooLarge →
+    IsLayout (type_extent s.tags t) (Err f) → sized t p s ≡ gives (leaf (Constant 0) unsigned_long p) p s
+sized_over s t p f e l =
+    let h : Exceeds (type_extent s.tags t) = subst (λ g. IsLayout (type_extent s.tags t) (Err g)) e l in
+    ap (λ (o : Option Extent). (need (has_extent o) 132 p >> gives (leaf (Constant (size s t)) unsigned_long p) p) s)
+    h.is
+    ∙ ap (λ n. gives (leaf (Constant n) unsigned_long p) p s) (size_over _ h)

@@ -83,8 +83,12 @@ kind-more : (m n : ℕ) (k : ExprKind) → m ≤ n → KindIsTyped m k → KindI
 kind-more m n (exprs.Compound o a b of) le h = omega arith
 kind-more m n _ le h = tt
 
-typed-more : (m n : ℕ) (x : Expr) → m ≤ n → IsTyped m x → IsTyped n x
-typed-more m n x le h = record { of = let f : x.of < m = h.of in omega arith; kind = kind-more m n x.kind le h.kind }
+typed-more : (m n k : ℕ) (x : Expr) → m ≤ n → IsTyped m k x → IsTyped n k x
+typed-more m n k x le h = record {
+  of = let f : x.of < m = h.of in omega arith;
+  kind = kind-more m n x.kind le h.kind;
+  before = h.before;
+}
 
 pub extended_terms : (n : Nodes) (q : Typed) → IsWhole n → GoesOn n.p q → terms_of q ≡ terms_of n.p
 extended_terms n q w h =
@@ -108,7 +112,7 @@ extended_whole n m w h =
     let vt : n.void < type_count n = w.void_there in
     record {
       facts = ap (λ x. x.items) h.facts ∙ w.facts ∙ ap (map fact_of) (sym (extended_terms n m.p w p));
-      typed = λ k x g. typed-more (type_count n) (type_count m) x more (w.typed k x (rw p.exprs at g));
+      typed = λ k x g. typed-more (type_count n) (type_count m) k x more (w.typed k x (rw p.exprs at g));
       void_there = rw h.void (omega arith);
       void = rw h.void (p.types n.void vt ∙ w.void);
     }

@@ -16,7 +16,8 @@ use Rattle.c_elaborator.specs.Work.{Shows, ValuesAreThere}
 use Rattle.c_elaborator.specs.Answers.{Keeps, Way, freely, Done, Answers, action_in, action_count}
 use Rattle.c_elaborator.proofs.Sequencing.{IsLawful}
 use Rattle.c_elaborator.specs.declared.items.Items.{Items}
-use Rattle.c_elaborator.specs.Items.{AddsAction, ActionThere, ActionsThere, IsAction, ItemsThere, OnlyThere, IsItems, items_in}
+use Rattle.c_elaborator.specs.Items.{AddsAction, ActionThere, ActionsThere, IsAction, ItemsThere, OnlyThere, IsItems}
+use Rattle.c_elaborator.specs.Items.{items_in}
 use Rattle.c_elaborator.specs.Items.{ContextThere, context_in}
 
 -- what comes next may use that the work before stood for a state

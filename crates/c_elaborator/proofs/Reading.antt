@@ -1,5 +1,6 @@
 -- What a node of the tree shows.
-use Rattle.std.proofs.Common.{◌≡◌, ℕ, ◌-◌, ◌<◌, ◌≤◌, ⊎_elim, List, length, take, drop, Some, None, refl, sym, ap, subst, ◌∙◌}
+use Rattle.std.proofs.Common.{◌≡◌, ℕ, ◌-◌, ◌<◌, ◌≤◌, ⊎_elim, List, length, take, drop, Some, None, refl, sym, ap, subst}
+use Rattle.std.proofs.Common.{◌∙◌}
 use Rattle.std.proofs.Common.{arith, length-drop}
 use Rattle.std.specs.Prelude.{min, slice_get}
 use Rattle.std.proofs.lemmas.List.{take_min}
@@ -19,7 +20,8 @@ use Rattle.c_elaborator.specs.Nodes.{IsNode}
 pub text_spelled : (file : List ℕ) (s : Span) → take (s.end - s.start) (drop s.start file) ≡ text_at file s
 text_spelled file s =
     let e = min s.end (length file) in
-    let cut : take (s.end - s.start) (drop s.start file) ≡ take (min (s.end - s.start) (length file - s.start)) (drop s.start file) =
+    let cut : take (s.end - s.start) (drop s.start file)
+    ≡ take (min (s.end - s.start) (length file - s.start)) (drop s.start file) =
     sym (subst (λ (n : ℕ). take (min (s.end - s.start) n) (drop s.start file)
     ≡ take (s.end - s.start) (drop s.start file)) (length-drop s.start file)
     (take_min (s.end - s.start) (drop s.start file))) in
@@ -37,7 +39,12 @@ text_spelled file s =
 -- what a node shows of its number
 abbrev IsRead : Work → Node → Syn → Type 0
 IsRead w n x = (ks : Bor (List ℕ)) → ks.now ≡ n.kids →
-    IsNode w (let p : Part = record { kind = n.kind; name = record { span = n.text; pos = n.pos }; first = n.first; kids = ks } in p) x
+    IsNode w (let p : Part = record {
+      kind = n.kind;
+      name = record { span = n.text; pos = n.pos };
+      first = n.first;
+      kids = ks;
+    } in p) x
 
 node_read : (w : Work) (k : ℕ) (n : Node) (x : Syn) → slice_get w.tree.now.nodes k ≡ Some n →
     StandsAt w.tree.now.nodes k x → IsSpelled w.file.now x → IsWritten x → IsRead w n x
@@ -63,5 +70,10 @@ part_there nodes k _ le (stands {n = m} f p s i kids) =
 
 pub part_read : (w : Work) (k : ℕ) (n : Node) (ks : Bor (List ℕ)) (x : Syn) → slice_get w.tree.now.nodes k ≡ Some n →
     ks.now ≡ n.kids → IsPart w k x →
-    IsNode w (let p : Part = record { kind = n.kind; name = record { span = n.text; pos = n.pos }; first = n.first; kids = ks } in p) x
+    IsNode w (let p : Part = record {
+      kind = n.kind;
+      name = record { span = n.text; pos = n.pos };
+      first = n.first;
+      kids = ks;
+    } in p) x
 part_read w k n ks x e q h = node_read w k n x e h.stands h.spelled h.written ks q

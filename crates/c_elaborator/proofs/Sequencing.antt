@@ -76,7 +76,14 @@ quiet_then u v w a b = record {
 }
 
 pub still_same : (s : State) → Still s s
-still_same s = record { tags = omega arith; statics = refl; routines = refl; locals = refl; pending = refl }
+still_same s = record {
+  tags = omega arith;
+  kinds = λ n k h. h;
+  statics = refl;
+  routines = refl;
+  locals = refl;
+  pending = refl;
+}
 
 pub still_then : (s t u : State) → Still s t → Still t u → Still s u
 still_then s t u a b =
@@ -84,6 +91,7 @@ still_then s t u a b =
     let two : length t.tags ≤ length u.tags = b.tags in
     record {
       tags = omega arith;
+      kinds = λ n k h. b.kinds n k (a.kinds n k h);
       statics = b.statics ∙ a.statics;
       routines = b.routines ∙ a.routines;
       locals = b.locals

@@ -35,6 +35,7 @@ undone s t = record t { texts = s.texts; statics = s.statics; routines = s.routi
 still_undone : (s t : State) → Still s t → Still t (undone s t)
 still_undone s t h = record {
   tags = omega arith;
+  kinds = λ n k h. h;
   statics = sym h.statics;
   routines = sym h.routines;
   locals = sym h.locals;
@@ -140,7 +141,14 @@ undone_done u v us ks ls d T I a b c h = record {
     is = ap (λ r. continued r (λ x. change (λ z.
         record z { texts = s.texts; statics = s.statics; routines = s.routines; locals = s.locals }) >> give x))
         g.is;
-    stays = record { tags = g.stays.tags; statics = refl; routines = refl; locals = refl; pending = g.stays.pending };
+    stays = record {
+      tags = g.stays.tags;
+      kinds = g.stays.kinds;
+      statics = refl;
+      routines = refl;
+      locals = refl;
+      pending = g.stays.pending;
+    };
     shows = shows_undone u v us ks ls s g.state a b c h.grows g.stays t g.shows;
     fits = g.fits;
   };

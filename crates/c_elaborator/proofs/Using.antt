@@ -162,6 +162,7 @@ stands_still sc p s t q a b h = record {
 pub still_static : (k : ℕ) (p : Pos) (s : State) → Still s (use_static k p s)
 still_static k p s = record {
   tags = omega arith;
+  kinds = λ n j h. h;
   statics = changed_same unused_static (λ (g : StaticState). record g { used = first_use g.used p }) s.statics k
       (λ g. refl);
   routines = refl;
@@ -172,6 +173,7 @@ still_static k p s = record {
 pub still_routine : (k : ℕ) (p : Pos) (s : State) → Still s (use_routine k p s)
 still_routine k p s = record {
   tags = omega arith;
+  kinds = λ n j h. h;
   statics = refl;
   routines = changed_same unused_routine (λ (g : RoutineState). record g { used = first_use g.used p }) s.routines k
       (λ g. refl);
@@ -182,6 +184,7 @@ still_routine k p s = record {
 pub still_local : (k : ℕ) (s : State) → Still s (take_address k s)
 still_local k s = record {
   tags = omega arith;
+  kinds = λ n j h. h;
   statics = refl;
   routines = refl;
   locals = changed_same untaken_local (λ (v : LocalState). record v { addressed = true }) s.locals k (λ g. refl);

@@ -64,7 +64,14 @@ quiet_literal w ls x e = record {
 }
 
 pub still_text : (x : Text) (s : State) → Still s (with_text x s)
-still_text x s = record { tags = omega arith; statics = refl; routines = refl; locals = refl; pending = refl }
+still_text x s = record {
+  tags = omega arith;
+  kinds = λ n k h. h;
+  statics = refl;
+  routines = refl;
+  locals = refl;
+  pending = refl;
+}
 
 pub shows_literal : (w : Work) (ls : List Literal) (x : Literal) (s : State) → ls ≡ w.nodes.p.literals ++ x ∷ [] →
     Shows w s → Shows (with_literals w ls) (with_text (text_of x) s)

@@ -1,12 +1,14 @@
 -- What a call on the work answers, against a step of the typing.
-use Rattle.std.specs.Prelude.{◌≡◌, ℕ, ◌<◌, ◌≤◌, false, List, ◌++◌, length, map, None, Result, Ok, Err}
+use Rattle.std.specs.Prelude.{◌≡◌, ℕ, ◌<◌, ◌≤◌, true, false, List, ◌++◌, length, map, None, Result, Ok, Err}
 use Rattle.ck_base.specs.declared.positions.Pos.{Pos}
 use Rattle.ck_base.specs.declared.refusal.Refusal.{Refusal}
 use Rattle.ck_base.specs.declared.refusal.Refusal.TheVariants.{Code, NoMemory}
+use Rattle.c_tree.specs.declared.syntax.RecordKind.{RecordKind}
 use Rattle.c_tree.specs.Types.{Ty}
 use Rattle.c_tree.specs.Terms.{Action, Term}
 use Rattle.c_tree.specs.Conversions as meant
 use Rattle.c_tree.specs.Scopes.{StaticState, LocalState, RoutineState, State, Fault, Doing}
+use Rattle.c_tree.specs.Declarators.{kind_at}
 use Rattle.c_tree.specs.Views.{actions_of, action_at}
 use Rattle.c_expressions.specs.Nodes.{IsWhole, type_in, term_in, type_count, term_count}
 use Rattle.c_expressions.specs.declared.nodes.Operand.{Operand}
@@ -58,6 +60,7 @@ untaken_local v = record v { addressed = false }
 -- objects, functions and locals are the same, but that they may be used and their addresses taken, and no tag is lost
 pub record Still (before after : State) : Type 0 where
   pub tags : length before.tags ≤ length after.tags
+  pub kinds : (n : ℕ) (k : RecordKind) → kind_at before n k ≡ true → kind_at after n k ≡ true
   pub statics : map unused_static after.statics ≡ map unused_static before.statics
   pub routines : map unused_routine after.routines ≡ map unused_routine before.routines
   pub locals : map untaken_local after.locals ≡ map untaken_local before.locals

@@ -189,7 +189,7 @@ impl Work<'_> {
         self.nodes.scopes.layout(&self.nodes.p, of)
     }
 
-    /// The size of a type (C11 6.5.3.4). A type over the limit is refused where it is formed.
+    /// The size of a type (C11 6.5.3.4); 0 over the limit, where the type is refused as it is formed.
     pub fn sized(&mut self, of: u32, pos: Pos) -> Result<Operand, Refusal>
         requires whole { IsWhole self.old.nodes }
         ensures { Answers quietly self.old self.new
@@ -198,7 +198,7 @@ impl Work<'_> {
         let measured = self.measured(of);
         match measured {
             Err(LayoutFault::Incomplete) => Err(Refusal::Code(132, pos)),
-            Err(LayoutFault::TooLarge) => Err(Refusal::NoMemory),
+            Err(LayoutFault::TooLarge) => c_operators::size_constant(&mut self.nodes, 0, pos),
             Ok(layout) => c_operators::size_constant(&mut self.nodes, layout.size, pos),
         }
     }

@@ -1,6 +1,6 @@
 -- How the lists of nodes grow, and what they are read as.
 use Rattle.std.proofs.Common.{◌≡◌, ℕ, zero, suc, ◌+◌, ◌<◌, ◌≤◌, List, [], ◌∷◌, ◌++◌, length, map, Some, refl, sym, ap}
-use Rattle.std.proofs.Common.{subst, ◌∙◌, ◌⊎◌, inl, inr, ⊎_elim, arith, length-append}
+use Rattle.std.proofs.Common.{◌∙◌, ◌⊎◌, inl, inr, ⊎_elim, arith, length-append}
 use Rattle.std.specs.Prelude.{slice_get, slice_index_or}
 use Rattle.std.proofs.Math.Seq.{get_or-append_seam}
 use Rattle.std.proofs.Math.ListN.{get_or-append}
@@ -64,7 +64,7 @@ typed_alike cs more _ h = tt
 
 -- more types leave the expressions as they are
 terms-more_types : (p : Typed) (more : List CType) →
-    ((k : ℕ) (x : Expr) → slice_get p.exprs k ≡ Some x → IsTyped (length p.types) x) →
+    ((k : ℕ) (x : Expr) → slice_get p.exprs k ≡ Some x → IsTyped (length p.types) k x) →
     terms_of (record p { types = p.types ++ more }) ≡ terms_of p
 terms-more_types p more h =
     grow-alike (types_of p.types) (types_of (p.types ++ more)) p.exprs []
@@ -74,8 +74,12 @@ kind_more : (m n : ℕ) (k : ExprKind) → m ≤ n → KindIsTyped m k → KindI
 kind_more m n (exprs.Compound o a b of) le h = omega arith
 kind_more m n _ le h = tt
 
-typed_more : (m n : ℕ) (x : Expr) → m ≤ n → IsTyped m x → IsTyped n x
-typed_more m n x le h = record { of = let f : x.of < m = h.of in omega arith; kind = kind_more m n x.kind le h.kind }
+typed_more : (m n k : ℕ) (x : Expr) → m ≤ n → IsTyped m k x → IsTyped n k x
+typed_more m n k x le h = record {
+  of = let f : x.of < m = h.of in omega arith;
+  kind = kind_more m n x.kind le h.kind;
+  before = h.before;
+}
 
 pub length-terms_of : (p : Typed) → length (terms_of p) ≡ length p.exprs
 length-terms_of p = length-grow (expr_from (types_of p.types)) no_term p.exprs [] ∙ omega arith
@@ -100,7 +104,7 @@ keeps_types n m more w d f v =
     record {
       whole = record {
         facts = ap (λ x. x.items) f ∙ w.facts ∙ ap (map fact_of) (sym terms);
-        typed = λ k x g. typed_more (type_count n) (type_count m) x le (w.typed k x (rw xe at g));
+        typed = λ k x g. typed_more (type_count n) (type_count m) k x le (w.typed k x (rw xe at g));
         void_there = rw v (omega arith);
         void = rw v (same n.void vt ∙ w.void);
       };
@@ -171,17 +175,19 @@ terms-push p x = grow-append (expr_from (types_of p.types)) no_term p.exprs (x �
 
 -- an item of a longer list
 slice_get-push : {A : Type 0} (xs : List A) (y : A) (k : ℕ) (x : A) → slice_get (xs ++ y ∷ []) k ≡ Some x →
-    (slice_get xs k ≡ Some x) ⊎ (x ≡ y)
-slice_get-push [] y zero x e = inr cc
+    (slice_get xs k ≡ Some x) ⊎ ((k ≡ length xs) × (x ≡ y))
+slice_get-push [] y zero x e = inr (refl, cc)
 slice_get-push [] y (suc k) x e = absurd cc
 slice_get-push (z ∷ xs) y zero x e = inl e
-slice_get-push (z ∷ xs) y (suc k) x e = slice_get-push xs y k x e
+slice_get-push (z ∷ xs) y (suc k) x e =
+    ⊎_elim (λ a. inl a) (λ b. inr (ap suc b.0, b.1)) (slice_get-push xs y k x e)
 
 map-push : {A B : Type 0} (f : A → B) (xs : List A) (y : A) → map f (xs ++ y ∷ []) ≡ map f xs ++ f y ∷ []
 map-push f [] y = refl
 map-push f (x ∷ xs) y = ap (λ zs. f x ∷ zs) (map-push f xs y)
 
-pub add_has : (n m : Nodes) (k : ℕ) (x : Expr) (known : Fact) → IsWhole n → IsTyped (type_count n) x →
+pub add_has : (n m : Nodes) (k : ℕ) (x : Expr) (known : Fact) → IsWhole n →
+    IsTyped (type_count n) (length n.p.exprs) x →
     known ≡ fact_of (expr_from (types_of n.p.types) x (term_in n)) →
     m.p ≡ record n.p { exprs = n.p.exprs ++ x ∷ [] } → m.facts.items ≡ n.facts.items ++ known ∷ [] → m.void ≡ n.void →
     k ≡ length n.p.exprs → m.scopes ≡ n.scopes →
@@ -199,7 +205,7 @@ add_has n m k x known w t h e f v z sc =
           facts = f ∙ ap (λ a. a ++ known ∷ []) w.facts ∙ ap (λ a. map fact_of (terms_of n.p) ++ a ∷ []) h
               ∙ sym (map-push fact_of (terms_of n.p) y) ∙ ap (map fact_of) (sym terms);
           typed = λ j a g. rw te (⊎_elim (λ b. w.typed j a b)
-              (λ b. subst (λ (q : Expr). IsTyped (type_count n) q) (sym b) t)
+              (λ b. rw (b.0, b.1) t)
               (slice_get-push n.p.exprs x j a (rw xe at g)));
           void_there = rw (v, te) w.void_there;
           void = rw (v, te) w.void;

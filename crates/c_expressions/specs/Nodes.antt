@@ -1,5 +1,5 @@
 -- What the nodes of a program under way stand for, and how they grow.
-use Rattle.std.specs.Prelude.{◌≡◌, ℕ, Bool, ◌<◌, ◌≤◌, List, ◌++◌, length, map, Option, Some, None, slice_get}
+use Rattle.std.specs.Prelude.{◌≡◌, ℕ, Bool, ◌<◌, ◌≤◌, List, [], ◌∷◌, ◌++◌, length, map, Option, Some, None, slice_get}
 use Rattle.c_tree.specs.declared.typed.CType.{CType}
 use Rattle.c_tree.specs.declared.typed.Expr.{Expr}
 use Rattle.c_tree.specs.declared.typed.ExprKind.{ExprKind}
@@ -7,7 +7,7 @@ use Rattle.c_tree.specs.declared.typed.ExprKind.TheVariants as exprs
 use Rattle.c_tree.specs.declared.typed.Typed.{Typed}
 use Rattle.c_tree.specs.Types.{Ty, Void, Tys}
 use Rattle.c_tree.specs.Terms.{Term}
-use Rattle.c_tree.specs.Views.{types_of, type_at, terms_of, term_at}
+use Rattle.c_tree.specs.Views.{types_of, type_at, terms_of, term_at, operands}
 use Rattle.c_tree.specs.Scopes.{State}
 use Rattle.c_tree.specs.Conversions as meant
 use Rattle.c_types.specs.Stands.{Stands}
@@ -42,14 +42,26 @@ abbrev pub KindIsTyped : ℕ → ExprKind → Type 0
 KindIsTyped n (exprs.Compound o a b of) = of < n
 KindIsTyped n k = Unit {0}
 
-pub record IsTyped (n : ℕ) (e : Expr) : Type 0 where
+abbrev pub AreBefore : ℕ → List ℕ → Type 0
+AreBefore k [] = Unit {0}
+AreBefore k (a ∷ xs) = (a < k) × AreBefore k xs
+
+-- the operands of an expression, other than a call, stand before it
+abbrev pub OperandsBefore : ℕ → ExprKind → Type 0
+OperandsBefore k (exprs.Call f xs) = Unit {0}
+OperandsBefore k (exprs.Library s xs) = Unit {0}
+OperandsBefore k x = AreBefore k (operands x)
+
+-- the expression of a number, where there are so many types
+pub record IsTyped (n k : ℕ) (e : Expr) : Type 0 where
   pub of : e.of < n
   pub kind : KindIsTyped n e.kind
+  pub before : OperandsBefore k e.kind
 
--- each expression has a type of the program, and beside it stands what is known of it
+-- each expression has a type of the program and stands behind its operands, and beside it stands what is known of it
 pub record IsWhole (n : Nodes) : Type 0 where
   pub facts : n.facts.items ≡ map fact_of (terms_of n.p)
-  pub typed : (k : ℕ) (e : Expr) → slice_get n.p.exprs k ≡ Some e → IsTyped (type_count n) e
+  pub typed : (k : ℕ) (e : Expr) → slice_get n.p.exprs k ≡ Some e → IsTyped (type_count n) k e
   pub void_there : n.void < type_count n
   pub void : type_in n n.void ≡ Void
 

@@ -73,7 +73,7 @@ impl<'a> Nodes<'a> {
     /// A new expression, of which this is known.
     pub fn add(&mut self, e: Expr, fact: Fact) -> Result<u32, NoMemory>
         requires whole { IsWhole self.old }
-        requires typed { IsTyped (type_count self.old) e }
+        requires typed { IsTyped (type_count self.old) (term_count self.old) e }
         requires known { fact ≡ fact_of (expr_from (types_of self.old.p.types) e (term_in self.old)) }
         ensures { IfOk result (λ k. HasTerm self.old self.new k
             (expr_from (types_of self.old.p.types) e (term_in self.old))) }

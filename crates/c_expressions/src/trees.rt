@@ -7,8 +7,8 @@ ghost use Rattle.c_tree.specs.Terms as tree;
 ghost use Rattle.c_tree.specs.Terms.{Term, leaf, step, join, join_three, term, terms, with_term};
 ghost use Rattle.c_tree.specs.Views.{kind_term, type_at};
 ghost use Rattle.c_expressions.specs.Facts.{leaf_shape, step_shape, join_shape};
-ghost use Rattle.c_expressions.specs.Nodes.{IsWhole, HasTerm, KindIsTyped, JoinIsTyped, type_in, term_in, type_count};
-ghost use Rattle.c_expressions.specs.Nodes.{term_count};
+ghost use Rattle.c_expressions.specs.Nodes.{IsWhole, HasTerm, KindIsTyped, JoinIsTyped, OperandsBefore, type_in};
+ghost use Rattle.c_expressions.specs.Nodes.{term_in, type_count, term_count};
 
 use crate::facts::{
     Join, Leaf, Step, call_fact, choice_fact, conversion_fact, join_fact, leaf_fact, step_fact,
@@ -21,6 +21,7 @@ fn leaf_kind(leaf: Leaf) -> ExprKind
     ensures is { (ts : List Ty) (t : Ty) (p : Place) (go : ℕ → Term) →
         kind_term ts result t p go ≡ tree.leaf (leaf_shape leaf) t p }
     ensures typed { (n : ℕ) → KindIsTyped n result }
+    ensures before { (k : ℕ) → OperandsBefore k result }
 {
     match leaf {
         Leaf::Constant(n) => ExprKind::Constant(n),
@@ -35,6 +36,7 @@ fn step_kind(step: Step, a: u32) -> ExprKind
     ensures is { (ts : List Ty) (t : Ty) (p : Place) (go : ℕ → Term) →
         kind_term ts result t p go ≡ tree.step (step_shape step) (go a) t p }
     ensures typed { (n : ℕ) → KindIsTyped n result }
+    ensures before { (k : ℕ) → a < k → OperandsBefore k result }
 {
     match step {
         Step::Load => ExprKind::Load(a),
@@ -51,6 +53,7 @@ fn join_kind(join: Join, a: u32, b: u32) -> ExprKind
     ensures is { (ts : List Ty) (t : Ty) (p : Place) (go : ℕ → Term) →
         kind_term ts result t p go ≡ tree.join (join_shape (type_at ts) join) (go a) (go b) t p }
     ensures typed { (n : ℕ) → JoinIsTyped n join → KindIsTyped n result }
+    ensures before { (k : ℕ) → a < k → b < k → OperandsBefore k result }
 {
     match join {
         Join::Int(op) => ExprKind::Int(op, a, b),

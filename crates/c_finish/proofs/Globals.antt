@@ -1,6 +1,6 @@
 -- The objects of the finished program.
 use Rattle.std.proofs.Common.{◌≡◌, ℕ, ◌+◌, ◌<◌, ◌≤◌, ◌^◌, Bool, true, false, List, [], ◌∷◌, ◌++◌, length, take, map, Option}
-use Rattle.std.proofs.Common.{Some, None, refl, sym, ap, subst, ◌∙◌, arith}
+use Rattle.std.proofs.Common.{Some, None, refl, sym, ap, ◌∙◌, arith}
 use Rattle.std.specs.Prelude.{slice_get, fold, flat_map, option_map, ◌==◌, if◌then◌else◌, ℤ}
 use Rattle.std.proofs.lemmas.List.{take_more, take_all, map-append, append-nil}
 use Rattle.std.proofs.lemmas.Grind.{flat_map-append}
@@ -9,7 +9,6 @@ use Rattle.c_tree.specs.declared.typed.Target.{Target}
 use Rattle.c_tree.specs.declared.typed.Target.TheVariants as targets
 use Rattle.c_tree.specs.declared.typed.Link.{Link}
 use Rattle.c_tree.specs.declared.typed.GlobalDef.{GlobalDef}
-use Rattle.c_tree.specs.declared.typed.Literal.{Literal}
 use Rattle.c_tree.specs.Terms.{Aim, Pointing, Object}
 use Rattle.c_tree.specs.Scopes.{Reach, All, Within, StaticState, State}
 use Rattle.c_tree.specs.Statics.{aim_length}
@@ -100,9 +99,7 @@ pub filling_is : (k : ℕ) (fs : List Filling) → filling_of k fs ≡ option_ma
 filling_is k fs = filling_from k fs None
 
 target_fits : (w : Work) (s : State) (t : Target) → Shows w s → AimFits s (aim_of t) → TargetFits w t
-target_fits w s (targets.Literal k) h a = λ x e.
-    a (views.text_of x) (ap (λ xs. slice_get xs k) (sym h.texts) ∙ slice_get-map views.text_of w.nodes.p.literals k
-    ∙ ap (option_map views.text_of) e)
+target_fits w s (targets.Literal k) h a = tt
 target_fits w s (targets.Global k) h a = let n = statics_count w s h in let l : k < length s.statics = a in omega arith
 target_fits w s (targets.Fun k) h a = let n = routines_count w s h in let l : k < length s.routines = a in omega arith
 
@@ -112,7 +109,7 @@ target_there w n (targets.Global k) h f = let c = h.objects in let l : k < lengt
 target_there w n (targets.Fun k) h f = let c = h.functions in let l : k < length w.nodes.p.funs = f in omega arith
 target_there w n (targets.Literal k) h f = tt
 
--- the literals that an object's initial value points to are within the limit
+-- what an object's initial value points to is there
 pub starts_fit : (w : Work) (k : ℕ) (f : Filling) → IsShown w → k < length w.nodes.p.globals →
     last_filling k w.fillings.items ≡ Some f → StartsFit w f.starts.items
 starts_fit w k f h lt e = λ j x g.

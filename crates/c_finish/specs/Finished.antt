@@ -10,16 +10,14 @@ use Rattle.c_tree.specs.declared.typed.Expr.{Expr}
 use Rattle.c_tree.specs.declared.typed.Stmt.{Stmt}
 use Rattle.c_tree.specs.declared.typed.FunDef.{FunDef}
 use Rattle.c_tree.specs.declared.typed.GlobalDef.{GlobalDef}
-use Rattle.c_tree.specs.declared.typed.Literal.{Literal}
 use Rattle.c_tree.specs.declared.typed.Target.{Target}
 use Rattle.c_tree.specs.declared.typed.Target.TheVariants as targets
 use Rattle.c_tree.specs.declared.typed.Typed.{Typed}
 use Rattle.c_tree.specs.Syntax.{Syn, StandsAt}
-use Rattle.c_tree.specs.Layout.{Extent, size_limit}
-use Rattle.c_tree.specs.Terms.{Aim, To_global, To_function, To_literal, Text, Block, action, Actions, no_terms}
+use Rattle.c_tree.specs.Terms.{Aim, To_global, To_function, To_literal, Block, action, Actions, no_terms}
 use Rattle.c_tree.specs.Terms.{Program}
 use Rattle.c_tree.specs.Passed.{passed_program, call_name, calls_in}
-use Rattle.c_tree.specs.Scopes.{Reach, All, Within, Aiming, Body, Fault, State, StaticState, RoutineState, type_extent}
+use Rattle.c_tree.specs.Scopes.{Reach, All, Within, Aiming, Body, Fault, State, StaticState, RoutineState}
 use Rattle.c_tree.specs.Views.{Shows, IsOrdered, types_of, routine_of}
 use Rattle.c_tree.specs.Views as views
 use Rattle.c_tree.specs.Programs as programs
@@ -58,11 +56,11 @@ pub record BodyFits (s : State) (b : Body) : Type 0 where
   pub names : ActionStands (NamesWithin (length s.statics) (length s.routines)) AnyForm b.action
   pub variables : ActionStands (VarWithin (length b.vars)) (FormWithin (length b.vars)) b.action
 
--- a pointer names what is there, and a string literal has no more bytes than an object may have
+-- a pointer names an object or a function that is there
 abbrev pub AimFits : State → Aim → Type 0
 AimFits s (To_global k) = k < length s.statics
 AimFits s (To_function k) = k < length s.routines
-AimFits s (To_literal k) = (x : Text) → slice_get s.texts k ≡ Some x → length x.bytes ≤ size_limit
+AimFits s (To_literal k) = Unit {0}
 
 -- an address and the beginning of its bounds are near the beginning of what it points to
 abbrev pub ReachIsNear : Reach → Type 0
@@ -72,10 +70,8 @@ ReachIsNear (Within low n) = low ≤ 2 ^ 32
 abbrev pub IsNear : Reach → ℤ → Type 0
 IsNear r z = ReachIsNear r × (neg_ℤ (pos (2 ^ 32)) ≤ℤ z) × (z ≤ℤ pos (2 ^ 32))
 
--- what typing sees to: no object is over the limit, and initial pointers and bodies fit
+-- what typing sees to: initial pointers and bodies fit
 pub record IsTyped (s : State) : Type 0 where
-  pub sizes : (k : ℕ) (g : StaticState) (x : Extent) → slice_get s.statics k ≡ Some g →
-      type_extent s.tags g.of ≡ Some x → x.size ≤ size_limit
   pub aims : (k j : ℕ) (g : StaticState) (i : List ℕ × List Aiming) (a : Aiming) → slice_get s.statics k ≡ Some g →
       g.initial ≡ Some i → slice_get i.1 j ≡ Some a → AimFits s a.aim
   pub near : programs.earliest (programs.last_faults s) ≡ None → (k j : ℕ) (g : StaticState) (i : List ℕ × List Aiming)
@@ -93,7 +89,7 @@ pub record IsShown (w : Work) : Type 0 where
 abbrev pub TargetFits : Work → Target → Type 0
 TargetFits w (targets.Global k) = k < length w.nodes.p.globals
 TargetFits w (targets.Fun k) = k < length w.nodes.p.funs
-TargetFits w (targets.Literal k) = (x : Literal) → slice_get w.nodes.p.literals k ≡ Some x → length x.bytes ≤ size_limit
+TargetFits w (targets.Literal k) = Unit {0}
 
 -- and of all of an initial value
 abbrev pub StartsFit : Work → List Start → Type 0

@@ -5,7 +5,6 @@ ghost use Rattle.c_tree.specs.Scopes.{State, StaticState, RoutineState};
 ghost use Rattle.c_tree.specs.Programs.{static_faults, routine_faults, pending_faults, last_faults, earliest, reaches};
 ghost use Rattle.c_elaborator.specs.Work.{Shows, pending_of};
 ghost use Rattle.c_finish.specs.Faults.{found, onto};
-ghost use Rattle.c_finish.specs.Finished.{IsShown};
 ghost use Rattle.c_finish.specs.Tables.{AreUses, HasDefinitions};
 
 use crate::found::{Found, earlier, undefined};
@@ -100,7 +99,6 @@ fn reaches(length: Option<u64>, least: i128) -> bool
 
 // An initial pointer was outside an array whose length was not known then (134).
 fn waiting_fault(work: &Work<'_>, x: Waiting, rest: Option<Found>) -> Option<Found>
-    requires { IsShown work.now }
     ensures { (s : State) → Shows work.now s → found result ≡ onto (pending_faults s (pending_of x)) (found rest) }
 {
     let length = object_length(work, x.object);
@@ -122,7 +120,6 @@ fn waiting_at(list: &[Waiting], i: usize) -> Waiting
 }
 
 fn waiting_faults(work: &Work<'_>, rest: Option<Found>) -> Option<Found>
-    requires { IsShown work.now }
     ensures { (s : State) → Shows work.now s →
         found result ≡ onto (flat_map (pending_faults s) s.pending) (found rest) }
 {
@@ -144,7 +141,6 @@ pub(crate) fn last_fault(
 ) -> Result<Option<Found>, NoMemory>
     requires uses { AreUses work.now uses.now }
     requires definitions { HasDefinitions work.now definitions.now }
-    requires shown { IsShown work.now }
     ensures { IfOk result (λ best. (s : State) → Shows work.now s → found best ≡ earliest (last_faults s)) }
 {
     let of_pointers = waiting_faults(work, None);

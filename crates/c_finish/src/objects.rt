@@ -49,7 +49,6 @@ fn offset_of(offset: i128) -> i64
 
 fn link_of(work: &Work<'_>, numbers: &Numbers, start: Start) -> Link
     requires numbers { HaveNumbers work.now numbers.now }
-    requires shown { IsShown work.now }
     requires fits { TargetFits work.now start.target }
     requires near { IsNear (works.reach_of start.bounds) start.offset }
     ensures { (s : State) → Shows work.now s → views.pointing_of result ≡ pointing_of s (aiming_of start) }
@@ -80,7 +79,6 @@ fn start_at(starts: &[Start], i: usize) -> Start
 
 fn links_of(work: &Work<'_>, numbers: &Numbers, starts: &[Start]) -> Result<Vec<Link>, NoMemory>
     requires numbers { HaveNumbers work.now numbers.now }
-    requires shown { IsShown work.now }
     requires fit { StartsFit work.now starts.now }
     requires near { AreNear starts.now }
     ensures { IfOk result (λ ls. (s : State) → Shows work.now s →
@@ -102,7 +100,6 @@ fn initial(
     given: Option<&Filling>,
 ) -> Result<(Vec<u8>, Vec<Link>), NoMemory>
     requires numbers { HaveNumbers work.now numbers.now }
-    requires shown { IsShown work.now }
     requires fit { (f : Given) → option_map (λ (f : Bor Given). f.now) given ≡ Some f →
         StartsFit work.now f.starts.items }
     requires near { (f : Given) → option_map (λ (f : Bor Given). f.now) given ≡ Some f → AreNear f.starts.items }

@@ -32,7 +32,8 @@ use Rattle.c_initializers.specs.declared.places.Place.{Place}
 use Rattle.c_initializers.specs.declared.covering.Extent.{Extent}
 use Rattle.c_initializers.specs.Covering.{covers_place}
 use Rattle.c_initializers.specs.Slots.{slot_in, slots_in, IsSlotThere, AreSlotsThere, HasSlots, AddsSlots, chosen}
-use Rattle.c_initializers.specs.Slots.{place_of, extent_of, scalars_given, IsFilledIn, string_filled, begins_at, is_needed, needed}
+use Rattle.c_initializers.specs.Slots.{place_of, extent_of, scalars_given, IsFilledIn, string_filled, begins_at}
+use Rattle.c_initializers.specs.Slots.{is_needed, needed}
 use Rattle.c_initializers.specs.Slots.{HaveExtents, every_slot_of, SlotsThere, AreSlots}
 use Rattle.c_initializers.specs.Places.{ArePartsOf}
 use Rattle.c_elaborator.specs.declared.work.Work.{Work}
@@ -328,7 +329,9 @@ bytes-more a m n whole of number value bytes i place next xs zs all l o h g e z 
     let tn : type_in n of ≡ t = g.keeps.types of (omega arith) ∙ tm in
     let v : term_in n value ≡ leaf (Constant (wrapped (kind_of t) (pos (get_or bytes i 0)))) t whole =
     g.is.is ∙ ap (λ u. leaf (Constant number) u whole) tm ∙ ap (λ k. leaf (Constant k) t whole) e in
-    let s : slot_in n x ≡ y = ap (λ u. (let q : meant.Slot = record { at = place; of = u; value = term_in n value; first = whole } in q)) tn ∙ ap (λ u. (let q : meant.Slot = record { at = place; of = t; value = u; first = whole } in q)) v in
+    let s : slot_in n x ≡ y =
+    ap (λ u. (let q : meant.Slot = record { at = place; of = u; value = term_in n value; first = whole } in q)) tn
+    ∙ ap (λ u. (let q : meant.Slot = record { at = place; of = t; value = u; first = whole } in q)) v in
     let d : byte_slots whole t place (drop i bytes) ≡ y ∷ byte_slots whole t (place + 1) (drop (i + 1) bytes) =
     ap (byte_slots whole t place) (drop-next bytes i 0 l) in
     let r : BytesTo a n whole t (place + 1) (drop (i + 1) bytes) zs all = record {

@@ -41,7 +41,8 @@ use Rattle.c_elaborator.specs.Answers.{Keeps, Done, Answers, quietly, freely, Ty
 use Rattle.c_elaborator.specs.Answers.{IsNothing}
 use Rattle.c_elaborator.proofs.Growing.{keeps_nodes, shows_nodes}
 use Rattle.ck_base.specs.declared.refusal.Refusal.{Refusal}
-use Rattle.c_elaborator.proofs.Sequencing.{keeps_same, keeps_then, answers_at, then, then_by, also_then, freed, failed, free_law}
+use Rattle.c_elaborator.proofs.Sequencing.{keeps_same, keeps_then, answers_at, then, then_by, also_then, freed, failed}
+use Rattle.c_elaborator.proofs.Sequencing.{free_law}
 use Rattle.c_initializers.specs.declared.slots.Slot.{Slot}
 use Rattle.c_initializers.specs.declared.slots.Filled.{Filled}
 use Rattle.c_initializers.specs.declared.statics.Found.{Found}

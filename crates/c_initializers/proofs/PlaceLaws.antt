@@ -17,7 +17,8 @@ use Rattle.c_tree.specs.declared.typed.Member.{Member}
 use Rattle.c_tree.specs.Types.{Ty, Tys, Void, Int, Cap, Pointer, Array, Tagged, Function, Const}
 use Rattle.c_tree.specs.Layout.{Extent, member_offset, behind, no_members}
 use Rattle.c_tree.specs.Scopes.{State, TagState, type_extent, size}
-use Rattle.c_tree.specs.Initializers.{item_place, tag_places, or_none, scalars_of, all_scalars, tag_scalars}
+use Rattle.c_tree.specs.Initializers.{item_place, tag_places, or_none, next_within, scalars_of, all_scalars}
+use Rattle.c_tree.specs.Initializers.{tag_scalars}
 use Rattle.c_tree.specs.Initializers.{scalars, with_count}
 use Rattle.c_tree.specs.Statics as statics
 use Rattle.c_tree.specs.Statics.{offset_in, record_offset, tag_offset}
@@ -84,16 +85,19 @@ PlacedTo w s ms i end places =
 
 pub placed-more : (w : Work) (s : State) (ms : List Member) (i : ℕ) (d : Member) (end : Layout) (n : Next)
     (places : List Place) (y : Extent) → i < length ms →
-    type_extent s.tags (type_in w.nodes (get_or ms i d).of) ≡ Some y →
+    next_within (extent_is end) (type_extent s.tags (type_in w.nodes (get_or ms i d).of)) ≡ Some y →
     place_in w n.place ≡ (member_offset y (extent_is end), type_in w.nodes (get_or ms i d).of) →
     extent_is n.end ≡ behind y (extent_is end) →
     PlacedTo w s ms i end places → PlacedTo w s ms (i + 1) n.end (places ++ n.place ∷ [])
 placed-more w s ms i d end n places y l x p b h =
     let m = get_or ms i d in
-    let f : numbered_places w s.tags (m ∷ drop (i + 1) ms) (extent_is end) ≡ (member_offset y (extent_is end), type_in w.nodes m.of) ∷ numbered_places w s.tags (drop (i + 1) ms) (behind y (extent_is end)) =
+    let f : numbered_places w s.tags (m ∷ drop (i + 1) ms) (extent_is end)
+    ≡ (member_offset y (extent_is end), type_in w.nodes m.of)
+    ∷ numbered_places w s.tags (drop (i + 1) ms) (behind y (extent_is end)) =
     ap (λ o. or_none o (λ y. (member_offset y (extent_is end), type_in w.nodes m.of)
     ∷ numbered_places w s.tags (drop (i + 1) ms) (behind y (extent_is end)))) x in
-    let q : numbered_places w s.tags (drop i ms) (extent_is end) ≡ place_in w n.place ∷ numbered_places w s.tags (drop (i + 1) ms) (extent_is n.end) =
+    let q : numbered_places w s.tags (drop i ms) (extent_is end)
+    ≡ place_in w n.place ∷ numbered_places w s.tags (drop (i + 1) ms) (extent_is n.end) =
     ap (λ l. numbered_places w s.tags l (extent_is end)) (drop-next ms i d l) ∙ f
     ∙ ap (λ z. z ∷ numbered_places w s.tags (drop (i + 1) ms) (behind y (extent_is end))) (sym p)
     ∙ ap (λ z. place_in w n.place ∷ numbered_places w s.tags (drop (i + 1) ms) z) (sym b) in
@@ -114,11 +118,11 @@ numbered-front : (w : Work) (tags : List TagState) (ms : List Member) (x : Exten
 numbered-front w tags ms x zero k h = absurd (omega arith)
 numbered-front w tags [] x (suc n) k h = refl
 numbered-front w tags (m ∷ ms) x (suc n) zero h =
-    stepped (type_extent tags (type_in w.nodes m.of))
+    stepped (next_within x (type_extent tags (type_in w.nodes m.of)))
     (λ y. (member_offset y x, type_in w.nodes m.of) ∷ numbered_places w tags (take n ms) (behind y x))
     (λ y. (member_offset y x, type_in w.nodes m.of) ∷ numbered_places w tags ms (behind y x)) 0 (λ y. refl)
 numbered-front w tags (m ∷ ms) x (suc n) (suc k) h =
-    stepped (type_extent tags (type_in w.nodes m.of))
+    stepped (next_within x (type_extent tags (type_in w.nodes m.of)))
     (λ y. (member_offset y x, type_in w.nodes m.of) ∷ numbered_places w tags (take n ms) (behind y x))
     (λ y. (member_offset y x, type_in w.nodes m.of) ∷ numbered_places w tags ms (behind y x)) (suc k)
     (λ y. numbered-front w tags ms (behind y x) n k (omega arith))

@@ -8,7 +8,7 @@ use Rattle.c_tree.specs.declared.typed.Member.{Member}
 use Rattle.c_tree.specs.Layout.{Extent, member_offset, behind, no_members}
 use Rattle.c_tree.specs.Types.{Ty, Void}
 use Rattle.c_tree.specs.Scopes.{Part, State, TagState, type_extent}
-use Rattle.c_tree.specs.Initializers.{or_none, struct_places, record_places, known_places, tag_places}
+use Rattle.c_tree.specs.Initializers.{or_none, next_within, struct_places, record_places, known_places, tag_places}
 use Rattle.c_tree.specs.Views.{types_of}
 use Rattle.c_types.specs.Stands.{named, part_seen, member_kept}
 use Rattle.c_expressions.specs.Nodes.{type_in}
@@ -30,9 +30,10 @@ struct-placed w tags (p ∷ ps) [] x h = absurd cc
 struct-placed w tags (p ∷ ps) (m ∷ ms) x h =
     let a : part_seen p ≡ member_kept (types_of w.nodes.p.types) m = cc in
     let b : map part_seen ps ≡ map (member_kept (types_of w.nodes.p.types)) ms = cc in
-    ap (λ t. or_none (type_extent tags t) (λ y. (member_offset y x, t) ∷ struct_places tags ps (behind y x)))
+    ap (λ t. or_none (next_within x (type_extent tags t))
+    (λ y. (member_offset y x, t) ∷ struct_places tags ps (behind y x)))
     (type-kept w p m a)
-    ∙ inside (type_extent tags (type_in w.nodes m.of)) (type_in w.nodes m.of)
+    ∙ inside (next_within x (type_extent tags (type_in w.nodes m.of))) (type_in w.nodes m.of)
     (λ y. struct-placed w tags ps ms (behind y x) b)
   where
     inside : (o : Option Extent) (t : Ty) →

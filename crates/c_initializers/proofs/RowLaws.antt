@@ -1,5 +1,6 @@
 -- Parts whose scalars are to be listed.
-use Rattle.std.proofs.Common.{◌≡◌, ℕ, zero, suc, ◌+◌, ◌-◌, ◌<◌, ◌≤◌, Bool, true, false, List, [], ◌∷◌, ◌++◌, get_or, length, drop, map, refl}
+use Rattle.std.proofs.Common.{◌≡◌, ℕ, zero, suc, ◌+◌, ◌-◌, ◌<◌, ◌≤◌, Bool, true, false, List, [], ◌∷◌, ◌++◌, get_or}
+use Rattle.std.proofs.Common.{length, drop, map, refl}
 use Rattle.std.proofs.Common.{sym, ap, subst, ◌∙◌, arith, append_assoc, length-append}
 use Rattle.std.specs.Prelude.{if◌then◌else◌}
 use Rattle.std.specs.List.{All}
@@ -189,7 +190,8 @@ last-there w old rest r e h =
     let n : length rest < length (rest ++ r ∷ []) = omega (arith, length-append rest (r ∷ [])) in
     subst (IsRowThere w) (get_or-append_seam rest r [] r) (a (length rest) r n)
 
-pub walked-on : (w : Work) (es : List Extent) (old rest new : List Row) (places others : List Place) (r : Row) (most : ℕ)
+pub walked-on : (w : Work) (es : List Extent) (old rest new : List Row) (places others : List Place) (r : Row)
+    (most : ℕ)
     (all : State → List (ℕ × Ty)) → old ≡ rest ++ r ∷ [] → AllWalked w es old places all →
     Walks w es rest places new others most (λ s. row_scalars w s r) → AllWalked w es new others all
 walked-on w es old rest new places others r most all e a b = record {
@@ -201,7 +203,8 @@ walked-on w es old rest new places others r most all e a b = record {
 }
 
 -- a whole type is one row
-pub walked-first : (w : Work) (es : List Extent) (rows : List Row) (r : Row) (places : List Place) (of tags : ℕ) → rows ≡ r ∷ [] →
+pub walked-first : (w : Work) (es : List Extent) (rows : List Row) (r : Row) (places : List Place) (of tags : ℕ) →
+    rows ≡ r ∷ [] →
     of < type_count w.nodes → places ≡ [] → r ≡ record { at = 0; of = of; count = 1; step = 0; tags = tags } →
     IsTagCount w tags → AllWalked w es rows places (λ s. scalars s (type_in w.nodes of))
 walked-first w es rows r places of tags e l p q k = record {
@@ -215,11 +218,13 @@ walked-first w es rows r places of tags e l p q k = record {
 }
 
 -- nothing is left to walk
-pub walked-all : (w : Work) (es : List Extent) (rows : List Row) (places : List Place) (all : State → List (ℕ × Ty)) → rows ≡ [] →
+pub walked-all : (w : Work) (es : List Extent) (rows : List Row) (places : List Place) (all : State → List (ℕ × Ty)) →
+    rows ≡ [] →
     AllWalked w es rows places all → ArePartsOf w places (λ s. needed es (all s))
 walked-all w es rows places all e a = record {
   there = a.places_there;
-  are = λ s h. sym (append-nil (map (place_in w) places)) ∙ ap (λ x. map (place_in w) places ++ needed es (rows_scalars w s x)) (sym e)
+  are = λ s h. sym (append-nil (map (place_in w) places))
+      ∙ ap (λ x. map (place_in w) places ++ needed es (rows_scalars w s x)) (sym e)
       ∙ a.are s h;
 }
 

@@ -1,6 +1,6 @@
 -- Values that are known before the program runs.
 use Rattle.std.proofs.Common.{◌≡◌, ℕ, ◌+◌, ◌-◌, ◌%◌, ◌^◌, ◌<◌, List, [], ◌∷◌, ◌++◌, length, get_or, ltb, Option, Some}
-use Rattle.std.proofs.Common.{None, true, false, refl, sym, ap, ◌∙◌, arith}
+use Rattle.std.proofs.Common.{None, Bool, true, false, refl, sym, ap, ◌∙◌, arith}
 use Rattle.std.specs.Prelude.{ℤ, pos, negsuc, slice_get, option_map, reverse, if◌then◌else◌}
 use Rattle.std.proofs.lemmas.Option.{get_or_from_slice_get, slice_get-get_or}
 use Rattle.std.proofs.lemmas.Bool.{ltb-true}
@@ -11,13 +11,10 @@ use Rattle.ck_int.specs.declared.kinds.IntKind.{IntKind}
 use Rattle.ck_int.proofs.Laws.{Represents-value_of}
 use Rattle.std.proofs.lemmas.Int.{ints}
 use Rattle.cap_concentrate.specs.Rounding.{owned}
-use Rattle.cap_layout.specs.declared.answers.Layout.{Layout}
-use Rattle.cap_layout.specs.Answers.{Fits}
 use Rattle.c_tree.specs.declared.typed.GlobalDef.{GlobalDef}
 use Rattle.c_tree.specs.declared.typed.Literal.{Literal}
-use Rattle.c_tree.specs.Layout.{Extent}
 use Rattle.c_tree.specs.Types.{Ty, Void}
-use Rattle.c_tree.specs.Scopes.{State, StaticState, type_extent, has_extent, extent_size}
+use Rattle.c_tree.specs.Scopes.{State, StaticState, is_complete, size}
 use Rattle.c_tree.specs.Statics.{static_length, text_length}
 use Rattle.c_tree.specs.Views.{types_of, text_of}
 use Rattle.c_types.specs.Stands.{Declared, named, global_kept, static_seen}
@@ -108,20 +105,10 @@ object-type w s k g h e =
     let n : named ts g.of ≡ Some t.0.of = ap (λ (x : Declared). x.of) t.2 in
     (t.0, t.1, sym (get_or_from_slice_get ts g.of t.0.of Void n))
 
-owned_of : Option Extent → Option ℕ
-owned_of o = (if has_extent o then Some (owned (extent_size o)) else None)
-
-pub object-open : (w : Work) (s : State) (k : ℕ) (g : GlobalDef) → Shows w s → slice_get w.nodes.p.globals k ≡ Some g →
-    type_extent s.tags (type_in w.nodes g.of) ≡ None → static_length s (slice_get s.statics k) ≡ None
-unfolding owned_of
-object-open w s k g h e f =
+pub object-length : (w : Work) (s : State) (k : ℕ) (g : GlobalDef) (b : Bool) → Shows w s →
+    slice_get w.nodes.p.globals k ≡ Some g → b ≡ is_complete s (type_in w.nodes g.of) →
+    static_length s (slice_get s.statics k) ≡ (if b then Some (owned (size s (type_in w.nodes g.of))) else None)
+object-length w s k g b h e f =
     let t = object-type w s k g h e in
-    ap (static_length s) t.1 ∙ ap (λ u. owned_of (type_extent s.tags u)) t.2 ∙ ap owned_of f
-
-pub object-complete : (w : Work) (s : State) (k : ℕ) (g : GlobalDef) (l : Layout) → Shows w s →
-    slice_get w.nodes.p.globals k ≡ Some g → Fits (type_extent s.tags (type_in w.nodes g.of)) l →
-    static_length s (slice_get s.statics k) ≡ Some (owned l.size)
-unfolding owned_of
-object-complete w s k g l h e f =
-    let t = object-type w s k g h e in
-    ap (static_length s) t.1 ∙ ap (λ u. owned_of (type_extent s.tags u)) t.2 ∙ ap owned_of f.is
+    ap (static_length s) t.1 ∙ ap (λ u. (if is_complete s u then Some (owned (size s u)) else None)) t.2
+    ∙ ap (λ c. (if c then Some (owned (size s (type_in w.nodes g.of))) else None)) (sym f)

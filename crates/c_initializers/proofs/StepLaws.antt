@@ -52,7 +52,8 @@ unfoldable pub member_steps : Work → ℕ → ℕ
 member_steps w tags = 2 * 2 ^ (66 * (tags * suc (greatest_height (types_of w.nodes.p.types)) - 1))
 
 pub member-steps : (w : Work) (tags of : ℕ) → 0 < tags →
-    1 * type_steps w (tags - 1) (type_in w.nodes of) + type_steps w (tags - 1) (type_in w.nodes of) ≤ member_steps w tags
+    1 * type_steps w (tags - 1) (type_in w.nodes of)
+    + type_steps w (tags - 1) (type_in w.nodes of) ≤ member_steps w tags
 unfolding type_steps member_steps
 member-steps w tags of l =
     let ts = types_of w.nodes.p.types in
@@ -78,6 +79,7 @@ members-steps w n tags tag l m =
 
 -- ---- rows
 
-pub steps-push : (w : Work) (rows : List Row) (r : Row) → rows_steps w (rows ++ r ∷ []) ≡ rows_steps w rows + row_steps w r
+pub steps-push : (w : Work) (rows : List Row) (r : Row) →
+    rows_steps w (rows ++ r ∷ []) ≡ rows_steps w rows + row_steps w r
 steps-push w [] r = omega arith
 steps-push w (x ∷ xs) r = let e = steps-push w xs r in omega arith

@@ -4,7 +4,7 @@ use Rattle.std.specs.Prelude.{map, Option, Some, None, option_map, slice_get}
 use Rattle.std.specs.List.{All}
 use Rattle.c_tree.specs.Types.{Ty, Const}
 use Rattle.c_tree.specs.Scopes.{State, TagState, type_extent}
-use Rattle.c_tree.specs.Initializers.{item_place, or_none, tag_places}
+use Rattle.c_tree.specs.Initializers.{item_place, or_none, next_within, tag_places}
 use Rattle.c_tree.specs.Layout.{Extent, member_offset, behind, no_members}
 use Rattle.c_tree.specs.declared.syntax.RecordKind.{RecordKind}
 use Rattle.c_tree.specs.declared.syntax.RecordKind.TheVariants.{Struct, Union}
@@ -55,7 +55,7 @@ pub record ArePlaces (w : Work) (of count : ℕ) (x : Places) : Type 0 where
 abbrev pub numbered_places : Work → List TagState → List Member → Extent → List (ℕ × Ty)
 numbered_places w tags [] x = []
 numbered_places w tags (m ∷ ms) x =
-    or_none (type_extent tags (type_in w.nodes m.of))
+    or_none (next_within x (type_extent tags (type_in w.nodes m.of)))
     (λ y. (member_offset y x, type_in w.nodes m.of) ∷ numbered_places w tags ms (behind y x))
 
 abbrev pub first_place : Work → List Member → List (ℕ × Ty)
@@ -90,11 +90,12 @@ IsTagCount w n = (s : State) → Shows w s → n ≡ length s.tags
 
 -- a member behind the end of those before it
 abbrev pub IsNext : Work → ℕ → Layout → Option Next → Type 0
-IsNext w of end None = (s : State) → Shows w s → type_extent s.tags (type_in w.nodes of) ≡ None
+IsNext w of end None =
+    (s : State) → Shows w s → next_within (extent_is end) (type_extent s.tags (type_in w.nodes of)) ≡ None
 IsNext w of end (Some n) =
     (IsPlaceThere w n.place) ×
     ((s : State) → Shows w s →
-    (y : Extent) × (type_extent s.tags (type_in w.nodes of) ≡ Some y) ×
+    (y : Extent) × (next_within (extent_is end) (type_extent s.tags (type_in w.nodes of)) ≡ Some y) ×
     (place_in w n.place ≡ (member_offset y (extent_is end), type_in w.nodes of)) ×
     (extent_is n.end ≡ behind y (extent_is end)))
 

@@ -15,9 +15,9 @@ end_in x = end_of (placed_of x)
 abbrev pub greatest_end : List Placed → ℕ
 greatest_end xs = fold (λ n x. max n (end_in x)) 0 xs
 
--- a byte at a place, to which some numbers were added
-abbrev pub added_at : ℕ → ℕ → List Placed → ℕ
-added_at k b xs = fold (λ b x. b + byte_in k (placed_of x)) b xs
+-- a byte at a place, over which some numbers were written
+abbrev pub written_at : ℕ → ℕ → List Placed → ℕ
+written_at k b xs = fold (λ b x. byte_in k b (placed_of x)) b xs
 
 -- where the last of some pointers ends
 abbrev pub pointers_end : List Aiming → ℕ

@@ -60,8 +60,10 @@ pub record AddsRows (w : Work) (old new : List Row) (most : ℕ) (parts : State 
   pub are : (s : State) → Shows w s → rows_scalars w s new ≡ parts s ++ rows_scalars w s old
   pub steps : rows_steps w new ≤ rows_steps w old + most
 
--- those of these that get a value come behind those that are listed, and before those that were to be listed, and take fewer steps than this
-pub record Walks (w : Work) (es : List Extent) (rows : List Row) (places : List Place) (rows' : List Row) (places' : List Place)
+-- those of these that get a value come behind those that are listed, and before those that were to be listed, and take
+-- fewer steps than this
+pub record Walks (w : Work) (es : List Extent) (rows : List Row) (places : List Place) (rows' : List Row)
+    (places' : List Place)
     (most : ℕ) (parts : State → List (ℕ × Ty)) : Type 0 where
   pub rows_there : All (IsRowThere w) rows → All (IsRowThere w) rows'
   pub places_there : All (IsPlaceThere w) places → All (IsPlaceThere w) places'

@@ -1,5 +1,6 @@
 -- What an initializer gives.
-use Rattle.std.specs.Prelude.{◌≡◌, ℕ, ◌+◌, ◌<◌, Bool, true, ◌==◌, nat_le, if◌then◌else◌, filter, List, ◌++◌, length, map, flat_map}
+use Rattle.std.specs.Prelude.{◌≡◌, ℕ, ◌+◌, ◌<◌, Bool, true, ◌==◌, nat_le, if◌then◌else◌, filter, List, ◌++◌, length}
+use Rattle.std.specs.Prelude.{map, flat_map}
 use Rattle.std.specs.Prelude.{position, Option, Some, None, slice_get}
 use Rattle.std.specs.List.{All}
 use Rattle.std.specs.Global.{Vec}

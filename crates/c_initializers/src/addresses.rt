@@ -133,7 +133,7 @@ fn sum_of(
         (term_in work.now.nodes right.0, option_map known_of right.1)) r) }
     ensures within { (n : ℕ) → AreWithin n left.1 → AreWithin n right.1 → IfOk result (AreWithin (n + 2 ^ 64)) }
 {
-    let size = target_size(work, of)?;
+    let size = target_size(work, of);
     if work
         .nodes
         .is_pointer(work.nodes.bare(work.nodes.of(left.0)))
@@ -185,12 +185,13 @@ fn alone(work: &Work, value: Value) -> Known
 fn start_of(work: &Work, node: u32) -> Result<Option<Known>, NoMemory>
     requires whole { IsWhole work.now.nodes }
     requires there { node < term_count work.now.nodes }
-    ensures is { IfOk result (λ r. (s : State) → Shows work.now s → IsKnown (start_of s (term_in work.now.nodes node)) r) }
+    ensures is { IfOk result (λ r. (s : State) → Shows work.now s →
+        IsKnown (start_of s (term_in work.now.nodes node)) r) }
     ensures within { IfOk result (AreWithin ((node + 1) * 2 ^ 64)) }
 {
     match work.nodes.constant_of(node) {
         Some(number) => Ok(Some(alone(work, Value::Number(number)))),
-        None => form_start(work, node, form_of(&work.nodes, node)?),
+        None => form_start(work, node, form_of(&work.nodes, node)),
     }
 }
 

@@ -1,10 +1,9 @@
 //! The bytes with which an object of static storage duration begins (C11 6.7.9).
 
-ghost use Rattle.std.specs.Prelude.{◌≡◌, ℕ, ◌+◌, ◌<◌, ◌≤◌, List, length, map, replicate, slice_index, IfOk, OnOk};
-ghost use Rattle.std.specs.List.{All};
+ghost use Rattle.std.specs.Prelude.{◌≡◌, ℕ, ◌<◌, ◌≤◌, List, length, map, replicate, slice_index, IfOk};
 ghost use Rattle.c_tree.specs.Scopes.{Aiming};
 ghost use Rattle.c_tree.specs.Statics.{significant, byte_in, initial_bytes};
-ghost use Rattle.c_initializers.specs.Placing.{placed_of, end_in, greatest_end, added_at, pointers_end};
+ghost use Rattle.c_initializers.specs.Placing.{placed_of, end_in, greatest_end, written_at, pointers_end};
 
 use ck_base::NoMemory;
 use std::alloc::Global;
@@ -55,49 +54,40 @@ fn greatest_end(numbers: &[Placed]) -> u128
     greatest
 }
 
-// Adds one byte to what stands at a place.
-fn put_byte(bytes: &mut [u8], at: u64, byte: u8) -> Result<(), NoMemory>
+// One byte is written over what stands at a place.
+fn put_byte(bytes: &mut [u8], at: u64, byte: u8)
     requires { at < length bytes.old }
     ensures length { length bytes.new ≡ length bytes.old }
-    ensures same { OnOk result (slice_index bytes.new at ≡ slice_index bytes.old at + byte) }
+    ensures same { slice_index bytes.new at ≡ byte }
     ensures others { (k : ℕ) → (k ≡ at → ⊥) → slice_index bytes.new k ≡ slice_index bytes.old k }
 {
-    let k = at as usize;
-    match bytes[k].checked_add(byte) {
-        None => Err(NoMemory),
-        Some(sum) => {
-            bytes[k] = sum;
-            Ok(())
-        }
-    }
+    bytes[at as usize] = byte;
 }
 
-// Adds the bytes of a number to those that stand at its place, the lowest first.
-fn put(bytes: &mut [u8], x: &Placed) -> Result<(), NoMemory>
-    requires { end_in x.now ≤ length bytes.old }
+// The bytes of a number are written over what stands at its place, the lowest first, as far as there are bytes.
+fn put(bytes: &mut [u8], x: &Placed)
     ensures length { length bytes.new ≡ length bytes.old }
-    ensures each { OnOk result ((k : ℕ) →
-        slice_index bytes.new k ≡ slice_index bytes.old k + byte_in k (placed_of x.now)) }
+    ensures each { (k : ℕ) → k < length bytes.old →
+        slice_index bytes.new k ≡ byte_in k (slice_index bytes.old k) (placed_of x.now) }
 {
-    let count = significant(x.width, x.number);
+    let room = (bytes.len() as u64).saturating_sub(x.at);
+    let count = x.width.min(room);
     let mut left = x.number;
     for j in 0..count {
-        put_byte(bytes, x.at + j, (left % 256) as u8)?;
+        put_byte(bytes, x.at + j, (left % 256) as u8);
         left /= 256;
     }
-    Ok(())
 }
 
-// Adds the bytes of all the numbers to those that stand at their places.
-fn put_all(bytes: &mut [u8], numbers: &[Placed]) -> Result<(), NoMemory>
-    requires { All (λ x. end_in x ≤ length bytes.old) numbers.now }
+// The bytes of all the numbers, one after another.
+fn put_all(bytes: &mut [u8], numbers: &[Placed])
     ensures length { length bytes.new ≡ length bytes.old }
-    ensures each { OnOk result ((k : ℕ) → slice_index bytes.new k ≡ added_at k (slice_index bytes.old k) numbers.now) }
+    ensures each { (k : ℕ) → k < length bytes.old →
+        slice_index bytes.new k ≡ written_at k (slice_index bytes.old k) numbers.now }
 {
     for x in numbers {
-        put(bytes, x)?;
+        put(bytes, x);
     }
-    Ok(())
 }
 
 // No vector has more than `usize::MAX` bytes.
@@ -118,6 +108,6 @@ pub fn initial_bytes(alloc: Global, numbers: &[Placed], end: u128) -> Result<Vec
         bytes.items ≡ initial_bytes (map placed_of numbers.now) ls) }
 {
     let mut bytes = zeros(alloc, greatest_end(numbers).max(end))?;
-    put_all(&mut bytes, numbers)?;
+    put_all(&mut bytes, numbers);
     Ok(bytes)
 }

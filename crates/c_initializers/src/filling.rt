@@ -55,17 +55,17 @@ fn is_record(nodes: &Nodes, of: u32) -> bool
 }
 
 // The bytes of the values of structs and unions: their scalars, of which there are not more, are initialised at once.
-fn record_bytes(work: &Work, slots: &[Slot]) -> Result<u64, NoMemory>
+fn record_bytes(work: &Work, slots: &[Slot]) -> u64
     requires whole { IsWhole work.now.nodes }
     requires slots { AreSlotsThere work.now.nodes slots.now }
 {
     let mut bytes: u64 = 0;
     for x in slots {
         if is_record(&work.nodes, x.of) {
-            bytes = bytes.saturating_add(size_of(work, x.of)?);
+            bytes = bytes.saturating_add(size_of(work, x.of));
         }
     }
-    Ok(bytes)
+    bytes
 }
 
 // The bytes that values have.
@@ -74,7 +74,7 @@ fn extents_of(work: &Work, slots: &[Slot]) -> Result<Vec<Extent>, NoMemory>
 {
     let mut extents = Vec::new(work.nodes.alloc);
     for x in slots {
-        let to = u128::from(x.at) + u128::from(size_of(work, x.of)?);
+        let to = u128::from(x.at) + u128::from(size_of(work, x.of));
         extents.push(Extent { from: x.at, to })?;
     }
     Ok(extents)
@@ -172,7 +172,7 @@ pub fn every_slot(
         (every_slot_of whole (type_in work.old.nodes of) (slots_in work.old.nodes slots.now)) SlotsThere AreSlots
         result }
 {
-    let most = most_scalars(work, listed).saturating_add(record_bytes(work, slots)?);
+    let most = most_scalars(work, listed).saturating_add(record_bytes(work, slots));
     let extents = extents_of(work, slots)?;
     let places = scalars(work, of, most, extents.as_slice())?;
     let out = scalar_slots(

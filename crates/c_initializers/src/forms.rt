@@ -1,17 +1,16 @@
 //! How an address that is known before the program runs is made (C11 6.6p9).
 
-ghost use Rattle.std.specs.Prelude.{◌≡◌, ℕ, ◌<◌, List, true, not, IfOk};
+ghost use Rattle.std.specs.Prelude.{◌≡◌, ℕ, ◌<◌, List, not};
 ghost use Rattle.ck_base.specs.declared.positions.Pos.{Pos};
 ghost use Rattle.c_tree.specs.Types.{Ty};
 ghost use Rattle.c_tree.specs.Terms.{Term};
 ghost use Rattle.c_tree.specs.Statics.{is_value_start};
 ghost use Rattle.c_tree.specs.Views.{kind_term};
-ghost use Rattle.c_expressions.specs.Nodes.{IsWhole, term_in, term_count};
+ghost use Rattle.c_expressions.specs.Nodes.{IsWhole, OperandsBefore, term_in, term_count};
 ghost use Rattle.c_initializers.specs.Forms.{IsForm, IsFormOf, StandsBefore};
 
 use c_expressions::Nodes;
 use c_tree::{ExprKind, Target};
-use ck_base::NoMemory;
 use ck_int::IntOp;
 
 /// How an address is made. Numbers without another word are those of expressions.
@@ -40,7 +39,8 @@ pub(crate) enum Form {
 
 // The form of an expression of this kind.
 fn form_from(kind: &ExprKind) -> Form
-    ensures { IsFormOf kind.now result }
+    ensures is { IsFormOf kind.now result }
+    ensures before { (n : ℕ) → OperandsBefore n kind.now → StandsBefore result n }
 {
     match kind {
         ExprKind::Literal(k) => Form::Whole(Target::Literal(*k)),
@@ -74,29 +74,13 @@ fn form_from(kind: &ExprKind) -> Form
     }
 }
 
-// Whether the operands of a form stand before an expression.
-fn stands_before(form: Form, node: u32) -> bool
-    ensures { result ≡ true → StandsBefore form node }
-{
-    match form {
-        Form::Whole(_) | Form::Entry(_) | Form::Other => true,
-        Form::Member(a, _) | Form::Pointed(a) | Form::Same(a) | Form::Converted(a) => a < node,
-        Form::Plus(a, b, _) | Form::Derived(a, b, _, _) => a < node && b < node,
-    }
-}
-
 /// The form of an expression.
-pub(crate) fn form_of(nodes: &Nodes, node: u32) -> Result<Form, NoMemory>
+pub(crate) fn form_of(nodes: &Nodes, node: u32) -> Form
     requires whole { IsWhole nodes.now }
     requires there { node < term_count nodes.now }
-    ensures { IfOk result (λ f. IsForm nodes.now node f) }
+    ensures { IsForm nodes.now node result }
 {
-    let form = form_from(&nodes.p.exprs.as_slice()[node as usize].kind);
-    if stands_before(form, node) {
-        Ok(form)
-    } else {
-        Err(NoMemory)
-    }
+    form_from(&nodes.p.exprs.as_slice()[node as usize].kind)
 }
 
 // Whether an expression of this kind is a value that is read from a place.

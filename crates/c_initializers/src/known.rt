@@ -3,7 +3,7 @@
 ghost use Rattle.std.specs.Prelude.{◌≡◌, ℕ, ◌+◌, ◌<◌, ◌≤◌, ◌^◌, ◌&&◌, nat_le, Some, None, pos, ◌≤ℤ◌, neg_ℤ, reverse};
 ghost use Rattle.std.specs.Prelude.{option_map, slice_get, if◌then◌else◌, IfOk};
 ghost use Rattle.cap_concentrate.specs.Rounding.{owned};
-ghost use Rattle.c_tree.specs.Layout.{size_limit};
+ghost use Rattle.c_tree.specs.Layout.{size_limit, fitting};
 ghost use Rattle.c_tree.specs.Scopes.{State};
 ghost use Rattle.c_tree.specs.Statics.{There, static_length, text_length, aim_length, near_all, moved_to, inside};
 ghost use Rattle.c_tree.specs.Statics.{narrowed_in, narrowed, member_offset, move_by, pointed_at, target_size};
@@ -13,14 +13,14 @@ ghost use Rattle.c_elaborator.specs.declared.work.Bounds.TheVariants as spans;
 ghost use Rattle.c_elaborator.specs.Work.{Shows, reach_of};
 ghost use Rattle.c_initializers.specs.Starts.{IsKnown, known_of, Points, BoundsWithin, IsWithin, AreWithin};
 
-use crate::members::{LIMIT, all_members, record_of};
+use crate::members::{all_members, record_of};
 use crate::places::Place;
 use crate::sizes::size_of;
 use crate::starts::{Known, Pointer, Value, is_exact, is_near};
 use c_elaborator::{Bounds, Work};
 use c_expressions::Class;
 use c_tree::{RecordKind, Target};
-use cap_layout::{LayoutFault, owned};
+use cap_layout::{LIMIT, owned};
 use ck_base::NoMemory;
 
 // What an object of so many bytes owns.
@@ -33,41 +33,45 @@ fn owned_bytes(n: u64) -> u64
 }
 
 // What an object of static storage duration owns, where its type is complete.
-fn object_length(work: &Work, k: u32) -> Result<Option<u64>, NoMemory>
-    ensures { IfOk result (λ n. (s : State) → Shows work.now s → static_length s (slice_get s.statics k) ≡ n) }
+fn object_length(work: &Work, k: u32) -> Option<u64>
+    ensures { (s : State) → Shows work.now s → static_length s (slice_get s.statics k) ≡ result }
 {
     match work.nodes.p.globals.as_slice().get(k as usize) {
-        None => Ok(None),
-        Some(g) => match work.nodes.scopes.layout(&work.nodes.p, g.of) {
-            Err(LayoutFault::Incomplete) => Ok(None),
-            Err(LayoutFault::TooLarge) => Err(NoMemory),
-            Ok(layout) => Ok(Some(owned_bytes(layout.size))),
-        },
-    }
-}
-
-// What a string literal owns.
-fn literal_length(work: &Work, k: u32) -> Result<Option<u64>, NoMemory>
-    ensures { IfOk result (λ n. (s : State) → Shows work.now s → text_length (slice_get s.texts k) ≡ n) }
-{
-    match work.nodes.p.literals.as_slice().get(k as usize) {
-        None => Ok(None),
-        Some(text) => {
-            let bytes = text.bytes.as_slice().len() as u64;
-            if bytes > LIMIT {
-                return Err(NoMemory);
+        None => None,
+        Some(g) => {
+            if work.nodes.scopes.is_complete(&work.nodes.p, g.of) {
+                Some(owned_bytes(size_of(work, g.of)))
+            } else {
+                None
             }
-            Ok(Some(owned_bytes(bytes)))
         }
     }
 }
 
+// So many bytes, within the limit of a size.
+fn fitting(n: u64) -> u64
+    ensures is { result ≡ fitting n }
+    ensures small { result ≤ size_limit }
+{
+    if n <= LIMIT { n } else { 0 }
+}
+
+// What a string literal owns.
+fn literal_length(work: &Work, k: u32) -> Option<u64>
+    ensures { (s : State) → Shows work.now s → text_length (slice_get s.texts k) ≡ result }
+{
+    match work.nodes.p.literals.as_slice().get(k as usize) {
+        None => None,
+        Some(text) => Some(owned_bytes(fitting(text.bytes.as_slice().len() as u64))),
+    }
+}
+
 // The bytes that an object or a literal owns, where its type is complete.
-fn aim_length(work: &Work, target: Target) -> Result<Option<u64>, NoMemory>
-    ensures { IfOk result (λ n. (s : State) → Shows work.now s → aim_length s (aim_of target) ≡ n) }
+fn aim_length(work: &Work, target: Target) -> Option<u64>
+    ensures { (s : State) → Shows work.now s → aim_length s (aim_of target) ≡ result }
 {
     match target {
-        Target::Fun(_) => Ok(None),
+        Target::Fun(_) => None,
         Target::Literal(k) => literal_length(work, k),
         Target::Global(k) => object_length(work, k),
     }
@@ -142,7 +146,7 @@ fn moved_to(
             let near = is_near(low, length, offset);
             Ok(place_if(near, target, bounds, offset, asks))
         }
-        Bounds::Whole => match aim_length(work, target)? {
+        Bounds::Whole => match aim_length(work, target) {
             Some(length) => {
                 let near = is_near(0, length, offset);
                 Ok(place_if(near, target, bounds, offset, asks))
@@ -212,7 +216,7 @@ fn narrowed_in(
             let lies = lies_in(low, length, at, n);
             Ok(place_if(lies, target, part, offset, asks))
         }
-        Bounds::Whole => match aim_length(work, target)? {
+        Bounds::Whole => match aim_length(work, target) {
             Some(length) => {
                 let lies = at + u128::from(n) <= u128::from(length);
                 Ok(place_if(lies, target, part, offset, asks))
@@ -288,22 +292,22 @@ pub(crate) fn pointed_at(work: &Work, node: u32, x: Known) -> Result<Option<Know
     ensures within { (n : ℕ) → IsWithin n x.value → IfOk result (AreWithin n) }
 {
     if work.nodes.fact(node).member {
-        let n = size_of(work, work.nodes.of(node))?;
-        narrowed(work, owned_bytes(n), x)
+        let n = owned_bytes(size_of(work, work.nodes.of(node)));
+        narrowed(work, n, x)
     } else {
         Ok(Some(x))
     }
 }
 
 // The size of what a pointer points to; 1 for another type.
-pub(crate) fn target_size(work: &Work, of: u32) -> Result<u64, NoMemory>
+pub(crate) fn target_size(work: &Work, of: u32) -> u64
     requires whole { IsWhole work.now.nodes }
     requires there { of < type_count work.now.nodes }
-    ensures is { IfOk result (λ n. (s : State) → Shows work.now s → target_size s (type_in work.now.nodes of) ≡ n) }
-    ensures small { IfOk result (λ n. n ≤ 67108864) }
+    ensures is { (s : State) → Shows work.now s → target_size s (type_in work.now.nodes of) ≡ result }
+    ensures small { result ≤ size_limit }
 {
     match work.nodes.target(of) {
-        None => Ok(1),
+        None => 1,
         Some(t) => size_of(work, t),
     }
 }

@@ -1,6 +1,6 @@
 //! The members of structs and unions with their offsets (C11 6.7.2.1).
 
-ghost use Rattle.std.specs.Prelude.{◌≡◌, ◌+◌, ◌<◌, ◌≤◌, IfOk, IfSome};
+ghost use Rattle.std.specs.Prelude.{◌≡◌, ◌+◌, ◌<◌, ◌≤◌, IfOk};
 ghost use Rattle.cap_concentrate.specs.Rounding.{rounded_up};
 ghost use Rattle.cap_layout.specs.Answers.{extent_is, greatest_align};
 ghost use Rattle.c_tree.specs.Layout.{size_limit, member_offset, behind, no_members};
@@ -13,11 +13,8 @@ ghost use Rattle.c_initializers.specs.Places.{IsRecord, IsNext, IsTagCount};
 use crate::places::Place;
 use c_elaborator::Work;
 use c_tree::{Member, RecordKind};
-use cap_layout::{Layout, LayoutFault, owned};
+use cap_layout::{LIMIT, Layout, owned};
 use ck_base::NoMemory;
-
-/// The greatest size of a type, in bytes.
-pub(crate) const LIMIT: u64 = 67108864;
 
 /// A struct or union, and its members, if it is complete.
 #[derive(Clone, Copy)]
@@ -101,23 +98,23 @@ fn behind(m: Layout, end: Layout) -> Layout
     }
 }
 
-// The next member of a struct behind the end of those before it; none where its type is not complete.
-fn next_of(work: &Work, of: u32, end: Layout) -> Result<Option<Next>, NoMemory>
+// The next member of a struct behind the end of those before it; none where its type is not complete, or one of them is
+// over the limit.
+fn next_of(work: &Work, of: u32, end: Layout) -> Option<Next>
     requires { of < type_count work.now.nodes }
-    ensures { IfOk result (λ n. IsNext work.now of end n) }
+    ensures { IsNext work.now of end result }
 {
     if end.size > LIMIT {
-        return Err(NoMemory);
+        return None;
     }
     match work.nodes.scopes.layout(&work.nodes.p, of) {
-        Err(LayoutFault::Incomplete) => Ok(None),
-        Err(LayoutFault::TooLarge) => Err(NoMemory),
+        Err(_) => None,
         Ok(m) => {
             let at = start_of(m, end);
-            Ok(Some(Next {
+            Some(Next {
                 place: Place { at, of },
                 end: behind(m, end),
-            }))
+            })
         }
     }
 }
@@ -130,7 +127,7 @@ fn struct_places(work: &Work, members: &[Member]) -> Result<Vec<Place>, NoMemory
     let mut places = Vec::new(work.nodes.alloc);
     let mut end = Layout { size: 0, align: 1 };
     for m in members {
-        match next_of(work, work.there(m.of), end)? {
+        match next_of(work, work.there(m.of), end) {
             None => return Ok(places),
             Some(next) => {
                 places.push(next.place)?;

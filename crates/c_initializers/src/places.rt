@@ -48,7 +48,7 @@ pub fn places_of(work: &Work, of: u32, count: usize) -> Result<Places, NoMemory>
     match work.nodes.class(base) {
         Class::Array(element, length) => Ok(Places::Elements {
             of: element,
-            size: size_of(work, element)? as u32,
+            size: size_of(work, element) as u32,
             count: length,
         }),
         Class::Tagged(tag) => Ok(Places::Members(first_members(work, tag, count)?)),

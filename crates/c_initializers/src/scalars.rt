@@ -179,13 +179,14 @@ fn push_parts(
     requires there { of < type_count work.now.nodes }
     requires cursor { IsCursor cursor.old }
     ensures cursor { OnOk result (StaysCursor cursor.old cursor.new) }
-    ensures walks { OnOk result (Walks work.now cursor.old.extents.now rows.old.items places.old.items rows.new.items places.new.items
-        (type_steps work.now tags (type_in work.now.nodes of)) (λ s. scalars_of s (tag_scalars tags s) (type_in work.now.nodes of) at)) }
+    ensures walks { OnOk result (Walks work.now cursor.old.extents.now rows.old.items places.old.items rows.new.items
+        places.new.items (type_steps work.now tags (type_in work.now.nodes of))
+        (λ s. scalars_of s (tag_scalars tags s) (type_in work.now.nodes of) at)) }
 {
     match work.nodes.class(of) {
         Class::Array(element, count) => {
             check_room(places.as_slice(), most, count)?;
-            let step = size_of(work, element)?;
+            let step = size_of(work, element);
             let row = Row {
                 at,
                 of: element,
@@ -214,8 +215,8 @@ fn walk(
     requires there { IsRowThere work.now row }
     requires cursor { IsCursor cursor.old }
     ensures cursor { OnOk result (StaysCursor cursor.old cursor.new) }
-    ensures walks { OnOk result (Walks work.now cursor.old.extents.now rows.old.items places.old.items rows.new.items places.new.items
-        (row_steps work.now row) (λ s. row_scalars work.now s row)) }
+    ensures walks { OnOk result (Walks work.now cursor.old.extents.now rows.old.items places.old.items rows.new.items
+        places.new.items (row_steps work.now row) (λ s. row_scalars work.now s row)) }
 {
     if row.count == 0 {
         return Ok(());

@@ -1,8 +1,8 @@
 //! Sizes of types, and their completion (C11 6.7.9p22).
 
-ghost use Rattle.std.specs.Prelude.{◌≡◌, ◌<◌, ◌≤◌, true, IfOk};
+ghost use Rattle.std.specs.Prelude.{◌≡◌, ◌<◌, ◌≤◌};
 ghost use Rattle.c_tree.specs.Layout.{size_limit};
-ghost use Rattle.c_tree.specs.Scopes.{State, size, is_complete};
+ghost use Rattle.c_tree.specs.Scopes.{State, size};
 ghost use Rattle.c_tree.specs.Declarations.{complete_now};
 ghost use Rattle.c_expressions.specs.Nodes.{IsWhole, type_in, type_count};
 ghost use Rattle.c_elaborator.specs.Work.{Shows};
@@ -12,17 +12,16 @@ ghost use Rattle.c_initializers.specs.Places.{stripped};
 use c_elaborator::Work;
 use c_expressions::Class;
 use cap_layout::LayoutFault;
-use ck_base::{NoMemory, Pos, Refusal};
+use ck_base::{Pos, Refusal};
 
-/// The bytes of a type; none where it is not complete. No object has a type of more than 67,108,864 bytes.
-pub fn size_of(work: &Work, t: u32) -> Result<u64, NoMemory>
-    ensures is { IfOk result (λ n. (s : State) → Shows work.now s → size s (type_in work.now.nodes t) ≡ n) }
-    ensures small { IfOk result (λ n. n ≤ size_limit) }
+/// The bytes of a type; none where it is not complete, or over the limit.
+pub fn size_of(work: &Work, t: u32) -> u64
+    ensures is { (s : State) → Shows work.now s → size s (type_in work.now.nodes t) ≡ result }
+    ensures small { result ≤ size_limit }
 {
     match work.nodes.scopes.layout(&work.nodes.p, t) {
-        Ok(layout) => Ok(layout.size),
-        Err(LayoutFault::Incomplete) => Ok(0),
-        Err(LayoutFault::TooLarge) => Err(NoMemory),
+        Ok(layout) => layout.size,
+        Err(_) => 0,
     }
 }
 

@@ -58,7 +58,7 @@ fn add_start(work: &Work, x: Slot, v: &Known, found: &mut Found) -> Result<(), N
 {
     match v.value {
         Value::Number(number) => {
-            let width = size_of(work, x.of)?;
+            let width = size_of(work, x.of);
             found.numbers.push(Placed {
                 at: x.at,
                 width,

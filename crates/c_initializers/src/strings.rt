@@ -106,7 +106,8 @@ fn string_in(
 ) -> Result<Filled, Refusal>
     requires whole { IsWhole nodes.old }
     requires there { of < type_count nodes.old }
-    ensures { Built nodes.old nodes.new (string_filled bytes.now pos whole (type_in nodes.old of) at) IsFilledIn result }
+    ensures { Built nodes.old nodes.new (string_filled bytes.now pos whole (type_in nodes.old of) at) IsFilledIn
+        result }
 {
     let count = bytes.len() as u64;
     let (element, length) = row_of(nodes, of);
@@ -162,7 +163,8 @@ fn plain_in(nodes: &mut Nodes, x: Operand, of: u32, at: u64) -> Result<Slot, Ref
     requires whole { IsWhole nodes.old }
     requires there { of < type_count nodes.old }
     requires operand { x.node < term_count nodes.old }
-    ensures { Built nodes.old nodes.new (plain_slot (type_in nodes.old of) at (operand_in nodes.old x)) IsSlotIn result }
+    ensures { Built nodes.old nodes.new (plain_slot (type_in nodes.old of) at (operand_in nodes.old x)) IsSlotIn
+        result }
 {
     match nodes.assigned(of, x) {
         Err(refusal) => Err(refusal),

@@ -3,6 +3,7 @@ pub mod Arguments
 pub mod Calling
 pub mod Declaring
 pub mod Depth
+pub mod Filling
 pub mod Folding
 pub mod Gathering
 pub mod Kids

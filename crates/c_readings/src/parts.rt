@@ -16,10 +16,11 @@ ghost use Rattle.c_tree.specs.Declarators.{member_declarators, parameter_of, par
 ghost use Rattle.c_elaborator.specs.Work.{Shows};
 ghost use Rattle.c_tree.specs.declared.syntax.Selection.TheVariants as selections;
 ghost use Rattle.c_tree.specs.Programs.{reading, readings, type_of_kind};
+ghost use Rattle.c_types.specs.Naming.{IsTagOf};
 ghost use Rattle.c_expressions.specs.Nodes.{IsWhole};
 ghost use Rattle.c_elaborator.specs.Answers.{Answers, quietly, OperandThere, IsOperand, TypeThere, IsType};
-ghost use Rattle.c_elaborator.specs.Answers.{NothingThere};
-ghost use Rattle.c_elaborator.specs.Answers.{IsNothing};
+ghost use Rattle.c_elaborator.specs.Answers.{NothingThere, IsNothing};
+ghost use Rattle.c_elaborator.specs.Shown.{AnswersFor};
 ghost use Rattle.c_elaborator.specs.Parts.{IsPart, AreParts, token_of, IsOf, AreOf, AreEnumerators, HasParameters};
 ghost use Rattle.c_declarators.specs.Parts.{in_any, SpecifiedThere, IsSpecified, ConstantThere, IsConstant};
 ghost use Rattle.c_declarators.specs.Parts.{NumberThere, IsNumber, AreMembers, AllMembersThere, AreAllMembers};
@@ -966,7 +967,7 @@ fn tagged_record(
     filled(work, kind, tag, members, name.pos, pos, depth)
 }
 
-// A struct or union gets its members, from the braces on. Its rules stand at its tag and at its keyword.
+// A struct or union of this kind gets its members, from the braces on. Its rules stand at its tag and at its keyword.
 #[cycle(parts)]
 fn filled(
     work: &mut Work<'_>,
@@ -980,12 +981,13 @@ fn filled(
     requires whole { IsWhole work.old.nodes }
     requires parts { PartsWithin work.old depth kids.now }
     ensures { (xs : Syns) → AreParts work.old kids.now xs →
-        Answers quietly work.old work.new (filled kind tag (readings xs) at keyword) TypeThere IsType result }
+        AnswersFor quietly work.old work.new (IsTagOf kind tag) (λ n. filled kind n (readings xs) at keyword) TypeThere
+        IsType result }
 {
     begin_tag(work, tag, at)?;
     let members = all_members(work, kids, depth)?;
     complete_tag(work, kind, tag, members.all, keyword)?;
-    tagged(work, tag)
+    Ok(tagged(work, tag))
 }
 
 #[cycle(parts)]

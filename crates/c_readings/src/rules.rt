@@ -68,7 +68,7 @@ pub(crate) fn named_record(
         (named_record kind alone (token_of work.old name)) TypeThere IsType result }
 {
     let tag = named_tag(work, alone, kind, name)?;
-    tagged(work, tag)
+    Ok(tagged(work, tag))
 }
 
 /// An enumeration by its tag alone.

@@ -19,7 +19,7 @@ use Rattle.c_tree.specs.Declarations.{linked_routine, new_local, is_external}
 use Rattle.c_tree.specs.Programs.{is_typedef}
 use Rattle.c_types.specs.Declares.{declares_alias, declares_function, declares_definition, declares_global}
 use Rattle.c_types.specs.Declares.{declares_external, declares_internal, declares_local, declares_in_block}
-use Rattle.c_types.specs.Declares.{declares_object, declares_named, denoted, may_wait, is_ready}
+use Rattle.c_types.specs.Declares.{declares_object, declares_named, giving, function_of}
 use Rattle.c_types.specs.Naming.{begins}
 use Rattle.c_elaborator.proofs.Using.{changed_same}
 
@@ -35,7 +35,7 @@ pub holds_need : {A : Type 0} (Q : A → State → Type 0) (b : Bool) (code : �
 holds_need Q true code p d s h = h refl
 holds_need Q false code p d s h = tt
 
-sound : (a b : Bool) → not (a || b) ≡ true → b ≡ false
+pub sound : (a b : Bool) → not (a || b) ≡ true → b ≡ false
 sound a false e = refl
 sound true true e = absurd cc
 sound false true e = absurd cc
@@ -172,34 +172,49 @@ left_local t of s = record {
   locals = inr (map-append (λ (v : LocalState). v.addressed) s.locals _);
 }
 
+-- an entity is given in place of a number
+left_giving : (s : State) (d : Doing ℕ) (of : ℕ → Entity) → Holds (Leaves s) (d s) → Holds (Leaves s) (giving of d s)
+left_giving s d of h = at (d s) h
+  where
+    at : (r : Result (ℕ × State) Fault) → Holds (Leaves s) r → Holds (Leaves s) (continued r (λ k. give (of k)))
+    at (Ok x) k = k
+    at (Err e) k = tt
+
 -- ---- each declaration
 
 left_alias : (t : Lexeme) (f : Formed) (b : Bool) (s : State) → Holds (Leaves s) (declares_alias t f b s)
-left_alias t f b s = holds_admitted (Leaves s) _ f false b t.pos (change (bind_name t.text (Alias f.of))) s
+left_alias t f b s =
+    holds_admitted (Leaves s) _ f false b t.pos (change (bind_name t.text (Alias f.of)) >> give (Alias f.of)) s
     (λ p q. enters_name t.text (Alias f.of) s)
 
 left_declared_function : (t : Lexeme) (f : Formed) (b : Bool) (s : State) → Holds (Leaves s) (declares_function t f b s)
 left_declared_function t f b s =
-    holds_admitted (Leaves s) _ f false _ t.pos (linked_routine t f.of (find_in (innermost s.scopes).names t.text)) s
-    (λ p q. left_function t f.of (find_in (innermost s.scopes).names t.text) s)
+    let o = find_in (innermost s.scopes).names t.text in
+    holds_admitted (Leaves s) _ f false _ t.pos (giving (function_of o) (linked_routine t f.of o)) s
+    (λ p q. left_giving s (linked_routine t f.of o) (function_of o) (left_function t f.of o s))
 
 left_global : (st : Storage) (t : Lexeme) (f : Formed) (b : Bool) (s : State) →
     Holds (Leaves s) (declares_global st t f b s)
-left_global st t f b s = holds_admitted (Leaves s) _ f _ false t.pos
-    (linked_static t f.of (b || not (is_external st)) (linked s t.text)) s
-    (λ p q. left_linked t f.of (b || not (is_external st)) (linked s t.text) s)
+left_global st t f b s =
+    let d = linked_static t f.of (b || not (is_external st)) (linked s t.text) in
+    holds_admitted (Leaves s) _ f _ false t.pos (giving Static d) s
+    (λ p q. left_giving s d Static (left_linked t f.of (b || not (is_external st)) (linked s t.text) s))
 
 left_external : (t : Lexeme) (f : Formed) (b : Bool) (s : State) → Holds (Leaves s) (declares_external t f b s)
-left_external t f b s = holds_admitted (Leaves s) _ f false b t.pos (linked_static t f.of false (linked s t.text)) s
-    (λ p q. left_linked t f.of false (linked s t.text) s)
+left_external t f b s =
+    let d = linked_static t f.of false (linked s t.text) in
+    holds_admitted (Leaves s) _ f false b t.pos (giving Static d) s
+    (λ p q. left_giving s d Static (left_linked t f.of false (linked s t.text) s))
 
 left_internal : (t : Lexeme) (f : Formed) (b : Bool) (s : State) → Holds (Leaves s) (declares_internal t f b s)
-left_internal t f b s = holds_admitted (Leaves s) _ f _ false t.pos (new_static t f.of false true) s
-    (λ p q. left_static t f.of false true s)
+left_internal t f b s =
+    holds_admitted (Leaves s) _ f _ false t.pos (giving Static (new_static t f.of false true)) s
+    (λ p q. left_giving s (new_static t f.of false true) Static (left_static t f.of false true s))
 
 left_declared_local : (t : Lexeme) (f : Formed) (b : Bool) (s : State) → Holds (Leaves s) (declares_local t f b s)
 left_declared_local t f b s =
-    holds_admitted (Leaves s) _ f _ false t.pos (new_local t f.of) s (λ p q. left_local t f.of s)
+    holds_admitted (Leaves s) _ f _ false t.pos (giving (λ k. Local k f.of) (new_local t f.of)) s
+    (λ p q. left_giving s (new_local t f.of) (λ k. Local k f.of) (left_local t f.of s))
 
 left_in_block : (st : Storage) (t : Lexeme) (f : Formed) (b : Bool) (s : State) →
     Holds (Leaves s) (declares_in_block st t f b s)
@@ -217,49 +232,20 @@ left_object st t f b s =
     (holds_if (Leaves s) (at_file_scope s) (declares_global st t f b) (declares_in_block st t f b) s
     (left_global st t f b s) (left_in_block st t f b s))
 
-left_denoted : {A : Type 0} (t : Lexeme) (s : State) (d : Doing A) → Holds (Leaves s) (d s) →
-    Holds (Leaves s) (denoted t d s)
-left_denoted {A} t s d h = at (d s) h
-  where
-    at : (r : Result (A × State) Fault) → Holds (Leaves s) r →
-        Holds (Leaves s) (continued r (λ a. look >>= λ u. give (find_in (innermost u.scopes).names t.text)))
-    at (Ok x) k = k
-    at (Err e) k = tt
-
 left_named : (st : Storage) (t : Lexeme) (f : Formed) (b : Bool) (s : State) →
     Holds (Leaves s) (declares_named st t f b s)
-left_named Defining_type t f b s = left_denoted t s (declares_alias t f b) (left_alias t f b s)
-left_named Plain t f b s = left_denoted t s (declares_object Plain t f b) (left_object Plain t f b s)
-left_named Internal t f b s = left_denoted t s (declares_object Internal t f b) (left_object Internal t f b s)
-left_named External t f b s = left_denoted t s (declares_object External t f b) (left_object External t f b s)
+left_named Defining_type t f b s = left_alias t f b s
+left_named Plain t f b s = left_object Plain t f b s
+left_named Internal t f b s = left_object Internal t f b s
+left_named External t f b s = left_object External t f b s
 
 pub holds_at : {A : Type 0} (Q : A → State → Type 0) (r : Result (A × State) Fault) (a : A) (t : State) →
     r ≡ Ok (a, t) → Holds Q r → Q a t
 holds_at Q r a t e h = subst (Holds Q) e h
 
-pub named_leaves : (st : Storage) (t : Lexeme) (f : Formed) (b : Bool) (s : State) (o : Option Entity) (u : State) →
-    declares_named st t f b s ≡ Ok (o, u) → Enters s u
-named_leaves st t f b s o u e = holds_at (Leaves s) (declares_named st t f b s) o u e (left_named st t f b s)
-
--- what is given is what the name denotes then
-pub denoted_value : (st : Storage) (t : Lexeme) (f : Formed) (b : Bool) (s : State) (o : Option Entity) (u : State) →
-    declares_named st t f b s ≡ Ok (o, u) → find_in (innermost u.scopes).names t.text ≡ o
-denoted_value st t f b s o u e =
-    holds_at (λ (p : Option Entity) v. find_in (innermost v.scopes).names t.text ≡ p) (declares_named st t f b s) o u e
-    (named st)
-  where
-    at : {A : Type 0} (r : Result (A × State) Fault) →
-        Holds (λ (p : Option Entity) v. find_in (innermost v.scopes).names t.text ≡ p)
-        (continued r (λ a. look >>= λ v. give (find_in (innermost v.scopes).names t.text)))
-    at (Ok x) = refl
-    at (Err y) = tt
-
-    named : (c : Storage) → Holds (λ (p : Option Entity) v. find_in (innermost v.scopes).names t.text ≡ p)
-        (declares_named c t f b s)
-    named Defining_type = at (declares_alias t f b s)
-    named Plain = at (declares_object Plain t f b s)
-    named Internal = at (declares_object Internal t f b s)
-    named External = at (declares_object External t f b s)
+pub named_leaves : (st : Storage) (t : Lexeme) (f : Formed) (b : Bool) (s : State) (e : Entity) (u : State) →
+    declares_named st t f b s ≡ Ok (e, u) → Enters s u
+named_leaves st t f b s e u i = holds_at (Leaves s) (declares_named st t f b s) e u i (left_named st t f b s)
 
 -- ---- definitions of functions
 

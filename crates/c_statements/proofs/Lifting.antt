@@ -1,32 +1,28 @@
 -- What the work shows once a name is declared.
 use Rattle.std.proofs.Common.{◌≡◌, ℕ, zero, suc, ◌+◌, ◌<◌, ◌≤◌, Bool, true, false, ◌⊎◌, inl, inr, ⊎_elim, List, [], ◌∷◌}
-use Rattle.std.proofs.Common.{◌++◌, length, map, Option, Some, None, Result, Ok, Err, refl, sym, ap, subst, ◌∙◌, arith}
+use Rattle.std.proofs.Common.{◌++◌, length, map, Some, None, Result, Ok, Err, refl, sym, ap, subst, ◌∙◌, arith}
 use Rattle.std.proofs.Common.{length-append}
-use Rattle.std.specs.Prelude.{slice_get, option_map, ◌==◌, ◌||◌, if◌then◌else◌}
+use Rattle.std.specs.Prelude.{slice_get, ◌==◌, ◌||◌, if◌then◌else◌}
 use Rattle.std.specs.Global.{Vec}
 use Rattle.std.proofs.lemmas.Bool.{ne_eqb}
 use Rattle.ck_base.specs.declared.positions.Pos.{Pos}
 use Rattle.ck_base.specs.declared.refusal.Refusal.{Refusal}
 use Rattle.ck_base.specs.declared.refusal.Refusal.TheVariants.{Code, NoMemory}
-use Rattle.ck_base.specs.Tokens.{Lexeme}
 use Rattle.c_tree.specs.declared.typed.Typed.{Typed}
 use Rattle.c_tree.specs.declared.typed.VarDef.{VarDef}
-use Rattle.c_tree.specs.Scopes as meant
-use Rattle.c_tree.specs.Scopes.{StaticState, RoutineState, LocalState, State, Doing, Fault, give, look, continued}
-use Rattle.c_tree.specs.Scopes.{◌>>=◌, find_in, innermost}
+use Rattle.c_tree.specs.Scopes.{StaticState, RoutineState, LocalState, State}
 use Rattle.c_tree.specs.Declarators.{Formed}
 use Rattle.c_tree.specs.Views.{types_of, actions_of, text_of}
 use Rattle.c_types.specs.declared.scopes.Scopes.{Scopes}
 use Rattle.c_types.specs.declared.entries.Decl.{Decl}
 use Rattle.c_types.specs.declared.entries.DeclKind.{DeclKind}
 use Rattle.c_types.specs.declared.entries.DeclKind.TheVariants as kinds
-use Rattle.c_types.specs.declared.entries.Entity.{Entity}
-use Rattle.c_types.specs.declared.entries.Entity.TheVariants as entities
 use Rattle.c_types.specs.declared.entries.Entry.{Entry}
-use Rattle.c_types.specs.Stands.{Stands, text_at, entity_kept, entity_seen}
-use Rattle.c_types.specs.Calls.{Does, Fails, Given, Extends, IsDenoted, DeclaresKind, declares_kind}
+use Rattle.c_types.specs.Stands.{Stands}
+use Rattle.c_types.specs.Calls.{Does, Extends, IsDeclared, Declares, DeclaresKind}
 use Rattle.c_types.specs.Calls as types
-use Rattle.c_types.specs.Declares.{declares_named, declares_definition, denoted, storage_of, name_of, formed_of}
+use Rattle.c_types.specs.Declares.{declares_named, declares_definition, storage_of, name_of, formed_of}
+use Rattle.c_types.specs.Naming.{IsNumber}
 use Rattle.c_types.proofs.Looking.{seen_at, seen_length}
 use Rattle.c_expressions.specs.declared.nodes.Nodes.{Nodes}
 use Rattle.c_expressions.specs.Nodes.{IsWhole, type_count}
@@ -41,10 +37,9 @@ use Rattle.c_elaborator.specs.Work.{is_among, filling_of, definition_of, option_
 use Rattle.c_elaborator.specs.Answers.{Keeps, freely, Done, Answers}
 use Rattle.c_elaborator.proofs.Extending.{AreExtended, extends_goes_on, extended_whole, extended_keeps, extended_values}
 use Rattle.c_elaborator.proofs.Extending.{extended_definition}
-use Rattle.c_statements.specs.Declaring.{DeclaresIn, declares, begins, EntityThere, IsEntity, FunctionThere, IsFunction}
+use Rattle.c_statements.specs.Declaring.{declares, begins, EntryThere, IsEntry, FunctionThere, IsFunction, BeginsIn}
 use Rattle.c_statements.proofs.Leaving.{AddsFresh, static_facts, no_static, routine_facts, no_routine, Enters, Begins}
-use Rattle.c_statements.proofs.Leaving.{named_leaves, definition_leaves, denoted_value}
-use Rattle.c_statements.proofs.Meaning.{definition_number}
+use Rattle.c_statements.proofs.Leaving.{named_leaves, definition_leaves}
 
 -- ---- what is there, and what is new
 
@@ -198,7 +193,9 @@ module _ (w : Work) (sc : Scopes) (q : Typed) (ks : Vec ℕ) (s t : State) (whol
 
   definition_there : (d : Definition) → DefinitionIsThere w s d → DefinitionIsThere (with_declared w sc q ks) t d
   definition_there d a = record {
-    function = (let l : length s.routines ≤ length t.routines = longer routine_facts no_routine s.routines t.routines routines in let f : d.function < length s.routines = a.function in omega arith);
+    function = (let l : length s.routines ≤ length t.routines =
+        longer routine_facts no_routine s.routines t.routines routines in
+        let f : d.function < length s.routines = a.function in omega arith);
     body = rw ext.stmts a.body;
     vars = λ j v g. (let f : v.of < length w.nodes.p.types = a.vars j v g in
         let l : length w.nodes.p.types ≤ length q.types = ext.count in omega arith);
@@ -253,23 +250,19 @@ shows_named w sc q s t whole ext fl h stands e =
     (known (λ (v : LocalState). v.addressed) false s.locals t.locals k v e.locals g))
     (λ k j g. let l : j < length s.locals = h.closed.addressed k j g in omega arith)
 
-pub named_kind : (k : DeclKind) (file : List ℕ) (before : Scopes) (p : Typed) (after : Scopes) (q : Typed) (d : Decl)
+named_kind : (k : DeclKind) (file : List ℕ) (before : Scopes) (p : Typed) (after : Scopes) (q : Typed) (d : Decl)
     (r : Result Entry Refusal) → k ≡ kinds.Object → DeclaresKind k file before p after q d r →
     types.Answers before p after q (declares_named (storage_of d.storage) (name_of file d) (formed_of p d) d.defines)
-    (IsDenoted q) r
+    (IsDeclared q) r
 named_kind k file before p after q d r e h = subst (λ (j : DeclKind). DeclaresKind j file before p after q d r) e h
 
-pub named_done : (w : Work) (sc : Scopes) (q : Typed) (d : Decl) (x : Entity)
-    (F : State → Option meant.Entity → Type 0) → IsWhole w.nodes → Extends w.nodes.p q →
+named_done : (w : Work) (sc : Scopes) (q : Typed) (d : Decl) (x : Entry) → IsWhole w.nodes → Extends w.nodes.p q →
     sc.file.now ≡ w.nodes.scopes.file.now →
     Does w.nodes.scopes w.nodes.p sc q (declares_named (storage_of d.storage) (name_of w.nodes.scopes.file.now d)
-    (formed_of w.nodes.p d) d.defines) F →
-    ((s : State) → Shows (with_declared w sc q w.addressed) s →
-    IsEntity (with_declared w sc q w.addressed) x s
-    (find_in (innermost s.scopes).names (text_at w.file.now d.name))) →
+    (formed_of w.nodes.p d) d.defines) (IsDeclared q x) →
     Done freely w (with_declared w sc q w.addressed) (declares w d) (Unit {0})
-    (IsEntity (with_declared w sc q w.addressed) x)
-named_done w sc q d x F whole ext fl does look = record {
+    (IsEntry (with_declared w sc q w.addressed) x)
+named_done w sc q d x whole ext fl does = record {
   whole = whole_declared w sc q whole ext fl;
   grows = keeps_declared w sc q w.addressed whole ext fl;
   there = tt;
@@ -280,91 +273,62 @@ named_done w sc q d x F whole ext fl does look = record {
       let is : declares w d s ≡ Ok (g.value, g.state) =
       subst (λ (file : List ℕ). declares_named st (name_of file d) f d.defines s ≡ Ok (g.value, g.state))
       h.closed.file g.is in
-      let shows = shows_named w sc q s g.state whole ext fl h g.stands
-      (named_leaves st (name_of w.file.now d) f d.defines s g.value g.state is) in
       record {
         value = g.value;
         state = g.state;
         is = is;
         stays = tt;
-        shows = shows;
-        fits = subst (IsEntity (with_declared w sc q w.addressed) x g.state)
-            (denoted_value st (name_of w.file.now d) f d.defines s g.value g.state is) (look g.state shows);
+        shows = shows_named w sc q s g.state whole ext fl h g.stands
+            (named_leaves st (name_of w.file.now d) f d.defines s g.value g.state is);
+        fits = g.fits;
       };
 }
 
-pub named_failed : (w v : Work) (n : Nodes) (d : Decl) (r : Refusal) → d.what ≡ kinds.Object →
-    d.of < type_count w.nodes → DeclaresIn w.nodes n d (Err r) →
-    Answers freely w v (declares w d) EntityThere IsEntity (Err r)
-named_failed w v n d (Code code place) e l a = λ s h.
-    let f = named_kind d.what w.nodes.scopes.file.now w.nodes.scopes w.nodes.p n.scopes n.p d (Err (Code code place)) e
-    (a l) in
-    subst (λ (file : List ℕ). declares_named (storage_of d.storage) (name_of file d) (formed_of w.nodes.p d) d.defines s
-    ≡ Err (record { code = code; place = place })) h.closed.file (f.refused s h.stands)
-named_failed w v n d NoMemory e l a = tt
+-- the work on which a name is declared answers as the scopes and the program do
+pub named_answers : (w : Work) (sc : Scopes) (q : Typed) (d : Decl) (r : Result Entry Refusal) → d.what ≡ kinds.Object →
+    IsWhole w.nodes → d.of < type_count w.nodes → Extends w.nodes.p q → sc.file.now ≡ w.nodes.scopes.file.now →
+    Declares w.nodes.scopes.file.now w.nodes.scopes w.nodes.p sc q d r →
+    Answers freely w (with_declared w sc q w.addressed) (declares w d) EntryThere IsEntry r
+named_answers w sc q d r e whole l ext fl a =
+    by_result r (named_kind d.what w.nodes.scopes.file.now w.nodes.scopes w.nodes.p sc q d r e (a l))
+  where
+    by_result : (r : Result Entry Refusal) →
+        types.Answers w.nodes.scopes w.nodes.p sc q (declares_named (storage_of d.storage)
+        (name_of w.nodes.scopes.file.now d) (formed_of w.nodes.p d) d.defines) (IsDeclared q) r →
+        Answers freely w (with_declared w sc q w.addressed) (declares w d) EntryThere IsEntry r
+    by_result (Ok x) g = named_done w sc q d x whole ext fl g
+    by_result (Err (Code code place)) g = λ s h.
+        subst (λ (file : List ℕ). declares_named (storage_of d.storage) (name_of file d) (formed_of w.nodes.p d)
+        d.defines s ≡ Err (record { code = code; place = place })) h.closed.file (g.refused s h.stands)
+    by_result (Err NoMemory) g = tt
 
 -- ---- a definition is begun
 
-pub definition_kind : (k : DeclKind) (file : List ℕ) (before : Scopes) (p : Typed) (after : Scopes) (q : Typed)
-    (d : Decl) (r : Result Entry Refusal) → k ≡ kinds.Fun → d.defines ≡ true →
-    DeclaresKind k file before p after q d r →
-    types.Answers before p after q (denoted (name_of file d)
-    (declares_definition (storage_of d.storage) (name_of file d) (formed_of p d))) (IsDenoted q) r
-definition_kind k file before p after q d r e b h =
-    let t : Lexeme = name_of file d in
-    let g = subst (λ (j : DeclKind). DeclaresKind j file before p after q d r) e h in
-    subst (λ (c : Bool). types.Answers before p after q
-    (if c then denoted t (declares_definition (storage_of d.storage) t (formed_of p d))
-    else declares_named (storage_of d.storage) t (formed_of p d) c) (IsDenoted q) r) b g
-
--- what is denoted then was given before
-before_denoted : (t : Lexeme) (d : Doing ℕ) (s : State) (o : Option meant.Entity) (u : State) →
-    denoted t d s ≡ Ok (o, u) → (k : ℕ) × (d s ≡ Ok (k, u))
-before_denoted t d s o u e = at (d s) refl e
-  where
-    left : State → Result (Option meant.Entity × State) Fault → State
-    left v (Ok x) = x.1
-    left v (Err y) = v
-
-    at : (r : Result (ℕ × State) Fault) → d s ≡ r →
-        continued r (λ k. look >>= λ v. give (find_in (innermost v.scopes).names t.text)) ≡ Ok (o, u) →
-        (k : ℕ) × (d s ≡ Ok (k, u))
-    at (Ok x) i h = (x.0, i ∙ ap (λ v. Ok (x.0, v)) (ap (left u) h))
-    at (Err y) i h = absurd cc
-
-pub definition_done : (w : Work) (sc : Scopes) (q : Typed) (ks : Vec ℕ) (d : Decl) (k : ℕ) (x : Entity)
-    (F : State → Option meant.Entity → Type 0) → IsWhole w.nodes → Extends w.nodes.p q →
-    sc.file.now ≡ w.nodes.scopes.file.now → ks.items ≡ [] → x ≡ entities.Routine k →
-    Does w.nodes.scopes w.nodes.p sc q (denoted (name_of w.nodes.scopes.file.now d)
-    (declares_definition (storage_of d.storage) (name_of w.nodes.scopes.file.now d) (formed_of w.nodes.p d))) F →
-    ((s : State) → Shows (with_declared w sc q ks) s →
-    IsEntity (with_declared w sc q ks) x s (find_in (innermost s.scopes).names (text_at w.file.now d.name))) →
+pub definition_done : (w : Work) (sc : Scopes) (q : Typed) (ks : Vec ℕ) (d : Decl) (k : ℕ) → IsWhole w.nodes →
+    Extends w.nodes.p q → sc.file.now ≡ w.nodes.scopes.file.now → ks.items ≡ [] →
+    Does w.nodes.scopes w.nodes.p sc q (declares_definition (storage_of d.storage)
+    (name_of w.nodes.scopes.file.now d) (formed_of w.nodes.p d)) (IsNumber k) →
     Done freely w (with_declared w sc q ks) (begins w d) (Unit {0}) (IsFunction (with_declared w sc q ks) k)
-definition_done w sc q ks d k x F whole ext fl none kind does look = record {
+definition_done w sc q ks d k whole ext fl none does = record {
   whole = whole_declared w sc q whole ext fl;
   grows = keeps_declared w sc q ks whole ext fl;
   there = tt;
   gives = λ s h.
       let st = storage_of d.storage in
       let f : Formed = formed_of w.nodes.p d in
-      let t : Lexeme = name_of w.file.now d in
       let g = does s h.stands in
-      let is : denoted t (declares_definition st t f) s ≡ Ok (g.value, g.state) =
-      subst (λ (file : List ℕ). denoted (name_of file d) (declares_definition st (name_of file d) f) s
-      ≡ Ok (g.value, g.state)) h.closed.file g.is in
-      let b = before_denoted t (declares_definition st t f) s g.value g.state is in
-      let e = definition_leaves st t f s b.0 g.state b.1 in
-      let shows : Shows (with_declared w sc q ks) g.state = shows_declared w sc q ks s g.state whole ext fl h e.statics e.routines g.stands e.tags e.texts e.pending
-      (λ j v i. no_local g.state.locals j v e.locals i) (λ j n i. no_number ks.items j n none i) in
-      let seen = look g.state shows in
-      let same : seen.entity ≡ meant.Routine b.0 = definition_number st t f s b.0 g.state b.1 seen.entity seen.is in
+      let is : begins w d s ≡ Ok (g.value, g.state) =
+      subst (λ (file : List ℕ). declares_definition st (name_of file d) f s ≡ Ok (g.value, g.state))
+      h.closed.file g.is in
+      let e = definition_leaves st (name_of w.file.now d) f s g.value g.state is in
       record {
-        value = b.0;
+        value = g.value;
         state = g.state;
-        is = b.1;
+        is = is;
         stays = tt;
-        shows = shows;
-        fits = number_is (types_of q.types) x k seen.entity b.0 kind seen.seen same;
+        shows = shows_declared w sc q ks s g.state whole ext fl h e.statics e.routines g.stands e.tags e.texts e.pending
+            (λ j v i. no_local g.state.locals j v e.locals i) (λ j n i. no_number ks.items j n none i);
+        fits = g.fits;
       };
 }
   where
@@ -379,33 +343,9 @@ definition_done w sc q ks d k x F whole ext fl none kind does look = record {
     no_number [] j n e g = absurd cc
     no_number (y ∷ ys) j n e g = absurd cc
 
-    number_is : (ts : List _) (x : Entity) (k : ℕ) (e : meant.Entity) (j : ℕ) → x ≡ entities.Routine k →
-        entity_kept ts x ≡ entity_seen e → e ≡ meant.Routine j → j ≡ k
-    number_is ts x k e j a b c =
-        let i : entity_kept ts (entities.Routine k) ≡ entity_seen (meant.Routine j) = ap (entity_kept ts) (sym a) ∙ b ∙ ap entity_seen c in cc
-
-denoted_fails : (t : Lexeme) (d : Doing ℕ) (s : State) (f : Fault) → denoted t d s ≡ Err f → d s ≡ Err f
-denoted_fails t d s f e = at (d s) refl e
-  where
-    at : (r : Result (ℕ × State) Fault) → d s ≡ r →
-        continued r (λ k. look >>= λ v. give (find_in (innermost v.scopes).names t.text)) ≡ Err f → d s ≡ Err f
-    at (Ok x) i h = absurd cc
-    at (Err y) i h = i ∙ (let j : y ≡ f = cc in ap (λ z. Err z) j)
-
-pub definition_failed : (w v : Work) (n : Nodes) (d : Decl) (r : Refusal) → d.what ≡ kinds.Fun → d.defines ≡ true →
-    d.of < type_count w.nodes → DeclaresIn w.nodes n d (Err r) →
-    Answers freely w v (begins w d) FunctionThere IsFunction (Err r)
-definition_failed w v n d (Code code place) e b l a = λ s h.
-    let f = definition_kind d.what w.nodes.scopes.file.now w.nodes.scopes w.nodes.p n.scopes n.p d
-    (Err (Code code place)) e b (a l) in
-    denoted_fails (name_of w.file.now d) (begins w d) s (record { code = code; place = place })
-    (subst (λ (file : List ℕ). denoted (name_of file d)
-    (declares_definition (storage_of d.storage) (name_of file d) (formed_of w.nodes.p d)) s
-    ≡ Err (record { code = code; place = place })) h.closed.file (f.refused s h.stands))
-definition_failed w v n d NoMemory e b l a = tt
-
--- what a name of the innermost scope denotes
-pub entity_found : (w : Work) (x : Entity) (s : State) (o : Option meant.Entity) →
-    Some (entity_kept (types_of w.nodes.p.types) x) ≡ option_map entity_seen o → IsEntity w x s o
-entity_found w x s None h = absurd cc
-entity_found w x s (Some e) h = record { entity = e; is = refl; seen = cc }
+pub definition_failed : (w v : Work) (n : Nodes) (d : Decl) (r : Refusal) → d.of < type_count w.nodes →
+    BeginsIn w.nodes n d (Err r) → Answers freely w v (begins w d) FunctionThere IsFunction (Err r)
+definition_failed w v n d (Code code place) l a = λ s h.
+    subst (λ (file : List ℕ). declares_definition (storage_of d.storage) (name_of file d) (formed_of w.nodes.p d) s
+    ≡ Err (record { code = code; place = place })) h.closed.file ((a l).refused s h.stands)
+definition_failed w v n d NoMemory l a = tt

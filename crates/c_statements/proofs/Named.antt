@@ -16,9 +16,11 @@ use Rattle.c_tree.specs.Programs.{reading, readings}
 use Rattle.c_types.specs.Declares.{declares_named, storage_of, name_of, formed_of}
 use Rattle.c_types.specs.declared.entries.Decl.{Decl}
 use Rattle.c_types.specs.declared.entries.DeclKind.TheVariants as kinds
-use Rattle.c_types.specs.declared.entries.Entity.{Entity}
-use Rattle.c_types.specs.declared.entries.Entity.TheVariants as entities
-use Rattle.c_types.specs.Stands.{entity_kept, entity_seen, text_at}
+use Rattle.c_types.specs.declared.entries.Entry.{Entry}
+use Rattle.c_types.specs.declared.entries.Entry.TheVariants as entries
+use Rattle.c_types.specs.Calls.{IsEntity}
+use Rattle.c_types.specs.Stands.{text_at}
+use Rattle.c_tree.specs.declared.typed.Typed.{Typed}
 use Rattle.c_expressions.specs.Nodes.{type_in}
 use Rattle.c_elaborator.specs.declared.work.Work.{Work}
 use Rattle.c_elaborator.specs.declared.work.Name.{Name}
@@ -32,21 +34,19 @@ use Rattle.c_declarators.specs.Parts.{SpecifiedThere, IsSpecified, FormedThere, 
 use Rattle.c_declarators.specs.Steps.{forms}
 use Rattle.c_elaborator.specs.declared.items.Items.{Items}
 use Rattle.c_elaborator.specs.Items.{ItemsThere, IsItems}
-use Rattle.c_statements.specs.Declaring.{declares, declares_list, EntityThere, IsEntity, initializes}
+use Rattle.c_statements.specs.Declaring.{declares, declares_list, EntryThere, IsEntry, initializes}
 use Rattle.c_statements.proofs.Following.{goes_on, fails_with, fails_freed}
 use Rattle.c_statements.proofs.Meaning.{Follows, initialized, named_follows}
 
-entity_is : (ts : List Ty) (x : Entity) (e : scopes.Entity) (t : Lexeme) (of : Ty) (b : Behind) →
-    entity_kept ts x ≡ entity_seen e → initialized e t of b ≡ initializes x t of b
-entity_is ts (entities.Local k u) (scopes.Local j v) t of b h =
-    let a : k ≡ j = cc in ap (λ (i : ℕ). initialized (scopes.Local i v) t of b) (sym a)
-entity_is ts (entities.Static k) (scopes.Static j) t of b h =
-    let a : k ≡ j = cc in ap (λ (i : ℕ). initialized (scopes.Static i) t of b) (sym a)
-entity_is ts (entities.Routine k) (scopes.Routine j) t of b h = refl
-entity_is ts (entities.Alias u) (scopes.Alias v) t of b h = refl
-entity_is ts (entities.Enumerator z) (scopes.Enumerator y) t of b h = refl
-entity_is ts (entities.Library k u) (scopes.Library j v) t of b h = refl
-entity_is ts _ _ t of b h = absurd cc
+entity_is : (q : Typed) (x : Entry) (e : scopes.Entity) (t : Lexeme) (of : Ty) (b : Behind) → IsEntity q x e →
+    initialized e t of b ≡ initializes x t of b
+entity_is q (entries.Var k) e t of b h = ap (λ (i : scopes.Entity). initialized i t of b) h.1
+entity_is q (entries.Global k) e t of b h = ap (λ (i : scopes.Entity). initialized i t of b) h
+entity_is q (entries.Fun k) e t of b h = ap (λ (i : scopes.Entity). initialized i t of b) h
+entity_is q (entries.Typedef u) e t of b h = ap (λ (i : scopes.Entity). initialized i t of b) h
+entity_is q (entries.Constant z) e t of b h = ap (λ (i : scopes.Entity). initialized i t of b) h
+entity_is q (entries.Library k) e t of b h = ap (λ (i : scopes.Entity). initialized i t of b) h.1
+entity_is q (entries.Tag u k) e t of b h = absurd h
 
 -- what is declared of an object
 abbrev pub decl_of : Specified → Name → Formed → Bool → Decl
@@ -66,20 +66,20 @@ abbrev declaring : Storage → Lexeme → Behind → meant_types.Formed → Doin
 declaring st t b g = look >>= λ s. declare s st t g b
 
 follows_at : (st : Storage) (t : Lexeme) (f : meant_types.Formed) (b : Behind) (s : State)
-    (r : Result (Option scopes.Entity × State) Fault) → declares_named st t f (has_any b) s ≡ r →
+    (r : Result (scopes.Entity × State) Fault) → declares_named st t f (has_any b) s ≡ r →
     Follows t f.of b r (declaring st t b f s)
 follows_at st t f b s r e = subst (λ q. Follows t f.of b q (declaring st t b f s)) e (named_follows st t f b s)
 
-declared_then : (v w x : Work) (st : Storage) (t : Lexeme) (f : meant_types.Formed) (b : Behind) (e : Entity)
+declared_then : (v w x : Work) (st : Storage) (t : Lexeme) (f : meant_types.Formed) (b : Behind) (e : Entry)
     (r : Result Items Refusal) →
-    Done freely v w (declares_named st t f (has_any b)) (Unit {0}) (IsEntity w e) →
+    Done freely v w (declares_named st t f (has_any b)) (Unit {0}) (IsEntry w e) →
     Answers freely w x (initializes e t f.of b) ItemsThere IsItems r →
     Answers freely v x (declaring st t b f) ItemsThere IsItems r
 declared_then v w x st t f b e r a h =
     goes_on freely free_law v w x (declares_named st t f (has_any b)) (declaring st t b f) (initializes e t f.of b)
-    (Unit {0}) (IsEntity w e) ItemsThere IsItems r a
-    (λ o s p q k i. follows_at st t f b o (Ok (p, s)) q i.entity i.is
-    ∙ ap (λ (d : Doing meant.Items). d s) (entity_is _ e i.entity t f.of b i.seen)) h
+    (Unit {0}) (IsEntry w e) ItemsThere IsItems r a
+    (λ o s p q k i. follows_at st t f b o (Ok (p, s)) q
+    ∙ ap (λ (d : Doing meant.Items). d s) (entity_is w.nodes.p e p t f.of b i)) h
 
 -- the declaration is that of these specifiers and of this type
 same_declares : (u v : Work) (s : Specified) (name : Name) (f : Formed) (b : Behind) (defines : Bool) → Keeps u v →
@@ -131,7 +131,7 @@ named_undeclared : (u v w x : Work) (s : Specified) (y : meant.Specified) (e : m
     (f : Formed) (defines : Bool) (q : Refusal) → IsSpecified u s y → e.name ≡ Some (token_of u name) →
     has_any b ≡ defines →
     Done quietly u v (forms (type_in u.nodes s.of) e.wraps) (FormedThere v f) (in_any IsFormed v f) →
-    Answers freely v w (declares v (decl_of s name f defines)) EntityThere IsEntity (Err q) →
+    Answers freely v w (declares v (decl_of s name f defines)) EntryThere IsEntry (Err q) →
     Answers freely u x (declare_named y e e.name b) ItemsThere IsItems (Err q)
 named_undeclared u v w x s y e b name f defines q h n i a g =
     let st = storage_of s.storage in
@@ -139,9 +139,9 @@ named_undeclared u v w x s y e b name f defines q h n i a g =
     let m = formed_in v.nodes f in
     after_formed u v x s y e b name f (Err q) h n a
     (fails_with freely v w x (declares_named st t m (has_any b))
-    (declaring st t b m) EntityThere IsEntity ItemsThere IsItems q
+    (declaring st t b m) EntryThere IsEntry ItemsThere IsItems q
     (λ o fault k. follows_at st t m b o (Err fault) k)
-    (subst (λ (d : Doing (Option scopes.Entity)). Answers freely v w d EntityThere IsEntity (Err q))
+    (subst (λ (d : Doing scopes.Entity). Answers freely v w d EntryThere IsEntry (Err q))
     (same_declares u v s name f b defines a.grows.keeps i) g))
 
 -- the same where it is said otherwise what is declared
@@ -149,28 +149,30 @@ pub named_refused : (u v w x : Work) (s : Specified) (y : meant.Specified) (e : 
     (name : Name) (f : Formed) (defines : Bool) (d : Decl) (q : Refusal) → IsSpecified u s y →
     e.name ≡ Some (token_of u name) → has_any b ≡ defines →
     Done quietly u v (forms (type_in u.nodes s.of) e.wraps) (FormedThere v f) (in_any IsFormed v f) →
-    d ≡ decl_of s name f defines → Answers freely v w (declares v d) EntityThere IsEntity (Err q) →
+    d ≡ decl_of s name f defines → Answers freely v w (declares v d) EntryThere IsEntry (Err q) →
     Answers freely u x (declare_named y e e.name b) ItemsThere IsItems (Err q)
 named_refused u v w x s y e b name f defines d q h n i a g c =
     named_undeclared u v w x s y e b name f defines q h n i a
-    (subst (λ (z : Decl). Answers freely v w (declares v z) EntityThere IsEntity (Err q)) g c)
+    (subst (λ (z : Decl). Answers freely v w (declares v z) EntryThere IsEntry (Err q)) g c)
 
 -- the name is declared, and what it denotes gets its value
 pub named_answers : (u v w x : Work) (s : Specified) (y : meant.Specified) (e : meant.Derived) (b : Behind)
-    (name : Name) (f : Formed) (defines : Bool) (entity : Entity) (r : Result Items Refusal) → IsSpecified u s y →
+    (name : Name) (f : Formed) (defines : Bool) (entity : Entry) (r : Result Items Refusal) → IsSpecified u s y →
     e.name ≡ Some (token_of u name) → has_any b ≡ defines →
     Done quietly u v (forms (type_in u.nodes s.of) e.wraps) (FormedThere v f) (in_any IsFormed v f) →
-    Done freely v w (declares v (decl_of s name f defines)) (Unit {0}) (IsEntity w entity) →
+    Done freely v w (declares v (decl_of s name f defines)) (Unit {0}) (IsEntry w entity) →
     Answers freely w x (initializes entity (token_of w name) (type_in w.nodes f.of) b) ItemsThere IsItems r →
     Answers freely u x (declare_named y e e.name b) ItemsThere IsItems r
 named_answers u v w x s y e b name f defines entity r h n i a g c =
     let st = storage_of s.storage in
     let t = token_of u name in
     let m = formed_in v.nodes f in
-    let same : token_of w name ≡ t = ap (λ (file : List ℕ). (let z : Lexeme = record { kind = t.kind; text = text_at file name.span; span = name.span; pos = name.pos } in z)) (g.grows.file ∙ a.grows.keeps.file) in
+    let token : List ℕ → Lexeme =
+    λ file. record { kind = t.kind; text = text_at file name.span; span = name.span; pos = name.pos } in
+    let same : token_of w name ≡ t = ap token (g.grows.file ∙ a.grows.keeps.file) in
     after_formed u v x s y e b name f r h n a
     (declared_then v w x st t m b entity r
-    (subst (λ (d : Doing (Option scopes.Entity)). Done freely v w d (Unit {0}) (IsEntity w entity))
+    (subst (λ (d : Doing scopes.Entity). Done freely v w d (Unit {0}) (IsEntry w entity))
     (same_declares u v s name f b defines a.grows.keeps i) g)
     (subst (λ (z : Lexeme). Answers freely w x (initializes entity z m.of b) ItemsThere IsItems r) same
     (subst (λ (of : Ty). Answers freely w x (initializes entity (token_of w name) of b) ItemsThere IsItems r)

@@ -1,5 +1,5 @@
 -- A declared name, and its initializer.
-use Rattle.std.specs.Prelude.{◌≡◌, ℕ, List, [], ◌∷◌, map, Option, Some, None, Result, Ok, Err, ◌<◌, All}
+use Rattle.std.specs.Prelude.{◌≡◌, ℕ, List, [], ◌∷◌, map, Option, Some, None, Result, ◌<◌, All}
 use Rattle.ck_base.specs.declared.positions.Pos.{Pos}
 use Rattle.ck_base.specs.declared.refusal.Refusal.{Refusal}
 use Rattle.ck_base.specs.Tokens.{Lexeme}
@@ -13,16 +13,15 @@ use Rattle.c_tree.specs.Declarations as declarations
 use Rattle.c_tree.specs.Declarations.{no_items, init_action, init_static, init_local, fill_local, fill_static}
 use Rattle.c_tree.specs.Declarations.{declare_named, declare_all, is_alone}
 use Rattle.c_tree.specs.Programs.{reading, readings}
-use Rattle.c_tree.specs.Views.{types_of}
 use Rattle.c_types.specs.Declares.{declares_named, declares_definition, storage_of, name_of, formed_of}
-use Rattle.c_types.specs.Stands.{entity_kept, entity_seen}
-use Rattle.c_types.specs.Calls.{DeclaresKind}
+use Rattle.c_types.specs.Naming.{IsNumber}
+use Rattle.c_types.specs.Calls.{Declares, IsDeclared}
+use Rattle.c_types.specs.Calls as types
 use Rattle.c_types.specs.declared.entries.Decl.{Decl}
 use Rattle.c_types.specs.declared.entries.Entry.{Entry}
 use Rattle.c_expressions.specs.declared.nodes.Nodes.{Nodes}
 use Rattle.c_expressions.specs.Nodes.{type_count}
-use Rattle.c_types.specs.declared.entries.Entity.{Entity}
-use Rattle.c_types.specs.declared.entries.Entity.TheVariants as entities
+use Rattle.c_types.specs.declared.entries.Entry.TheVariants as entries
 use Rattle.c_elaborator.specs.declared.work.Work.{Work}
 use Rattle.c_elaborator.specs.Parts.{IsPart}
 use Rattle.c_readings.specs.Within.{PartWithin}
@@ -67,7 +66,7 @@ WrapsThere w ws = All (WrapIsThere w.nodes) ws
 -- ---- declared names
 
 -- the step that a declaration is, before its initializer
-abbrev pub declares : Work → Decl → Doing (Option scopes.Entity)
+abbrev pub declares : Work → Decl → Doing scopes.Entity
 declares w d = declares_named (storage_of d.storage) (name_of w.file.now d) (formed_of w.nodes.p d) d.defines
 
 -- the same of a function with its body
@@ -75,20 +74,21 @@ abbrev pub begins : Work → Decl → Doing ℕ
 begins w d = declares_definition (storage_of d.storage) (name_of w.file.now d) (formed_of w.nodes.p d)
 
 -- the scopes and the program show a declaration
-abbrev pub DeclaresIn : Nodes → Nodes → Decl → Result (Unit {0}) Refusal → Type 0
-DeclaresIn n m d (Ok x) =
-    (e : Entry) × (d.of < type_count n → DeclaresKind d.what n.scopes.file.now n.scopes n.p m.scopes m.p d (Ok e))
-DeclaresIn n m d (Err e) =
-    d.of < type_count n → DeclaresKind d.what n.scopes.file.now n.scopes n.p m.scopes m.p d (Err e)
+abbrev pub DeclaresIn : Nodes → Nodes → Decl → Result Entry Refusal → Type 0
+DeclaresIn n m d r = Declares n.scopes.file.now n.scopes n.p m.scopes m.p d r
 
-abbrev pub EntityThere : Work → Entity → Type 0
-EntityThere w x = Unit {0}
+-- and that a definition is begun
+abbrev pub BeginsIn : Nodes → Nodes → Decl → Result ℕ Refusal → Type 0
+BeginsIn n m d r = d.of < type_count n →
+    types.Answers n.scopes n.p m.scopes m.p (declares_definition (storage_of d.storage)
+    (name_of n.scopes.file.now d) (formed_of n.p d)) IsNumber r
 
--- the name denotes this
-pub record IsEntity (w : Work) (x : Entity) (s : State) (o : Option scopes.Entity) : Type 0 where
-  pub entity : scopes.Entity
-  pub is : o ≡ Some entity
-  pub seen : entity_kept (types_of w.nodes.p.types) x ≡ entity_seen entity
+abbrev pub EntryThere : Work → Entry → Type 0
+EntryThere w x = Unit {0}
+
+-- the entry of what is declared
+abbrev pub IsEntry : Work → Entry → State → scopes.Entity → Type 0
+IsEntry w x s e = IsDeclared w.nodes.p x s e
 
 abbrev pub FunctionThere : Work → ℕ → Type 0
 FunctionThere w k = Unit {0}
@@ -103,9 +103,9 @@ abbrev pub static_initialized : ℕ → Lexeme → declarations.Behind → Doing
 static_initialized k t b = init_static k t b >> give no_items
 
 -- what was declared gets its value, by what it is
-abbrev pub initializes : Entity → Lexeme → Ty → declarations.Behind → Doing meant.Items
-initializes (entities.Local k u) t of b = local_initialized k t of b
-initializes (entities.Static k) t of b = static_initialized k t b
+abbrev pub initializes : Entry → Lexeme → Ty → declarations.Behind → Doing meant.Items
+initializes (entries.Var k) t of b = local_initialized k t of b
+initializes (entries.Global k) t of b = static_initialized k t b
 initializes x t of b = give no_items
 
 abbrev pub fills_static : ℕ → Lexeme → Reading → Pos → Doing meant.Items

@@ -20,7 +20,7 @@ use crate::initial::{Asked, Goal, initializer};
 use c_elaborator::{Items, Name, Work, add_statement, no_items};
 use c_initializers::{Slot, fill_local, fill_static};
 use c_tree::StmtKind;
-use c_types::Entity;
+use c_types::Entry;
 use ck_base::{NoMemory, Pos, Refusal};
 use std::alloc::Global;
 
@@ -170,7 +170,7 @@ fn initialize_object(
 /// What was declared gets its initial value, if one stands there.
 pub(crate) fn initialize(
     work: &mut Work<'_>,
-    entity: Entity,
+    entry: Entry,
     name: Name,
     of: u32,
     behind: Option<Behind>,
@@ -180,14 +180,16 @@ pub(crate) fn initialize(
     requires there { of < type_count work.old.nodes }
     requires behind { HasBehind work.old depth behind }
     ensures { (b : meant.Behind) → IsBehind work.old behind b →
-        Answers freely work.old work.new (initializes entity (token_of work.old name) (type_in work.old.nodes of) b)
+        Answers freely work.old work.new (initializes entry (token_of work.old name) (type_in work.old.nodes of) b)
         ItemsThere IsItems result }
 {
-    match entity {
-        Entity::Local(k, _) => initialize_variable(work, k, name, of, behind, depth),
-        Entity::Static(k) => initialize_object(work, k, name, behind, depth),
-        Entity::Routine(_) | Entity::Alias(_) | Entity::Enumerator(_) | Entity::Library(_, _) => {
-            Ok(no_items(work.nodes.alloc))
-        }
+    match entry {
+        Entry::Var(k) => initialize_variable(work, k, name, of, behind, depth),
+        Entry::Global(k) => initialize_object(work, k, name, behind, depth),
+        Entry::Fun(_)
+        | Entry::Typedef(_)
+        | Entry::Constant(_)
+        | Entry::Library(_)
+        | Entry::Tag(_, _) => Ok(no_items(work.nodes.alloc)),
     }
 }

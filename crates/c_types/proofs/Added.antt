@@ -11,14 +11,11 @@ use Rattle.c_tree.specs.Scopes as meant
 use Rattle.c_tree.specs.Scopes.{State, LocalState, bind_name, with_changed}
 use Rattle.c_tree.specs.Declarations.{new_local}
 use Rattle.c_types.specs.declared.entries.Decl.{Decl}
-use Rattle.c_types.specs.declared.entries.Entry.{Entry}
-use Rattle.c_types.specs.declared.entries.Entry.TheVariants as entries
 use Rattle.c_types.specs.declared.scopes.Scopes.{Scopes}
-use Rattle.c_types.specs.Naming.{IsNamed}
+use Rattle.c_types.specs.Naming.{IsNumber}
 use Rattle.c_types.specs.Calls.{Given}
 use Rattle.c_types.specs.Declares.{name_of}
-use Rattle.c_types.specs.Stands.{Stands, Declared, var_kept, local_seen, declared_at, named, text_at}
-use Rattle.c_types.proofs.Binding.{bound_named}
+use Rattle.c_types.specs.Stands.{Stands, Declared, var_kept, local_seen, declared_at, named}
 use Rattle.c_types.proofs.Looking.{seen_length, seen_at}
 use Rattle.c_types.proofs.Records.{seen_none}
 use Rattle.c_types.specs.Retyped.{retyped}
@@ -64,13 +61,12 @@ locals_same sc v p s h g = record {
   linked = h.linked;
 }
 
-pub local_given : (sc sb : Scopes) (v : Vec VarDef) (p : Typed) (s : State) (d : Decl) (of : Ty) (k : ℕ) (y : Entry) →
+pub local_given : (sc sb : Scopes) (v : Vec VarDef) (p : Typed) (s : State) (d : Decl) (of : Ty) (k : ℕ) →
     Stands sc p s → named (types_of p.types) d.of ≡ Some of → k ≡ length sc.locals.items →
     Stands sb p (bind_name (name_of sc.file.now d).text (meant.Local k of) s) → sb.file.now ≡ sc.file.now →
     v.items ≡ sb.locals.items ++ record { name = d.name; pos = d.pos; of = d.of; simple = false } ∷ [] →
-    y ≡ entries.Var k → Given (record sb { locals = v }) p (new_local (name_of sc.file.now d) of s)
-    (IsNamed p (text_at sc.file.now d.name) y)
-local_given sc sb v p s d of k y h e n b f g i =
+    Given (record sb { locals = v }) p (new_local (name_of sc.file.now d) of s) (IsNumber k)
+local_given sc sb v p s d of k h e n b f g =
     let l : k ≡ length s.locals =
     n ∙ seen_length (var_kept sc.file.now (types_of p.types)) local_seen sc.locals.items s.locals h.locals in
     let t = name_of sc.file.now d in
@@ -81,8 +77,7 @@ local_given sc sb v p s d of k y h e n b f g i =
       is = refl;
       stands = rw (← l) (local_added sb v p (bind_name t.text (meant.Local k of) s) _ z b g
           (rw f (ap (λ o. record (declared_at sc.file.now (types_of p.types) d.name d.pos d.of) { of = o }) e)));
-      fits = rw (← l) (bound_named p (record s { locals = s.locals ++ z ∷ [] }) t.text (meant.Local k of) y
-          (length s.locals) (rw i (of, refl)));
+      fits = sym l;
     }
 
 pub locals_taken : (sc : Scopes) (v : Vec VarDef) (p : Typed) (s : State) → Stands sc p s → v.items ≡ [] →

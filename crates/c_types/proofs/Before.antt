@@ -1,54 +1,23 @@
--- A declaration is what it does before its initialiser, and then the initialiser.
+-- The definition of a function is what its declaration does, and then its parameters and its body.
 use Rattle.std.proofs.Common.{◌≡◌, ℕ, zero, suc, Bool, true, false, refl, sym, ap, ◌∙◌, List, [], ◌∷◌, length, map}
 use Rattle.std.proofs.Common.{Option, Some, Result, Ok, Err}
 use Rattle.std.specs.Prelude.{not, ◌||◌, slice_get}
 use Rattle.ck_base.specs.Tokens.{Lexeme}
 use Rattle.c_tree.specs.Syntax.{Syn, first_token}
-use Rattle.c_tree.specs.Scopes.{State, RoutineState, Body, Fault, Doing, give, need, look, change, leave, continued}
+use Rattle.c_tree.specs.Scopes.{State, RoutineState, Body, Fault, Doing, need, look, change, leave, continued}
 use Rattle.c_tree.specs.Scopes.{◌>>=◌, ◌>>◌, find_in, innermost, changed_at, change_routine}
-use Rattle.c_tree.specs.Readings.{Storage, Specified, Derived, Prototype, Reading}
+use Rattle.c_tree.specs.Readings.{Specified, Derived, Prototype, Reading}
 use Rattle.c_tree.specs.Types.{is_function}
 use Rattle.c_tree.specs.Expressions.{routine_type}
 use Rattle.c_tree.specs.Declarators.{Formed, formed, judge}
-use Rattle.c_tree.specs.Declarations.{Behind, has_any, no_items, init_static, init_local, declare_alias}
-use Rattle.c_tree.specs.Declarations.{declare_function, declare_global, declare_external, declare_internal}
-use Rattle.c_tree.specs.Declarations.{declare_local, definition_agrees, linked_routine}
+use Rattle.c_tree.specs.Declarations.{definition_agrees, linked_routine}
 use Rattle.c_tree.specs.Statements.{block_action}
 use Rattle.c_tree.specs.Programs.{define_named, define_body, own_prototype, is_there, is_typedef, params_of, scope_of}
 use Rattle.c_tree.specs.Programs.{parameter_local, body_context, gives_complete, first_incomplete, refused_at}
 use Rattle.c_tree.specs.Terms.{numbers_from}
-use Rattle.c_types.specs.Declares.{declares_alias, declares_function, declares_definition, declares_global}
-use Rattle.c_types.specs.Declares.{declares_external, declares_internal, declares_local}
+use Rattle.c_types.specs.Declares.{declares_definition}
 use Rattle.c_types.specs.Naming.{begins}
 use Rattle.c_types.proofs.Changing.{changed_cons}
-
-pub alias_is : (t : Lexeme) (f : Formed) (b : Behind) (s : State) →
-    declare_alias t f b s ≡ (declares_alias t f (has_any b) >>= λ a. give no_items) s
-alias_is t f b s = refl
-
-pub function_is : (t : Lexeme) (f : Formed) (b : Behind) (s : State) →
-    declare_function t f b s ≡ (declares_function t f (has_any b) >>= λ k. give no_items) s
-function_is t f b s = refl
-
-pub global_is : (storage : Storage) (t : Lexeme) (f : Formed) (b : Behind) (s : State) →
-    declare_global storage t f b s ≡ (declares_global storage t f (has_any b) >>= λ k. init_static k t b
-    >> give no_items) s
-global_is storage t f b s = refl
-
-pub external_is : (t : Lexeme) (f : Formed) (b : Behind) (s : State) →
-    declare_external t f b s ≡ (declares_external t f (has_any b) >>= λ k. give no_items) s
-external_is t f b s = refl
-
-pub internal_is : (t : Lexeme) (f : Formed) (b : Behind) (s : State) →
-    declare_internal t f b s ≡ (declares_internal t f (has_any b) >>= λ k. init_static k t b >> give no_items) s
-internal_is t f b s = refl
-
-pub local_is : (t : Lexeme) (f : Formed) (b : Behind) (s : State) →
-    declare_local t f b s ≡ (declares_local t f (has_any b) >>= λ k. init_local k t f.of b
-    >>= λ xs. give (record { vars = k ∷ []; actions = xs })) s
-local_is t f b s = refl
-
--- ---- definitions of functions
 
 -- 6.9.1p2: the declarator itself is that of a function; p3: what it gives is complete
 abbrev pub of_own : Formed → Bool → Option Prototype → Formed

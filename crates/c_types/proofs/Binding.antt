@@ -18,12 +18,10 @@ use Rattle.std.specs.Prelude.{ℤ, not, is_some}
 use Rattle.c_tree.specs.Declarators.{is_new, is_none}
 use Rattle.c_tree.specs.declared.typed.Typed.{Typed}
 use Rattle.c_tree.specs.Views.{types_of}
-use Rattle.c_types.specs.declared.entries.Entry.{Entry}
 use Rattle.c_types.specs.declared.entries.Entry.TheVariants as entries
 use Rattle.c_types.specs.declared.scopes.Scopes.{Scopes}
-use Rattle.c_types.specs.Calls.{Given, Fails, IsDenoted, IsEntity}
-use Rattle.c_types.specs.Naming.{IsNamed}
-use Rattle.c_types.specs.Declares.{denoted, declares_constant}
+use Rattle.c_types.specs.Calls.{Given, Fails, IsDeclared}
+use Rattle.c_types.specs.Declares.{declares_constant}
 use Rattle.c_types.specs.declared.entries.Entity.{Entity}
 use Rattle.c_types.specs.declared.entries.Tagging.{Tagging}
 use Rattle.c_types.specs.declared.entries.Tagging.TheVariants.{Recorded}
@@ -206,35 +204,19 @@ alike_stands sc v p s n c d h lt l g w b t =
 
 -- ---- enumeration constants
 
-found_bound : (ms : List meant.Scope) (name : List ℕ) (x : meant.Entity) → 0 < length ms →
-    find_in (innermost (in_innermost (with_name name x) ms)).names name ≡ Some x
-found_bound [] name x lt = absurd (omega arith)
-found_bound (m ∷ ms) name x lt = rw (bytes_refl name) refl
-
-changed_length : (f : meant.Scope → meant.Scope) (ms : List meant.Scope) → 0 < length (in_innermost f ms) →
-    0 < length ms
-changed_length f [] lt = lt
-changed_length f (m ∷ ms) lt = omega arith
-
--- a name that was bound denotes that
-pub bound_named : {A : Type 0} (q : Typed) (s : State) (name : List ℕ) (x : meant.Entity) (y : Entry) (a : A) →
-    IsEntity q y x → IsNamed q name y (bind_name name x s) a
-bound_named q s name x y a h lt = rw (found_bound s.scopes name x (changed_length (with_name name x) s.scopes lt)) h
-
 pub constant_given : (sd : Scopes) (p : Typed) (s : State) (t : Lexeme) (z : ℤ) → is_new s t.text ≡ true →
     Stands sd p (bind_name t.text (meant.Enumerator z) s) →
-    Given sd p (denoted t (declares_constant t z) s) (IsDenoted p (entries.Constant z))
+    Given sd p (declares_constant t z s) (IsDeclared p (entries.Constant z))
 constant_given sd p s t z e h = record {
-  value = find_in (innermost (in_innermost (with_name t.text (meant.Enumerator z)) s.scopes)).names t.text;
+  value = meant.Enumerator z;
   state = bind_name t.text (meant.Enumerator z) s;
   is = rw e refl;
   stands = h;
-  fits = bound_named {A = ℕ} p s t.text (meant.Enumerator z) (entries.Constant z) 0 refl;
+  fits = refl;
 }
 
 pub constant_fails : (sc : Scopes) (p : Typed) (t : Lexeme) (z : ℤ) →
-    ((s : State) → Stands sc p s → is_new s t.text ≡ false) →
-    Fails sc p sc p (denoted t (declares_constant t z)) 131 t.pos
+    ((s : State) → Stands sc p s → is_new s t.text ≡ false) → Fails sc p sc p (declares_constant t z) 131 t.pos
 constant_fails sc p t z f = record {
   refused = λ s h. rw (f s h) refl;
   program = refl;

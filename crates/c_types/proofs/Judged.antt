@@ -1,6 +1,6 @@
 -- Tests come before a step.
-use Rattle.std.proofs.Common.{◌≡◌, ℕ, zero, suc, List, Bool, true, false, Result, Ok, Err, refl, sym, ap, ◌∙◌, ◌<◌, ◌≤◌}
-use Rattle.std.proofs.Common.{length, Some, None, arith}
+use Rattle.std.proofs.Common.{◌≡◌, ℕ, zero, suc, Bool, true, false, Result, Ok, Err, refl, sym, ap, subst, ◌∙◌}
+use Rattle.std.proofs.Common.{◌<◌, ◌≤◌, length, Some, None, arith}
 use Rattle.std.specs.Prelude.{nat_eq, not, ◌||◌, ◌&&◌}
 use Rattle.std.proofs.Math.Dec.{eqb-suc-zero}
 use Rattle.std.proofs.lemmas.Option.{slice_get-get_or, slice_get_past}
@@ -12,11 +12,12 @@ use Rattle.c_tree.specs.Types.{Ty, Void, Array}
 use Rattle.c_tree.specs.Declarators.{Formed, judge}
 use Rattle.c_tree.specs.Declarations.{is_open}
 use Rattle.c_tree.specs.Views.{types_of}
-use Rattle.c_tree.specs.Scopes.{State, Doing, Fault, continued, ◌>>=◌, ◌>>◌}
+use Rattle.c_tree.specs.Scopes.{Entity, State, Doing, Fault, continued, give, ◌>>=◌, ◌>>◌}
 use Rattle.c_types.specs.declared.scopes.Scopes.{Scopes}
-use Rattle.c_types.specs.Calls.{Given, Answers}
+use Rattle.c_types.specs.Calls.{Given, Answers, IsEntity, IsDeclared}
+use Rattle.c_types.specs.Declares.{giving}
 use Rattle.c_types.specs.declared.entries.Entry.{Entry}
-use Rattle.c_types.specs.Naming.{IsNamed, IsNumbered}
+use Rattle.c_types.specs.Naming.{IsNumber}
 use Rattle.c_types.specs.Judging.{IsJudged, admits}
 use Rattle.c_interner.specs.Numbers.{type_named}
 use Rattle.c_types.specs.Stands.{Stands, named}
@@ -64,20 +65,22 @@ pub not_admitted : {A X : Type 0} (sc : Scopes) (p : Typed) (d : Doing A) (k : S
     IsJudged (admits fits f lacks misfits place) (Err e) → Answers sc p sc p d Fits (Err e)
 not_admitted sc p d k f fits lacks misfits b l m place Fits (Code code at) i u v w h = record {
   refused = λ s g. i s ∙ ap (λ r. continued r (λ a. k s))
-      (let e : admits (b s) f (l s) (m s) place s ≡ Err (record { code = code; place = at }) = rw (← u s g, ← v s g, ← w s g) (h s) in e);
+      (let e : admits (b s) f (l s) (m s) place s ≡ Err (record { code = code; place = at }) =
+      rw (← u s g, ← v s g, ← w s g) (h s) in e);
   program = refl;
   keeps = λ s g. g;
 }
 not_admitted sc p d k f fits lacks misfits b l m place Fits NoMemory i u v w h = absurd h
 
-pub numbered_named : (sd : Scopes) (q : Typed) (r : Result (ℕ × State) Fault) (name : List ℕ) (k : ℕ) (x y : Entry) →
-    y ≡ x → Given sd q r (IsNumbered q name k x) → Given sd q r (IsNamed q name y)
-numbered_named sd q r name k x y e g = record {
-  value = g.value;
+-- a step that gives a number gives the entity with that number
+pub entity_given : (sd : Scopes) (q : Typed) (s : State) (d : Doing ℕ) (of : ℕ → Entity) (k : ℕ) (x : Entry) →
+    IsEntity q x (of k) → Given sd q (d s) (IsNumber k) → Given sd q (giving of d s) (IsDeclared q x)
+entity_given sd q s d of k x e g = record {
+  value = of g.value;
   state = g.state;
-  is = g.is;
+  is = ap (λ r. continued r (λ j. give (of j))) g.is;
   stands = g.stands;
-  fits = rw e g.fits.1;
+  fits = subst (λ j. IsEntity q x (of j)) (sym g.fits) e;
 }
 
 pub named_there : (p : Typed) (k : ℕ) → k < length p.types → named (types_of p.types) k ≡ Some (type_named p k)

@@ -17,16 +17,14 @@ use Rattle.c_tree.specs.Scopes.{State, StaticState, Aiming, bind_name, change_st
 use Rattle.c_tree.specs.Declarations.{new_static, known_static, linked_static, linked, linked_from}
 use Rattle.c_interner.specs.Numbers.{type_named}
 use Rattle.c_types.specs.declared.entries.Decl.{Decl}
-use Rattle.c_types.specs.declared.entries.Entry.{Entry}
-use Rattle.c_types.specs.declared.entries.Entry.TheVariants as entries
 use Rattle.c_types.specs.declared.scopes.Scopes.{Scopes}
 use Rattle.c_types.specs.declared.scopes.ObjectInfo.{ObjectInfo}
 use Rattle.c_types.specs.Calls.{Given}
 use Rattle.c_types.specs.Declares.{name_of}
-use Rattle.c_types.specs.Naming.{IsNamed}
+use Rattle.c_types.specs.Naming.{IsNumber}
 use Rattle.c_types.specs.Stands.{Stands, Declared, object_of, static_seen, global_kept, declared_at, named, text_at}
 use Rattle.c_types.proofs.Looking.{seen_at}
-use Rattle.c_types.proofs.Binding.{bytes_same, bound_named}
+use Rattle.c_types.proofs.Binding.{bytes_same}
 use Rattle.c_types.proofs.Judged.{named_there}
 use Rattle.c_types.proofs.Changing.{changed_same, statics_changed}
 
@@ -107,7 +105,8 @@ object_added : (sb sd : Scopes) (p : Typed) (gs : List GlobalDef) (s : State) (x
     gs ≡ p.globals ++ x ∷ [] → global_kept sb.file.now (types_of p.types) x ≡ static_seen y →
     Stands sd (record p { globals = gs }) (record s { statics = s.statics ++ y ∷ [] })
 object_added sb sd p gs s x y h same g m u e w =
-    let r : Stands (record sb { objects = sd.objects; linked = sd.linked }) (record p { globals = gs }) (record s { statics = s.statics ++ y ∷ [] }) = record {
+    let r : Stands (record sb { objects = sd.objects; linked = sd.linked }) (record p { globals = gs })
+    (record s { statics = s.statics ++ y ∷ [] }) = record {
       scopes = h.scopes;
       tags = h.tags;
       tag_types = h.tag_types;
@@ -132,7 +131,7 @@ object_added sb sd p gs s x y h same g m u e w =
     subst (λ z. Stands z (record p { globals = gs }) (record s { statics = s.statics ++ y ∷ [] })) (sym same) r
 
 pub object_given : (sc sb sd : Scopes) (p : Typed) (gs : List GlobalDef) (s : State) (d : Decl) (linkage defined : Bool)
-    (k : ℕ) (x : GlobalDef) (y : Entry) → Stands sc p s → d.of < length p.types → k ≡ length sc.objects.items →
+    (k : ℕ) (x : GlobalDef) → Stands sc p s → d.of < length p.types → k ≡ length sc.objects.items →
     Stands sb p (bind_name (text_at sc.file.now d.name) (meant.Static k) s) → sb.file.now ≡ sc.file.now →
     sd ≡ record sb { objects = sd.objects; linked = sd.linked } →
     sd.objects.items ≡ sb.objects.items ++ record { linked = linkage; defined = defined; given = false } ∷ [] →
@@ -140,10 +139,10 @@ pub object_given : (sc sb sd : Scopes) (p : Typed) (gs : List GlobalDef) (s : St
     ≡ cond (linkage && bytes_eq (text_at sc.file.now d.name) n) (Some k)
     (lookup (λ j. bytes_eq n j.now) sb.linked.entries)) → gs ≡ p.globals ++ x ∷ [] →
     ((file : List ℕ) (ts : List Ty) → global_kept file ts x ≡ declared_at file ts d.name d.pos d.of) →
-    (linkage ≡ true → linked s (text_at sc.file.now d.name) ≡ None) → y ≡ entries.Global k →
+    (linkage ≡ true → linked s (text_at sc.file.now d.name) ≡ None) →
     Given sd (record p { globals = gs }) (new_static (name_of sc.file.now d) (type_named p d.of) linkage defined s)
-    (IsNamed (record p { globals = gs }) (text_at sc.file.now d.name) y)
-object_given sc sb sd p gs s d linkage defined k x y h lt n b f same g m i w u e =
+    (IsNumber k)
+object_given sc sb sd p gs s d linkage defined k x h lt n b f same g m i w u =
     let t = name_of sc.file.now d in
     let of = type_named p d.of in
     let l : k ≡ length s.statics = n ∙ (simp length-map at (ap length h.objects)) in
@@ -158,8 +157,7 @@ object_given sc sb sd p gs s d linkage defined k x y h lt n b f same g m i w u e
           (rw f (w sc.file.now (types_of p.types)
           ∙ ap (λ o. record (declared_at sc.file.now (types_of p.types) d.name d.pos d.of) { of = o })
           (named_there p d.of lt))));
-      fits = rw (← l) (bound_named (record p { globals = gs }) (record s { statics = s.statics ++ z ∷ [] }) t.text
-          (meant.Static k) y (length s.statics) (rw e refl));
+      fits = sym l;
     }
 
 -- ---- objects that are known
@@ -194,19 +192,17 @@ known_changed sc v p gs s k u t defined h e f m =
     (λ y. refl) (λ y. refl) (λ y. refl) (λ x y a b g.
     retyped_global sc.file.now (types_of p.types) x y u (composite y.of t) g (m x y a b))
 
-pub known_given : (sd : Scopes) (q : Typed) (s : State) (file : List ℕ) (d : Decl) (k : ℕ) (t : Ty) (defined : Bool)
-    (y : Entry) → Stands sd q (bind_name (text_at file d.name) (meant.Static k)
+pub known_given : (sd : Scopes) (q : Typed) (s : State) (file : List ℕ) (d : Decl) (k : ℕ) (t : Ty) (defined : Bool) →
+    Stands sd q (bind_name (text_at file d.name) (meant.Static k)
     (change_static k (λ (g : StaticState). record g { of = composite g.of t; defined = g.defined || defined }) s)) →
-    y ≡ entries.Global k → Given sd q (known_static (name_of file d) k t defined s) (IsNamed q (text_at file d.name) y)
-known_given sd q s file d k t defined y h e = record {
+    Given sd q (known_static (name_of file d) k t defined s) (IsNumber k)
+known_given sd q s file d k t defined h = record {
   value = k;
   state = bind_name (text_at file d.name) (meant.Static k)
       (change_static k (λ (g : StaticState). record g { of = composite g.of t; defined = g.defined || defined }) s);
   is = refl;
   stands = h;
-  fits = bound_named q (change_static k (λ (g : StaticState).
-      record g { of = composite g.of t; defined = g.defined || defined }) s) (text_at file d.name)
-      (meant.Static k) y k (rw e refl);
+  fits = refl;
 }
 
 -- ---- what is known later

@@ -33,7 +33,7 @@ use Rattle.c_tree.specs.Declarators.{kind_at, has_kind, same_record}
 use Rattle.c_types.specs.declared.rooms.Room.{Room}
 use Rattle.c_types.specs.declared.scopes.TagInfo.{TagInfo}
 use Rattle.c_types.specs.declared.scopes.MemberTable.{MemberTable}
-use Rattle.c_tree.specs.Initializers.{or_none, struct_places, record_places, known_places}
+use Rattle.c_tree.specs.Initializers.{or_none, next_within, struct_places, record_places, known_places}
 use Rattle.std.specs.Map.{lookup}
 use Rattle.c_types.specs.declared.scopes.Scopes.{Scopes}
 use Rattle.c_types.specs.Stands.{Stands, IsOfKind, AreOfKinds, AreTagged, SeenTag, ShowScopes, tag_seen, tag_kept}
@@ -46,6 +46,7 @@ use Rattle.c_types.proofs.Plain.{there_is}
 use Rattle.c_types.proofs.Growth.{scopes_more, HaveTypes, stands_grown, tags_longer, kinds_longer}
 use Rattle.c_types.proofs.Growth.{slice_get-longer}
 use Rattle.c_types.proofs.Looking.{seen_at}
+use Rattle.c_types.proofs.Sizing.{next_stays}
 
 -- ---- lists
 
@@ -142,18 +143,22 @@ struct_stays : (ts us : List TagState) → ExtentsStay ts us → (ms : List Part
     slice_get (map (λ (y : ℕ × Ty). y.0) (struct_places us ms x)) k ≡ Some z
 struct_stays ts us g [] x k z e = e
 struct_stays ts us g (m ∷ ms) x k z e =
-    by_extent (λ y j i. struct_stays ts us g ms (behind y x) j z i) (type_extent ts m.of) refl e
+    by_extent (λ y j i. struct_stays ts us g ms (behind y x) j z i) (next_within x (type_extent ts m.of)) refl e
   where
     by_extent : ((y : Extent) (j : ℕ) →
         slice_get (map (λ (q : ℕ × Ty). q.0) (struct_places ts ms (behind y x))) j ≡ Some z →
         slice_get (map (λ (q : ℕ × Ty). q.0) (struct_places us ms (behind y x))) j ≡ Some z) → (o : Option Extent) →
-        type_extent ts m.of ≡ o →
+        next_within x (type_extent ts m.of) ≡ o →
         slice_get (map (λ (y : ℕ × Ty). y.0)
         (or_none o (λ y. (member_offset y x, m.of) ∷ struct_places ts ms (behind y x)))) k ≡ Some z →
         slice_get (map (λ (y : ℕ × Ty). y.0)
-        (or_none (type_extent us m.of) (λ y. (member_offset y x, m.of) ∷ struct_places us ms (behind y x)))) k ≡ Some z
+        (or_none (next_within x (type_extent us m.of))
+        (λ y. (member_offset y x, m.of) ∷ struct_places us ms (behind y x)))) k ≡ Some z
     by_extent others None f i = absurd (none-some z i)
-    by_extent others (Some y) f i = rw (extent_stays ts us g m.of y f) (by_number k i)
+    by_extent others (Some y) f i =
+        let h : next_within x (type_extent us m.of) ≡ Some y =
+        next_stays x y (type_extent ts m.of) (type_extent us m.of) f (extent_stays ts us g m.of) in
+        rw h (by_number k i)
       where
         by_number : (j : ℕ) →
             slice_get (member_offset y x ∷ map (λ (q : ℕ × Ty). q.0) (struct_places ts ms (behind y x))) j ≡ Some z →

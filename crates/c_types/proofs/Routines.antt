@@ -10,10 +10,9 @@ use Rattle.c_tree.specs.declared.typed.Typed.{Typed}
 use Rattle.c_tree.specs.declared.typed.FunDef.{FunDef}
 use Rattle.c_tree.specs.declared.typed.VarDef.{VarDef}
 use Rattle.c_tree.specs.Types.{Ty, composite}
-use Rattle.c_tree.specs.Views.{type_at, types_of}
+use Rattle.c_tree.specs.Views.{types_of}
 use Rattle.c_tree.specs.Scopes as meant
-use Rattle.c_tree.specs.Scopes.{State, RoutineState, Body, bind_name, change_routine, changed_at, find_in, innermost}
-use Rattle.c_tree.specs.Scopes.{continued, ◌>>=◌}
+use Rattle.c_tree.specs.Scopes.{State, RoutineState, Body, bind_name, change_routine, changed_at, continued, ◌>>=◌}
 use Rattle.c_tree.specs.Declarations.{new_routine, known_routine, linked_routine}
 use Rattle.c_interner.specs.Numbers.{type_named}
 use Rattle.c_types.specs.declared.entries.Decl.{Decl}
@@ -22,15 +21,13 @@ use Rattle.c_types.specs.declared.entries.Entity.TheVariants as kept
 use Rattle.c_types.specs.declared.entries.Entry.{Entry}
 use Rattle.c_types.specs.declared.entries.Entry.TheVariants as entries
 use Rattle.c_types.specs.declared.scopes.Scopes.{Scopes}
-use Rattle.c_types.specs.Calls.{Given, IsEntity, Found}
-use Rattle.c_types.specs.Declares.{name_of}
+use Rattle.c_types.specs.Calls.{Given, IsEntity}
+use Rattle.c_types.specs.Declares.{name_of, function_of}
 use Rattle.c_types.specs.Fitting.{seen_routine, routine_seen_by}
-use Rattle.c_types.specs.Looks.{entry_of}
-use Rattle.c_types.specs.Naming.{IsNamed, IsNumbered, begins}
+use Rattle.c_types.specs.Naming.{IsNumber, begins, function_entry}
 use Rattle.c_types.specs.Stands.{Stands, Declared, entity_kept, entity_seen, routine_seen, fun_kept, declared_at, named}
-use Rattle.c_types.specs.Stands.{text_at}
-use Rattle.c_types.proofs.Looking.{seen_at, type_is}
-use Rattle.c_types.proofs.Binding.{bound_named}
+use Rattle.c_types.specs.Stands.{Seen, library, text_at}
+use Rattle.c_types.proofs.Looking.{seen_at}
 use Rattle.c_types.proofs.Judged.{named_there}
 use Rattle.c_types.proofs.Changing.{changed_same, routines_changed}
 use Rattle.c_types.proofs.Seeing.{routine_seen_is}
@@ -86,7 +83,7 @@ pub routine_given : (sc sb : Scopes) (v : Vec Bool) (p : Typed) (fs : List FunDe
     v.items ≡ sb.begun.items ++ false ∷ [] → fs ≡ p.funs ++ x ∷ [] →
     ((file : List ℕ) (ts : List Ty) → fun_kept file ts x ≡ declared_at file ts d.name d.pos d.of) →
     Given (record sb { begun = v }) (record p { funs = fs }) (new_routine (name_of sc.file.now d) (type_named p d.of) s)
-    (IsNumbered (record p { funs = fs }) (text_at sc.file.now d.name) k (entries.Fun k))
+    (IsNumber k)
 routine_given sc sb v p fs s d k x h lt n b f g i w =
     let t = name_of sc.file.now d in
     let of = type_named p d.of in
@@ -101,12 +98,7 @@ routine_given sc sb v p fs s d k x h lt n b f g i w =
           (rw f (w sc.file.now (types_of p.types)
           ∙ ap (λ o. record (declared_at sc.file.now (types_of p.types) d.name d.pos d.of) { of = o })
           (named_there p d.of lt))));
-      fits = (
-        sym l,
-        rw (← l) (bound_named (record p { funs = fs })
-            (record s { routines = s.routines ++ z ∷ [] }) t.text (meant.Routine k) (entries.Fun k)
-            (length s.routines) refl),
-      );
+      fits = sym l;
     }
 
 -- ---- functions that are known
@@ -135,48 +127,64 @@ routine_changed sc p fs s k u t h e m =
     (sym (changed_same sc.begun.items k)) e (λ y. refl)
     (λ x y a b g. retyped_fun sc.file.now (types_of p.types) x y u (composite y.of t) g (m x y a b))
 
-pub again_given : (sd : Scopes) (q : Typed) (s : State) (name : List ℕ) (k : ℕ) (t : Ty) →
+pub again_given : (sd : Scopes) (q : Typed) (s : State) (k : ℕ) (t : Ty) →
     Stands sd q (change_routine k (λ (f : RoutineState). record f { of = composite f.of t }) s) →
-    find_in (innermost s.scopes).names name ≡ Some (meant.Routine k) →
-    Given sd q (known_routine k t s) (IsNumbered q name k (entries.Fun k))
-again_given sd q s name k t h e = record {
+    Given sd q (known_routine k t s) (IsNumber k)
+again_given sd q s k t h = record {
   value = k;
   state = change_routine k (λ (f : RoutineState). record f { of = composite f.of t }) s;
   is = refl;
   stands = h;
-  fits = (refl, λ lt. rw e refl);
+  fits = refl;
 }
 
 -- ---- the function of a name
 
-entity_is : (q : Typed) (x : Entity) (e : Option meant.Entity) →
-    Some (entity_kept (types_of q.types) x) ≡ option_map entity_seen e → Found (IsEntity q) (Some (entry_of x)) e
-entity_is q (kept.Local k t) (Some (meant.Local j u)) h = let i : k ≡ j = cc in (u, rw i refl)
-entity_is q (kept.Local k t) e h = absurd cc
-entity_is q (kept.Static k) (Some (meant.Static j)) h = let i : k ≡ j = cc in rw i refl
-entity_is q (kept.Static k) e h = absurd cc
-entity_is q (kept.Routine k) (Some (meant.Routine j)) h = let i : k ≡ j = cc in rw i refl
-entity_is q (kept.Routine k) e h = absurd cc
-entity_is q (kept.Alias t) (Some (meant.Alias u)) h =
-    let i : named (types_of q.types) t ≡ Some u = cc in
-    ap meant.Alias (sym (type_is q t u i))
-entity_is q (kept.Alias t) e h = absurd cc
-entity_is q (kept.Enumerator z) (Some (meant.Enumerator y)) h = let i : z ≡ y = cc in rw i refl
-entity_is q (kept.Enumerator z) e h = absurd cc
-entity_is q (kept.Library k of) (Some (meant.Library j u)) h = let i : k ≡ j = cc in (u, rw i refl)
-entity_is q (kept.Library k of) e h = absurd cc
-
-pub library_given : (sc : Scopes) (p : Typed) (s : State) (t : Lexeme) (of : Ty) (name : List ℕ) (x : Entity)
+pub library_given : (sc : Scopes) (p : Typed) (s : State) (t : Lexeme) (of : Ty) (x : Entity)
     (e : Option meant.Entity) → Stands sc p s → Some (entity_kept (types_of p.types) x) ≡ option_map entity_seen e →
-    seen_routine (entity_kept (types_of p.types) x) ≡ None → find_in (innermost s.scopes).names name ≡ e →
-    Given sc p (linked_routine t of e s) (IsNumbered p name 0 (entry_of x))
-library_given sc p s t of name x e h g n f = record {
+    seen_routine (entity_kept (types_of p.types) x) ≡ None → Given sc p (linked_routine t of e s) (IsNumber 0)
+library_given sc p s t of x e h g n = record {
   value = 0;
   state = s;
   is = ap (λ d. d s) (routine_seen_is t of e ∙ ap (routine_seen_by t of) (sym g)) ∙ rw n refl;
   stands = h;
-  fits = (refl, λ lt. rw f (entity_is p x e g));
+  fits = refl;
 }
+
+-- what is seen of the name of a function tells whether it is a library function's
+abbrev library_in : Option Seen → Option ℕ
+library_in (Some (library k of)) = Some k
+library_in x = None
+
+abbrev entry_by : Option ℕ → ℕ → Entry
+entry_by (Some j) k = entries.Library j
+entry_by None k = entries.Fun k
+
+entry_is : (ts : List Ty) (o : Option Entity) (k : ℕ) →
+    function_entry o k ≡ entry_by (library_in (option_map (entity_kept ts) o)) k
+entry_is ts None k = refl
+entry_is ts (Some (kept.Local j t)) k = refl
+entry_is ts (Some (kept.Static j)) k = refl
+entry_is ts (Some (kept.Routine j)) k = refl
+entry_is ts (Some (kept.Alias t)) k = refl
+entry_is ts (Some (kept.Enumerator z)) k = refl
+entry_is ts (Some (kept.Library j t)) k = refl
+
+entity_is : (q : Typed) (e : Option meant.Entity) (k : ℕ) →
+    IsEntity q (entry_by (library_in (option_map entity_seen e)) k) (function_of e k)
+entity_is q None k = refl
+entity_is q (Some (meant.Local j t)) k = refl
+entity_is q (Some (meant.Static j)) k = refl
+entity_is q (Some (meant.Routine j)) k = refl
+entity_is q (Some (meant.Alias t)) k = refl
+entity_is q (Some (meant.Enumerator z)) k = refl
+entity_is q (Some (meant.Library j t)) k = (t, refl)
+
+pub function_is : (ts : List Ty) (q : Typed) (o : Option Entity) (e : Option meant.Entity) (k : ℕ) →
+    option_map (entity_kept ts) o ≡ option_map entity_seen e → IsEntity q (function_entry o k) (function_of e k)
+function_is ts q o e k h =
+    subst (λ x. IsEntity q x (function_of e k)) (sym (entry_is ts o k ∙ ap (λ x. entry_by (library_in x) k) h))
+    (entity_is q e k)
 
 -- ---- definitions
 
@@ -200,34 +208,19 @@ begun_stands sc v w p fs s k d h e f g =
     (λ (r : RoutineState). record r { name = name_of sc.file.now d; begun = true }) l e f
     (λ y. refl) (λ x y a b m. begun_fun sc.file.now (types_of p.types) d x y m)
 
-entity_same : (p q : Typed) (x : Entry) (e : meant.Entity) → q.types ≡ p.types → IsEntity p x e → IsEntity q x e
-entity_same p q (entries.Var k) e f h = h
-entity_same p q (entries.Global k) e f h = h
-entity_same p q (entries.Fun k) e f h = h
-entity_same p q (entries.Typedef t) e f h = h ∙ ap (λ cs. meant.Alias (type_at (types_of cs) t)) (sym f)
-entity_same p q (entries.Constant z) e f h = h
-entity_same p q (entries.Library k) e f h = h
-entity_same p q (entries.Tag t k) e f h = h
-
-found_same : (p q : Typed) (x : Entry) (o : Option meant.Entity) → q.types ≡ p.types → Found (IsEntity p) (Some x) o →
-    Found (IsEntity q) (Some x) o
-found_same p q x None f h = h
-found_same p q x (Some e) f h = entity_same p q x e f h
-
 pub definition_given : (sc sd : Scopes) (p q : Typed) (s : State) (t : Lexeme) (of : Ty) (e : Option meant.Entity)
-    (name : List ℕ) (k : ℕ) (x y : Entry) → Given sc p (linked_routine t of e s) (IsNumbered p name k x) →
+    (k : ℕ) → Given sc p (linked_routine t of e s) (IsNumber k) →
     ((u : State) → Stands sc p u →
     Stands sd q (change_routine k (λ (r : RoutineState). record r { name = t; begun = true })
-    (record u { locals = [] }))) → q.types ≡ p.types → y ≡ x →
-    Given sd q ((linked_routine t of e >>= begins t) s) (IsNamed q name y)
-definition_given sc sd p q s t of e name k x y g h same f = record {
+    (record u { locals = [] }))) → Given sd q ((linked_routine t of e >>= begins t) s) (IsNumber k)
+definition_given sc sd p q s t of e k g h = record {
   value = g.value;
   state = change_routine g.value (λ (r : RoutineState). record r { name = t; begun = true })
       (record g.state { locals = [] });
   is = ap (λ r. continued r (begins t)) g.is;
   stands = subst (λ j. Stands sd q (change_routine j (λ (r : RoutineState). record r { name = t; begun = true })
-      (record g.state { locals = [] }))) (sym g.fits.0) (h g.state g.stands);
-  fits = λ lt. rw f (found_same p q x (find_in (innermost g.state.scopes).names name) same (g.fits.1 lt));
+      (record g.state { locals = [] }))) (sym g.fits) (h g.state g.stands);
+  fits = g.fits;
 }
 
 -- ---- bodies

@@ -5,7 +5,7 @@ use Rattle.std.specs.Prelude.{slice_get}
 use Rattle.std.proofs.lemmas.Option.{same_Some, none-some, get_or_from_slice_get}
 use Rattle.c_tree.specs.declared.typed.CType.{CType}
 use Rattle.c_tree.specs.declared.typed.Member.{Member}
-use Rattle.c_tree.specs.Initializers.{or_none, struct_places}
+use Rattle.c_tree.specs.Initializers.{or_none, next_within, struct_places}
 use Rattle.c_tree.specs.Layout.{Extent, member_offset, behind, no_members}
 use Rattle.c_tree.specs.Scopes.{Part, TagState, type_extent}
 use Rattle.c_tree.specs.Types.{Ty, Void}
@@ -31,7 +31,7 @@ starts tags parts x = map (λ (y : ℕ × Ty). y.0) (struct_places tags parts x)
 -- one more member begins behind those before it
 pub starts_turn : (tags : List TagState) (cs : List CType) (parts : List Part) (ms : List Member) (i : ℕ) (m : Member)
     (before l after : Extent) (found more : List ℕ) (z : ℕ) → HasParts (types_of cs) parts ms →
-    slice_get ms i ≡ Some m → numbered_extent tags cs m.of ≡ Some l → z ≡ member_offset l before →
+    slice_get ms i ≡ Some m → next_within before (numbered_extent tags cs m.of) ≡ Some l → z ≡ member_offset l before →
     after ≡ behind l before → more ≡ found ++ z ∷ [] →
     starts tags parts no_members ≡ found ++ starts tags (drop i parts) before →
     starts tags parts no_members ≡ more ++ starts tags (drop (i + 1) parts) after
@@ -40,7 +40,8 @@ starts_turn tags cs parts ms i m before l after found more z has e x f g n h =
     let t = seen_at (member_kept ts) part_seen ms parts i m (sym has) e in
     let of : type_at ts m.of ≡ t.0.of = get_or_from_slice_get ts m.of t.0.of Void
     (ap (λ (y : Span × Option Ty). y.1) t.2) in
-    let known : type_extent tags t.0.of ≡ Some l = ap (type_extent tags) (sym of) ∙ x in
+    let known : next_within before (type_extent tags t.0.of) ≡ Some l =
+    ap (λ u. next_within before (type_extent tags u)) (sym of) ∙ x in
     let next : i + 1 ≡ suc i = omega arith in
     rw (n, g, next, f)
     (h ∙ ap (λ xs. found ++ starts tags xs before) (drop_item parts i t.0 t.1)

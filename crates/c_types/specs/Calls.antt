@@ -11,7 +11,7 @@ use Rattle.c_tree.specs.declared.typed.FunDef.{FunDef}
 use Rattle.c_tree.specs.declared.typed.Typed.{Typed}
 use Rattle.c_tree.specs.Types.{Ty, Tagged, int}
 use Rattle.c_tree.specs.Scopes as meant
-use Rattle.c_tree.specs.Scopes.{Part, State, Doing, Fault, ◌>>=◌, ◌>>◌, give}
+use Rattle.c_tree.specs.Scopes.{Part, State, Doing, Fault}
 use Rattle.c_tree.specs.declared.syntax.RecordKind.{RecordKind}
 use Rattle.c_tree.specs.Readings.{Storage, Defining_type}
 use Rattle.c_tree.specs.Declarators.{Formed, kind_at, complete_tag}
@@ -26,7 +26,7 @@ use Rattle.c_interner.specs.Numbers.{type_named}
 use Rattle.c_tree.specs.declared.typed.Member.{Member}
 use Rattle.c_types.specs.Stands.{Stands, part_seen, member_kept}
 use Rattle.c_types.specs.Declares.{storage_of, name_of, formed_of, declares_named, declares_definition}
-use Rattle.c_types.specs.Declares.{declares_constant, declares_tag, denoted}
+use Rattle.c_types.specs.Declares.{giving, declares_constant, declares_tag}
 
 -- a step gives this result and this state, for which the scopes and the program stand
 pub record Given {A : Type 0} (sc : Scopes) (p : Typed) (r : Result (A × State) Fault) (Fits : State → A → Type 0) :
@@ -108,16 +108,16 @@ Completes before p after q k n parts place (Err NoMemory) = (q ≡ p) × Keeps b
 
 -- ---- declarations
 
--- what a name denotes then, where some scope is in force
-abbrev pub IsDenoted : Typed → Entry → State → Option meant.Entity → Type 0
-IsDenoted p x s o = 0 < length s.scopes → Found (IsEntity p) (Some x) o
+-- the entry of what the name denotes from here on
+abbrev pub IsDeclared : Typed → Entry → State → meant.Entity → Type 0
+IsDeclared p x s e = IsEntity p x e
 
 -- the step that a declaration is, by what it is of
-abbrev pub declares_kind : DeclKind → Storage → Lexeme → Formed → Bool → Doing (Option meant.Entity)
+abbrev pub declares_kind : DeclKind → Storage → Lexeme → Formed → Bool → Doing meant.Entity
 declares_kind kinds.Object storage t f defines = declares_named storage t f defines
 declares_kind kinds.Fun storage t f defines =
-    (if defines then denoted t (declares_definition storage t f) else declares_named storage t f defines)
-declares_kind (kinds.Constant z) storage t f defines = denoted t (declares_constant t z)
+    (if defines then giving meant.Routine (declares_definition storage t f) else declares_named storage t f defines)
+declares_kind (kinds.Constant z) storage t f defines = declares_constant t z
 declares_kind k storage t f defines = declares_named Defining_type t f defines
 
 abbrev pub DeclaresKind : DeclKind → List ℕ → Scopes → Typed → Scopes → Typed → Decl → Result Entry Refusal → Type 0
@@ -125,7 +125,7 @@ DeclaresKind (kinds.Tag k) file before p after q d r =
     Answers before p after q (declares_tag k (name_of file d) d.defines) (IsTag q) r
 DeclaresKind k file before p after q d r =
     Answers before p after q (declares_kind k (storage_of d.storage) (name_of file d) (formed_of p d) d.defines)
-    (IsDenoted q) r
+    (IsDeclared q) r
 
 -- a declaration of a type of the program
 abbrev pub Declares : List ℕ → Scopes → Typed → Scopes → Typed → Decl → Result Entry Refusal → Type 0

@@ -1,5 +1,5 @@
 -- What a declaration does before its initialiser, its body or its members (C11 6.7, 6.9).
-use Rattle.std.specs.Prelude.{ℕ, ℤ, Bool, true, false, not, ◌&&◌, ◌||◌, if◌then◌else◌, List, [], Option, None}
+use Rattle.std.specs.Prelude.{ℕ, ℤ, Bool, true, false, not, ◌&&◌, ◌||◌, if◌then◌else◌, List, [], Option, Some, None}
 use Rattle.ck_base.specs.Tokens.{Lexeme}
 use Rattle.ck_base.specs.declared.tokens.TokenKind.TheVariants.{Word}
 use Rattle.c_tree.specs.declared.syntax.RecordKind.{RecordKind}
@@ -7,8 +7,8 @@ use Rattle.c_tree.specs.declared.syntax.RecordKind.TheVariants as records
 use Rattle.c_tree.specs.declared.typed.Typed.{Typed}
 use Rattle.c_tree.specs.Types.{Ty, is_function}
 use Rattle.c_tree.specs.Scopes as meant
-use Rattle.c_tree.specs.Scopes.{Entity, Enumerator, State, Doing, give, need, look, change, ◌>>=◌, ◌>>◌, find_in}
-use Rattle.c_tree.specs.Scopes.{find_tag, innermost, at_file_scope, bind_name, change_routine, is_complete}
+use Rattle.c_tree.specs.Scopes.{Entity, State, Doing, give, need, look, change, ◌>>=◌, ◌>>◌, find_in, find_tag}
+use Rattle.c_tree.specs.Scopes.{innermost, at_file_scope, bind_name, change_routine, is_complete}
 use Rattle.c_tree.specs.Readings.{Storage, Plain, Internal, External, Defining_type}
 use Rattle.c_tree.specs.Declarators.{Formed, judge, is_new, named_tag, begin_tag, new_enumeration, named_enumeration}
 use Rattle.c_tree.specs.Declarations.{linked, named_function, may_be_external, object_agrees, function_agrees}
@@ -44,23 +44,34 @@ formed_of p d = record {
   too_large = d.faults.too_large;
 }
 
--- ---- ordinary names. The truth value says whether an initialiser stands with the name
+-- ---- ordinary names. Each gives what the name denotes from here on. The truth value says whether an initialiser
+-- stands with the name
 
-abbrev pub declares_alias : Lexeme → Formed → Bool → Doing Unit
+abbrev pub giving : (ℕ → Entity) → Doing ℕ → Doing Entity
+giving of d = d >>= λ k. give (of k)
+
+abbrev pub declares_alias : Lexeme → Formed → Bool → Doing Entity
 declares_alias t f defines = look >>= λ s.
     need (if at_file_scope s then alias_agrees (find_in (innermost s.scopes).names t.text) f.of else is_new s t.text)
     131 t.pos >>
-    judge f false defines t.pos >> change (bind_name t.text (meant.Alias f.of))
+    judge f false defines t.pos >> (change (bind_name t.text (meant.Alias f.of)) >> give (meant.Alias f.of))
+
+-- a library function, or the function with a number
+abbrev pub function_of : Option Entity → ℕ → Entity
+function_of (Some (meant.Library k of)) j = meant.Library k of
+function_of o j = meant.Routine j
 
 -- a function at file scope; in a block none is declared
-abbrev pub declares_function : Lexeme → Formed → Bool → Doing ℕ
+abbrev pub declares_function : Lexeme → Formed → Bool → Doing Entity
 declares_function t f defines = look >>= λ s.
     need (if at_file_scope s then function_agrees s (find_in (innermost s.scopes).names t.text) t.text f.of false
     else is_new s t.text) 131 t.pos >>
     judge f false (defines || not (at_file_scope s)) t.pos >>
-    linked_routine t f.of (find_in (innermost s.scopes).names t.text)
+    giving (function_of (find_in (innermost s.scopes).names t.text))
+    (linked_routine t f.of (find_in (innermost s.scopes).names t.text))
 
--- a function with its body, whose place is that of the definition from here on. It has no locals yet
+-- a function with its body, whose place is that of the definition from here on. It has no locals yet. The function's
+-- number is given
 abbrev pub declares_definition : Storage → Lexeme → Formed → Doing ℕ
 declares_definition storage t f = look >>= λ s.
     need (definition_agrees s (find_in (innermost s.scopes).names t.text) t.text f.of) 131 t.pos >>
@@ -71,50 +82,48 @@ declares_definition storage t f = look >>= λ s.
 abbrev pub may_wait : State → Ty → Bool → Bool
 may_wait s of defines = is_complete s of || is_open of || not defines
 
-abbrev pub declares_global : Storage → Lexeme → Formed → Bool → Doing ℕ
+abbrev pub declares_global : Storage → Lexeme → Formed → Bool → Doing Entity
 declares_global storage t f defines = look >>= λ s.
     need (object_agrees s (find_in (innermost s.scopes).names t.text) t.text f.of defines) 131 t.pos >>
     judge f (not (may_wait s f.of defines)) false t.pos >>
-    linked_static t f.of (defines || not (is_external storage)) (linked s t.text)
+    giving meant.Static (linked_static t f.of (defines || not (is_external storage)) (linked s t.text))
 
-abbrev pub declares_external : Lexeme → Formed → Bool → Doing ℕ
+abbrev pub declares_external : Lexeme → Formed → Bool → Doing Entity
 declares_external t f defines = look >>= λ s.
     need (may_be_external s (find_in (innermost s.scopes).names t.text) && not (named_function s t.text)
     && object_agrees s None t.text f.of false) 131 t.pos >>
-    judge f false defines t.pos >> linked_static t f.of false (linked s t.text)
+    judge f false defines t.pos >> giving meant.Static (linked_static t f.of false (linked s t.text))
 
 abbrev pub is_ready : State → Ty → Bool → Bool
 is_ready s of defines = is_complete s of || (is_open of && defines)
 
-abbrev pub declares_internal : Lexeme → Formed → Bool → Doing ℕ
+abbrev pub declares_internal : Lexeme → Formed → Bool → Doing Entity
 declares_internal t f defines = look >>= λ s.
     need (is_new s t.text) 131 t.pos >> judge f (not (is_ready s f.of defines)) false t.pos
-    >> new_static t f.of false true
+    >> giving meant.Static (new_static t f.of false true)
 
-abbrev pub declares_local : Lexeme → Formed → Bool → Doing ℕ
+abbrev pub declares_local : Lexeme → Formed → Bool → Doing Entity
 declares_local t f defines = look >>= λ s.
-    need (is_new s t.text) 131 t.pos >> judge f (not (is_ready s f.of defines)) false t.pos >> new_local t f.of
+    need (is_new s t.text) 131 t.pos >> judge f (not (is_ready s f.of defines)) false t.pos
+    >> giving (λ k. meant.Local k f.of) (new_local t f.of)
 
-abbrev pub declares_in_block : Storage → Lexeme → Formed → Bool → Doing ℕ
+abbrev pub declares_in_block : Storage → Lexeme → Formed → Bool → Doing Entity
 declares_in_block External t f defines = declares_external t f defines
 declares_in_block Internal t f defines = declares_internal t f defines
 declares_in_block storage t f defines = declares_local t f defines
 
-abbrev pub declares_object : Storage → Lexeme → Formed → Bool → Doing ℕ
+abbrev pub declares_object : Storage → Lexeme → Formed → Bool → Doing Entity
 declares_object storage t f defines = look >>= λ s.
     (if is_function f.of then declares_function t f defines
     else (if at_file_scope s then declares_global storage t f defines else declares_in_block storage t f defines))
 
-abbrev pub declares_constant : Lexeme → ℤ → Doing Unit
-declares_constant t z = look >>= λ s. need (is_new s t.text) 131 t.pos >> change (bind_name t.text (Enumerator z))
+abbrev pub declares_constant : Lexeme → ℤ → Doing Entity
+declares_constant t z = look >>= λ s. need (is_new s t.text) 131 t.pos
+    >> (change (bind_name t.text (meant.Enumerator z)) >> give (meant.Enumerator z))
 
--- what the name denotes then
-abbrev pub denoted : {A : Type 0} → Lexeme → Doing A → Doing (Option Entity)
-denoted t d = d >>= λ a. look >>= λ s. give (find_in (innermost s.scopes).names t.text)
-
-abbrev pub declares_named : Storage → Lexeme → Formed → Bool → Doing (Option Entity)
-declares_named Defining_type t f defines = denoted t (declares_alias t f defines)
-declares_named storage t f defines = denoted t (declares_object storage t f defines)
+abbrev pub declares_named : Storage → Lexeme → Formed → Bool → Doing Entity
+declares_named Defining_type t f defines = declares_alias t f defines
+declares_named storage t f defines = declares_object storage t f defines
 
 -- ---- tags. The truth value says whether braces stand with the name
 

@@ -1,9 +1,8 @@
--- What a name denotes once it is declared.
-use Rattle.std.specs.Prelude.{◌≡◌, ℕ, pos, Bool, true, false, List, [], Option, Some, None, slice_get, if◌then◌else◌}
+-- What a declaration gives.
+use Rattle.std.specs.Prelude.{◌≡◌, ℕ, pos, Bool, true, false, [], Option, Some, None, slice_get, if◌then◌else◌}
 use Rattle.ck_base.specs.Tokens.{Lexeme}
 use Rattle.c_tree.specs.declared.syntax.RecordKind.{RecordKind}
-use Rattle.c_tree.specs.declared.typed.Typed.{Typed}
-use Rattle.c_tree.specs.Scopes.{State, Doing, Tagging, give, change, change_routine, find_in, innermost, ◌>>=◌, ◌>>◌}
+use Rattle.c_tree.specs.Scopes.{State, Doing, Tagging, give, change, change_routine, ◌>>=◌, ◌>>◌}
 use Rattle.c_tree.specs.Declarators.{kind_at, is_begun, as_record, begin_tag}
 use Rattle.c_types.specs.declared.entries.Entry.{Entry}
 use Rattle.c_types.specs.declared.entries.Entry.TheVariants as entries
@@ -11,9 +10,7 @@ use Rattle.c_types.specs.declared.entries.Entity.{Entity}
 use Rattle.c_types.specs.declared.entries.Entity.TheVariants as kept
 use Rattle.c_types.specs.declared.entries.DeclKind.{DeclKind}
 use Rattle.c_types.specs.declared.entries.DeclKind.TheVariants as kinds
-use Rattle.c_types.specs.Looks.{entry_of}
 use Rattle.c_types.specs.declared.scopes.ObjectInfo.{ObjectInfo}
-use Rattle.c_types.specs.Calls.{IsDenoted}
 
 -- the result is the number of a struct or union of this kind
 abbrev pub IsTagOf : RecordKind → ℕ → State → ℕ → Type 0
@@ -27,13 +24,9 @@ IsNewTag k n s m = (m ≡ n) × (kind_at s n k ≡ true) × (is_begun (slice_get
 abbrev pub names_record : RecordKind → Lexeme → Bool → Tagging → Doing ℕ
 names_record k t defines g = as_record k t (Some g) >>= λ m. (if defines then begin_tag m t.pos else give tt) >> give m
 
--- the name denotes this then, where some scope is in force
-abbrev pub IsNamed : {A : Type 0} → Typed → List ℕ → Entry → State → A → Type 0
-IsNamed q name x s a = IsDenoted q x s (find_in (innermost s.scopes).names name)
-
--- the result is this number, and the name denotes that
-abbrev pub IsNumbered : Typed → List ℕ → ℕ → Entry → State → ℕ → Type 0
-IsNumbered q name k x s j = (j ≡ k) × IsNamed q name x s j
+-- the result is this number
+abbrev pub IsNumber : ℕ → State → ℕ → Type 0
+IsNumber k s j = j ≡ k
 
 -- whether an object has an initialiser, and whether the definition of a function was begun
 abbrev pub given_at : Option ObjectInfo → Bool
@@ -44,10 +37,10 @@ abbrev pub begun_at : Option Bool → Bool
 begun_at None = false
 begun_at (Some b) = b
 
--- what the name of a function denotes once it is declared: what it did, or a new function
+-- what the name of a function denotes once it is declared: a library function, or the function with a number
 abbrev pub function_entry : Option Entity → ℕ → Entry
-function_entry None k = entries.Fun k
-function_entry (Some x) k = entry_of x
+function_entry (Some (kept.Library j of)) k = entries.Library j
+function_entry o k = entries.Fun k
 
 -- the definition of a function is begun: it has the name and the place of that, and no locals yet
 abbrev pub begins : Lexeme → ℕ → Doing ℕ

@@ -4,15 +4,14 @@ ghost use Rattle.c_tree.specs.Types.{Ty};
 ghost use Rattle.c_tree.specs.Scopes.{State};
 ghost use Rattle.c_tree.specs.Views.{types_of};
 ghost use Rattle.c_interner.specs.Numbers.{type_named};
-ghost use Rattle.c_types.specs.Calls.{Answers};
+ghost use Rattle.c_types.specs.Calls.{Answers, IsDeclared};
 ghost use Rattle.c_types.specs.Declares.{name_of, formed_of, declares_alias};
 ghost use Rattle.c_types.specs.Fitting.{seen_alias, alias_seen, alias_fits};
-ghost use Rattle.c_types.specs.Naming.{IsNamed};
 ghost use Rattle.c_types.specs.Stands.{Stands, named, entity_kept, text_at};
 
 use crate::entries::{Decl, Entity, Entry};
 use crate::judging::admit;
-use crate::scopes::{Scopes, entry_of};
+use crate::scopes::Scopes;
 use c_interner::Lengths;
 use c_tree::Typed;
 use ck_base::{NoMemory, Refusal};
@@ -69,16 +68,15 @@ impl<'a> Scopes<'a> {
     pub(crate) fn declare_alias(&mut self, p: &Typed, d: Decl) -> Result<Entry, Refusal>
         ensures is { d.of < length p.now.types →
             Answers self.old p.now self.new p.now (declares_alias (name_of self.old.file.now d)
-            (formed_of p.now d) d.defines) (IsNamed p.now (text_at self.old.file.now d.name)) result }
+            (formed_of p.now d) d.defines) (IsDeclared p.now) result }
         ensures file { self.new.file.now ≡ self.old.file.now }
     {
         let fits = self.alias_fits(p, d)?;
         match admit(fits, d.faults, false, d.defines, d.pos) {
             Err(refusal) => Err(refusal),
             Ok(()) => {
-                let entity = alias(d.of);
-                self.bind(self.text(d.name), entity)?;
-                Ok(entry_of(entity))
+                self.bind(self.text(d.name), alias(d.of))?;
+                Ok(Entry::Typedef(d.of))
             }
         }
     }

@@ -195,8 +195,8 @@ fn known_names<'a>(alloc: Global, numbers: &[u32]) -> Result<Scope<'a>, NoMemory
 
 impl<'a> Scopes<'a> {
     /// The scopes before a file: that of the file alone, with the typedef names, the library functions and the
-    /// intrinsics that are declared before it, whose types are added to the program. The program has no types, objects and
-    /// functions yet.
+    /// intrinsics that are declared before it, whose types are added to the program. The program has no types, objects
+    /// and functions yet.
     pub fn new(alloc: Global, p: &mut Typed, file: &'a [u8]) -> Result<Scopes<'a>, NoMemory>
         ensures adds { AddsTypes p.old p.new }
         ensures ok { IfOk result (λ sc. p.old.types ≡ [] → p.old.globals ≡ [] → p.old.funs ≡ [] →

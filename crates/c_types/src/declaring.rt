@@ -1,11 +1,8 @@
 // Names are declared (C11 6.7).
 ghost use Rattle.std.specs.Prelude.{◌≡◌, ◌<◌, length};
-ghost use Rattle.c_interner.specs.Numbers.{type_named};
-ghost use Rattle.c_types.specs.Calls.{Answers, Declares, Extends, IsDenoted};
+ghost use Rattle.c_types.specs.Calls.{Answers, Declares, Extends, IsDeclared};
 ghost use Rattle.c_types.specs.Declares.{storage_of, name_of, formed_of, declares_in_block, declares_object};
 ghost use Rattle.c_types.specs.Declares.{declares_named};
-ghost use Rattle.c_types.specs.Naming.{IsNamed};
-ghost use Rattle.c_types.specs.Stands.{text_at};
 
 use crate::entries::{Decl, DeclKind, Entry, Storage};
 use crate::judging::is_function;
@@ -19,8 +16,7 @@ impl<'a> Scopes<'a> {
     fn declare_in_block(&mut self, p: &mut Typed, d: Decl) -> Result<Entry, Refusal>
         ensures answers { d.of < length p.old.types →
             Answers self.old p.old self.new p.new (declares_in_block (storage_of d.storage)
-            (name_of self.old.file.now d) (formed_of p.old d) d.defines)
-            (IsNamed p.new (text_at self.old.file.now d.name)) result }
+            (name_of self.old.file.now d) (formed_of p.old d) d.defines) (IsDeclared p.new) result }
         ensures extends { Extends p.old p.new }
         ensures file { self.new.file.now ≡ self.old.file.now }
     {
@@ -35,8 +31,7 @@ impl<'a> Scopes<'a> {
     fn declare_object(&mut self, p: &mut Typed, d: Decl) -> Result<Entry, Refusal>
         ensures answers { d.of < length p.old.types →
             Answers self.old p.old self.new p.new (declares_object (storage_of d.storage)
-            (name_of self.old.file.now d) (formed_of p.old d) d.defines)
-            (IsNamed p.new (text_at self.old.file.now d.name)) result }
+            (name_of self.old.file.now d) (formed_of p.old d) d.defines) (IsDeclared p.new) result }
         ensures extends { Extends p.old p.new }
         ensures file { self.new.file.now ≡ self.old.file.now }
     {
@@ -53,7 +48,7 @@ impl<'a> Scopes<'a> {
     fn declare_named(&mut self, p: &mut Typed, d: Decl) -> Result<Entry, Refusal>
         ensures answers { d.of < length p.old.types →
             Answers self.old p.old self.new p.new (declares_named (storage_of d.storage) (name_of self.old.file.now d)
-            (formed_of p.old d) d.defines) (IsDenoted p.new) result }
+            (formed_of p.old d) d.defines) (IsDeclared p.new) result }
         ensures extends { Extends p.old p.new }
         ensures file { self.new.file.now ≡ self.old.file.now }
     {
@@ -77,7 +72,8 @@ impl<'a> Scopes<'a> {
             DeclKind::Object => self.declare_named(p, d),
             DeclKind::Fun => {
                 if d.defines {
-                    self.declare_definition(p, d)
+                    let k = self.declare_definition(p, d)?;
+                    Ok(Entry::Fun(k))
                 } else {
                     self.declare_named(p, d)
                 }

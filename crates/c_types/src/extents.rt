@@ -15,7 +15,7 @@ ghost use Rattle.c_types.specs.Sizes.{step_extent, base_extent, IsSmallStep, IsS
 
 use c_interner::{Head, head_of};
 use c_tree::CType;
-use cap_layout::{Layout, LayoutFault, owned};
+use cap_layout::{LIMIT, Layout, LayoutFault, owned};
 use ck_int::IntKind;
 
 /// A type that is no array and not const.
@@ -44,8 +44,6 @@ pub(crate) struct Row {
     /// How many elements there are; all numbers over the limit of a size are alike.
     pub(crate) count: u64,
 }
-
-pub(crate) const LIMIT: u64 = 67108864;
 
 fn bytes_of(kind: IntKind) -> u64
     ensures is { result ≡ bytes_of kind }

@@ -2,7 +2,7 @@
 ghost use Rattle.std.specs.Prelude.{◌≡◌, ℕ, List, [], Bool, true, false, not, ◌&&◌, ◌||◌, ◌<◌, length, Some, None};
 ghost use Rattle.std.specs.Prelude.{option_map, slice_get, Option, IfOk, OnErr};
 ghost use Rattle.c_tree.specs.Declarations.{new_routine, known_routine, linked_routine, agrees_routine, agrees_library};
-ghost use Rattle.c_tree.specs.Scopes.{State, Routine, changed_at, change_routine, find_in, innermost};
+ghost use Rattle.c_tree.specs.Scopes.{State, changed_at, change_routine, find_in, innermost};
 ghost use Rattle.c_tree.specs.Scopes.{Entity as Meant};
 ghost use Rattle.c_tree.specs.Scopes.{RoutineState};
 ghost use Rattle.c_tree.specs.Types.{Ty, composite};
@@ -10,16 +10,16 @@ ghost use Rattle.c_tree.specs.Programs.{is_typedef};
 ghost use Rattle.c_tree.specs.Views.{types_of};
 ghost use Rattle.c_tree.specs.declared.typed.FunDef.{FunDef};
 ghost use Rattle.c_interner.specs.Numbers.{AddsTypes, type_named};
-ghost use Rattle.c_types.specs.Calls.{Given, Keeps, Answers, Extends};
+ghost use Rattle.c_types.specs.Calls.{Given, Keeps, Answers, Extends, IsDeclared};
 ghost use Rattle.c_types.specs.Declares.{storage_of, name_of, formed_of, declares_function, declares_definition};
 ghost use Rattle.c_types.specs.Fitting.{joined, seen_routine, seen_library, function_seen, definition_seen};
 ghost use Rattle.c_types.specs.Fitting.{function_fits};
-ghost use Rattle.c_types.specs.Naming.{IsNamed, IsNumbered, begun_at, function_entry};
+ghost use Rattle.c_types.specs.Naming.{IsNumber, begun_at, function_entry};
 ghost use Rattle.c_types.specs.Stands.{Stands, named, fun_kept, declared_at, entity_kept, entity_seen, text_at};
 
 use crate::entries::{Decl, Entity, Entry, Storage};
 use crate::judging::{admit, either, is_function};
-use crate::scopes::{Scopes, entry_of};
+use crate::scopes::Scopes;
 use crate::statics::agree_with;
 use c_interner::{Lengths, append, next_number};
 use c_tree::{FunDef, Typed};
@@ -70,13 +70,20 @@ fn is_typedef(storage: Storage) -> bool
     }
 }
 
-// What the name of a function denotes once it is declared: what it did, or the function with a number.
+// What the name of a function denotes once it is declared: a library function, or the function with a number.
 fn function_entry(found: Option<Entity>, k: u32) -> Entry
     ensures { result ≡ function_entry found k }
 {
     match found {
-        None => entry_of(routine(k)),
-        Some(entity) => entry_of(entity),
+        Some(Entity::Library(j, _)) => Entry::Library(j),
+        Some(
+            Entity::Local(_, _)
+            | Entity::Static(_)
+            | Entity::Routine(_)
+            | Entity::Alias(_)
+            | Entity::Enumerator(_),
+        )
+        | None => Entry::Fun(k),
     }
 }
 
@@ -200,7 +207,7 @@ impl<'a> Scopes<'a> {
     fn new_routine(&mut self, p: &mut Typed, d: Decl) -> Result<u32, NoMemory>
         ensures ok { IfOk result (λ k. (s : State) → Stands self.old p.old s → d.of < length p.old.types →
             Given self.new p.new (new_routine (name_of self.old.file.now d) (type_named p.old d.of) s)
-            (IsNumbered p.new (text_at self.old.file.now d.name) k (Entry.Fun k))) }
+            (IsNumber k)) }
         ensures err { OnErr result (p.new ≡ p.old) }
         ensures keeps { OnErr result (Keeps self.old self.new p.old) }
         ensures extends { Extends p.old p.new }
@@ -236,9 +243,7 @@ impl<'a> Scopes<'a> {
     // A function that is known gets the composite type.
     fn known_routine(&mut self, p: &mut Typed, k: u32, d: Decl) -> Result<u32, NoMemory>
         ensures ok { IfOk result (λ j. (s : State) → Stands self.old p.old s → d.of < length p.old.types →
-            find_in (innermost s.scopes).names (text_at self.old.file.now d.name) ≡ Some (Routine k) →
-            Given self.new p.new (known_routine k (type_named p.old d.of) s)
-            (IsNumbered p.new (text_at self.old.file.now d.name) j (Entry.Fun k))) }
+            Given self.new p.new (known_routine k (type_named p.old d.of) s) (IsNumber j)) }
         ensures err { OnErr result (p.new ≡ p.old) }
         ensures keeps { OnErr result (Keeps self.old self.new p.old) }
         ensures extends { Extends p.old p.new }
@@ -260,9 +265,8 @@ impl<'a> Scopes<'a> {
         ensures ok { IfOk result (λ k. (s : State) (e : Option Meant) → Stands self.old p.old s →
             d.of < length p.old.types →
             option_map (entity_kept (types_of p.old.types)) found ≡ option_map entity_seen e →
-            find_in (innermost s.scopes).names (text_at self.old.file.now d.name) ≡ e →
             Given self.new p.new (linked_routine (name_of self.old.file.now d) (type_named p.old d.of) e s)
-            (IsNumbered p.new (text_at self.old.file.now d.name) k (function_entry found k))) }
+            (IsNumber k)) }
         ensures err { OnErr result (p.new ≡ p.old) }
         ensures keeps { OnErr result (Keeps self.old self.new p.old) }
         ensures extends { Extends p.old p.new }
@@ -295,7 +299,7 @@ impl<'a> Scopes<'a> {
     pub(crate) fn declare_function(&mut self, p: &mut Typed, d: Decl) -> Result<Entry, Refusal>
         ensures answers { d.of < length p.old.types →
             Answers self.old p.old self.new p.new (declares_function (name_of self.old.file.now d)
-            (formed_of p.old d) d.defines) (IsNamed p.new (text_at self.old.file.now d.name)) result }
+            (formed_of p.old d) d.defines) (IsDeclared p.new) result }
         ensures extends { Extends p.old p.new }
         ensures file { self.new.file.now ≡ self.old.file.now }
     {
@@ -329,12 +333,12 @@ impl<'a> Scopes<'a> {
         }
     }
 
-    // The definition of a function is declared (C11 6.9.1).
-    pub(crate) fn declare_definition(&mut self, p: &mut Typed, d: Decl) -> Result<Entry, Refusal>
+    /// The definition of a function is declared (C11 6.9.1). The answer is the function's number. A refusal is as that
+    /// of `declare`.
+    pub fn declare_definition(&mut self, p: &mut Typed, d: Decl) -> Result<u32, Refusal>
         ensures answers { d.of < length p.old.types →
             Answers self.old p.old self.new p.new (declares_definition (storage_of d.storage)
-            (name_of self.old.file.now d) (formed_of p.old d))
-            (IsNamed p.new (text_at self.old.file.now d.name)) result }
+            (name_of self.old.file.now d) (formed_of p.old d)) IsNumber result }
         ensures extends { Extends p.old p.new }
         ensures file { self.new.file.now ≡ self.old.file.now }
     {
@@ -349,7 +353,7 @@ impl<'a> Scopes<'a> {
             Ok(()) => {
                 let k = self.linked_routine(p, found, d)?;
                 self.begin_routine(p, k, d);
-                Ok(function_entry(found, k))
+                Ok(k)
             }
         }
     }

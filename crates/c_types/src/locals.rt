@@ -4,15 +4,15 @@ ghost use Rattle.c_tree.specs.Declarations.{new_local};
 ghost use Rattle.c_tree.specs.Scopes.{State, LocalState, Local, bind_name};
 ghost use Rattle.c_tree.specs.Types.{Ty};
 ghost use Rattle.c_tree.specs.Views.{types_of};
-ghost use Rattle.c_types.specs.Calls.{Given, Keeps, Answers};
+ghost use Rattle.c_types.specs.Calls.{Given, Keeps, Answers, IsDeclared};
 ghost use Rattle.c_types.specs.Declares.{name_of, formed_of, declares_local};
-ghost use Rattle.c_types.specs.Naming.{IsNamed};
+ghost use Rattle.c_types.specs.Naming.{IsNumber};
 ghost use Rattle.c_types.specs.Stands.{Stands, named, text_at, var_kept, local_seen};
 ghost use Rattle.c_types.specs.Retyped.{retyped};
 
 use crate::entries::{Decl, Entity, Entry};
 use crate::judging::admit;
-use crate::scopes::{Scopes, entry_of};
+use crate::scopes::Scopes;
 use c_interner::next_number;
 use c_tree::{Typed, VarDef};
 use ck_base::{NoMemory, Refusal, Span};
@@ -26,39 +26,40 @@ fn local(k: u32, of: u32) -> Entity
 
 impl<'a> Scopes<'a> {
     // A new local of the function at work, which its name denotes from here on.
-    pub(crate) fn new_local(&mut self, d: Decl) -> Result<Entry, NoMemory>
-        ensures ok { IfOk result (λ x. (p : Typed) (s : State) (of : Ty) → Stands self.old p s →
+    pub(crate) fn new_local(&mut self, d: Decl) -> Result<u32, NoMemory>
+        ensures ok { IfOk result (λ j. (p : Typed) (s : State) (of : Ty) → Stands self.old p s →
             named (types_of p.types) d.of ≡ Some of →
-            Given self.new p (new_local (name_of self.old.file.now d) of s)
-            (IsNamed p (text_at self.old.file.now d.name) x)) }
+            Given self.new p (new_local (name_of self.old.file.now d) of s) (IsNumber j)) }
         ensures err { OnErr result ((p : Typed) → Keeps self.old self.new p) }
         ensures file { self.new.file.now ≡ self.old.file.now }
     {
         let k = next_number(self.locals.as_slice())?;
         self.locals.reserve(1)?;
-        let entity = local(k, d.of);
-        self.bind(self.text(d.name), entity)?;
+        self.bind(self.text(d.name), local(k, d.of))?;
         self.locals.push(VarDef {
             name: d.name,
             pos: d.pos,
             of: d.of,
             simple: false,
         })?;
-        Ok(entry_of(entity))
+        Ok(k)
     }
 
     // An object of automatic storage duration is declared (C11 6.2.4p5).
     pub(crate) fn declare_local(&mut self, p: &Typed, d: Decl) -> Result<Entry, Refusal>
         ensures is { d.of < length p.now.types →
             Answers self.old p.now self.new p.now (declares_local (name_of self.old.file.now d)
-            (formed_of p.now d) d.defines) (IsNamed p.now (text_at self.old.file.now d.name)) result }
+            (formed_of p.now d) d.defines) (IsDeclared p.now) result }
         ensures file { self.new.file.now ≡ self.old.file.now }
     {
         let fits = self.is_new(self.text(d.name));
         let ready = self.is_ready(p, d.of, d.defines);
         match admit(fits, d.faults, !ready, false, d.pos) {
             Err(refusal) => Err(refusal),
-            Ok(()) => Ok(self.new_local(d)?),
+            Ok(()) => {
+                let k = self.new_local(d)?;
+                Ok(Entry::Var(k))
+            }
         }
     }
 

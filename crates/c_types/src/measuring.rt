@@ -11,10 +11,10 @@ ghost use Rattle.c_types.specs.Calls.{HasParts};
 ghost use Rattle.c_types.specs.Sizes.{IsModest, numbered_extent, AreStarts};
 ghost use Rattle.c_types.specs.Stands.{Stands};
 
-use crate::extents::{Base, LIMIT, placed, repeated, row_of, start_of};
+use crate::extents::{Base, placed, repeated, row_of, start_of};
 use crate::scopes::Scopes;
 use c_tree::{Member, Typed};
-use cap_layout::{Layout, LayoutFault};
+use cap_layout::{LIMIT, Layout, LayoutFault};
 use ck_base::NoMemory;
 
 impl<'a> Scopes<'a> {

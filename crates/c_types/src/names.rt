@@ -5,8 +5,8 @@ ghost use Rattle.c_tree.specs.Scopes.{State, bind_name, bind_tag};
 ghost use Rattle.c_tree.specs.Scopes.{Entity as Meant};
 ghost use Rattle.c_tree.specs.Declarators.{named_tag};
 ghost use Rattle.c_tree.specs.Views.{types_of};
-ghost use Rattle.c_types.specs.Calls.{Answers, Keeps, IsDenoted};
-ghost use Rattle.c_types.specs.Declares.{denoted, name_of, declares_constant};
+ghost use Rattle.c_types.specs.Calls.{Answers, Keeps, IsDeclared};
+ghost use Rattle.c_types.specs.Declares.{name_of, declares_constant};
 ghost use Rattle.c_types.specs.Looks.{IsThere};
 ghost use Rattle.c_types.specs.Naming.{constant_of};
 ghost use Rattle.c_types.specs.Stands.{Stands, entity_kept, entity_seen, tagging_of, text_at};
@@ -80,8 +80,7 @@ impl<'a> Scopes<'a> {
     // already.
     pub(crate) fn declare_value(&mut self, d: Decl, entity: Entity) -> Result<Entry, Refusal>
         ensures is { (p : Typed) (z : ℤ) → entity ≡ Entity.Enumerator z →
-            Answers self.old p self.new p (denoted (name_of self.old.file.now d)
-            (declares_constant (name_of self.old.file.now d) z)) (IsDenoted p) result }
+            Answers self.old p self.new p (declares_constant (name_of self.old.file.now d) z) (IsDeclared p) result }
         ensures file { self.new.file.now ≡ self.old.file.now }
     {
         let name = self.text(d.name);
@@ -96,8 +95,8 @@ impl<'a> Scopes<'a> {
     /// already.
     pub fn declare_constant(&mut self, d: Decl, value: i32) -> Result<Entry, Refusal>
         ensures is { (p : Typed) →
-            Answers self.old p self.new p (denoted (name_of self.old.file.now d)
-            (declares_constant (name_of self.old.file.now d) value)) (IsDenoted p) result }
+            Answers self.old p self.new p (declares_constant (name_of self.old.file.now d) value) (IsDeclared p)
+            result }
         ensures file { self.new.file.now ≡ self.old.file.now }
     {
         self.declare_value(d, constant(value))

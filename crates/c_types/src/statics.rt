@@ -10,18 +10,18 @@ ghost use Rattle.c_tree.specs.Types.{Ty, composite};
 ghost use Rattle.c_tree.specs.Views.{types_of};
 ghost use Rattle.c_tree.specs.declared.typed.GlobalDef.{GlobalDef};
 ghost use Rattle.c_interner.specs.Numbers.{AddsTypes, type_named};
-ghost use Rattle.c_types.specs.Calls.{Given, Keeps, Answers, Extends};
+ghost use Rattle.c_types.specs.Calls.{Given, Keeps, Answers, Extends, IsDeclared};
 ghost use Rattle.c_types.specs.Declares.{storage_of, name_of, formed_of, declares_internal, declares_external};
 ghost use Rattle.c_types.specs.Declares.{declares_global};
 ghost use Rattle.c_types.specs.Fitting.{seen_static, object_seen, external_seen, external_fits, callee_seen};
-ghost use Rattle.c_types.specs.Naming.{IsNamed, given_at};
+ghost use Rattle.c_types.specs.Naming.{IsNumber, given_at};
 ghost use Rattle.c_types.specs.Rooms.{HasNameRoom};
 ghost use Rattle.c_types.specs.Stands.{Stands, named, global_kept, declared_at, entity_kept, text_at};
 ghost use Rattle.c_types.specs.declared.scopes.ObjectInfo.{ObjectInfo};
 
 use crate::entries::{Decl, Entity, Entry, Storage};
 use crate::judging::{admit, either};
-use crate::scopes::{ObjectInfo, Scopes, entry_of};
+use crate::scopes::{ObjectInfo, Scopes};
 use c_interner::{Lengths, append, next_number};
 use c_tree::{GlobalDef, Typed};
 use ck_base::{NoMemory, Refusal, Sequence};
@@ -216,11 +216,11 @@ impl<'a> Scopes<'a> {
         d: Decl,
         linkage: bool,
         defined: bool,
-    ) -> Result<Entry, NoMemory>
-        ensures ok { IfOk result (λ x. (s : State) → Stands self.old p.old s → d.of < length p.old.types →
+    ) -> Result<u32, NoMemory>
+        ensures ok { IfOk result (λ j. (s : State) → Stands self.old p.old s → d.of < length p.old.types →
             (linkage ≡ true → linked s (text_at self.old.file.now d.name) ≡ None) →
             Given self.new p.new (new_static (name_of self.old.file.now d)
-            (type_named p.old d.of) linkage defined s) (IsNamed p.new (text_at self.old.file.now d.name) x)) }
+            (type_named p.old d.of) linkage defined s) (IsNumber j)) }
         ensures err { OnErr result (p.new ≡ p.old) }
         ensures keeps { OnErr result (Keeps self.old self.new p.old) }
         ensures extends { Extends p.old p.new }
@@ -232,15 +232,14 @@ impl<'a> Scopes<'a> {
         self.reserve_name()?;
         append(self.alloc, &mut p.globals, zeros(self.alloc, d))?;
         let name = self.text(d.name);
-        let entity = object(k);
-        self.bind(name, entity)?;
+        self.bind(name, object(k))?;
         self.note_linked(name, k, linkage)?;
         self.objects.push(ObjectInfo {
             linked: linkage,
             defined,
             given: false,
         })?;
-        Ok(entry_of(entity))
+        Ok(k)
     }
 
     // An object is defined, if it was not yet.
@@ -281,10 +280,10 @@ impl<'a> Scopes<'a> {
         k: u32,
         d: Decl,
         defined: bool,
-    ) -> Result<Entry, NoMemory>
-        ensures ok { IfOk result (λ x. (s : State) → Stands self.old p.old s → d.of < length p.old.types →
+    ) -> Result<u32, NoMemory>
+        ensures ok { IfOk result (λ j. (s : State) → Stands self.old p.old s → d.of < length p.old.types →
             Given self.new p.new (known_static (name_of self.old.file.now d) k (type_named p.old d.of) defined s)
-            (IsNamed p.new (text_at self.old.file.now d.name) x)) }
+            (IsNumber j)) }
         ensures err { OnErr result (p.new ≡ p.old) }
         ensures keeps { OnErr result (Keeps self.old self.new p.old) }
         ensures extends { Extends p.old p.new }
@@ -294,16 +293,15 @@ impl<'a> Scopes<'a> {
         let of = self.merged_object(p, k, d.of)?;
         set_type(self.alloc, &mut p.globals, k, of);
         self.note_defined(k, defined);
-        let entity = object(k);
-        self.bind(self.text(d.name), entity)?;
-        Ok(entry_of(entity))
+        self.bind(self.text(d.name), object(k))?;
+        Ok(k)
     }
 
     // An object with linkage is declared: it is that of its name, or a new one (C11 6.2.2p2).
-    fn linked_object(&mut self, p: &mut Typed, d: Decl, defined: bool) -> Result<Entry, NoMemory>
-        ensures ok { IfOk result (λ x. (s : State) → Stands self.old p.old s → d.of < length p.old.types →
+    fn linked_object(&mut self, p: &mut Typed, d: Decl, defined: bool) -> Result<u32, NoMemory>
+        ensures ok { IfOk result (λ j. (s : State) → Stands self.old p.old s → d.of < length p.old.types →
             Given self.new p.new (linked_static (name_of self.old.file.now d) (type_named p.old d.of) defined
-            (linked s (text_at self.old.file.now d.name)) s) (IsNamed p.new (text_at self.old.file.now d.name) x)) }
+            (linked s (text_at self.old.file.now d.name)) s) (IsNumber j)) }
         ensures err { OnErr result (p.new ≡ p.old) }
         ensures keeps { OnErr result (Keeps self.old self.new p.old) }
         ensures extends { Extends p.old p.new }
@@ -319,7 +317,7 @@ impl<'a> Scopes<'a> {
     pub(crate) fn declare_internal(&mut self, p: &mut Typed, d: Decl) -> Result<Entry, Refusal>
         ensures answers { d.of < length p.old.types →
             Answers self.old p.old self.new p.new (declares_internal (name_of self.old.file.now d)
-            (formed_of p.old d) d.defines) (IsNamed p.new (text_at self.old.file.now d.name)) result }
+            (formed_of p.old d) d.defines) (IsDeclared p.new) result }
         ensures extends { Extends p.old p.new }
         ensures file { self.new.file.now ≡ self.old.file.now }
     {
@@ -327,7 +325,10 @@ impl<'a> Scopes<'a> {
         let ready = self.is_ready(p, d.of, d.defines);
         match admit(fits, d.faults, !ready, false, d.pos) {
             Err(refusal) => Err(refusal),
-            Ok(()) => Ok(self.new_object(p, d, false, true)?),
+            Ok(()) => {
+                let k = self.new_object(p, d, false, true)?;
+                Ok(Entry::Global(k))
+            }
         }
     }
 
@@ -335,8 +336,7 @@ impl<'a> Scopes<'a> {
     pub(crate) fn declare_global(&mut self, p: &mut Typed, d: Decl) -> Result<Entry, Refusal>
         ensures answers { d.of < length p.old.types →
             Answers self.old p.old self.new p.new (declares_global (storage_of d.storage)
-            (name_of self.old.file.now d) (formed_of p.old d) d.defines)
-            (IsNamed p.new (text_at self.old.file.now d.name)) result }
+            (name_of self.old.file.now d) (formed_of p.old d) d.defines) (IsDeclared p.new) result }
         ensures extends { Extends p.old p.new }
         ensures file { self.new.file.now ≡ self.old.file.now }
     {
@@ -345,7 +345,10 @@ impl<'a> Scopes<'a> {
         let waits = self.may_wait(p, d.of, d.defines);
         match admit(fits, d.faults, !waits, false, d.pos) {
             Err(refusal) => Err(refusal),
-            Ok(()) => Ok(self.linked_object(p, d, is_definition(d))?),
+            Ok(()) => {
+                let k = self.linked_object(p, d, is_definition(d))?;
+                Ok(Entry::Global(k))
+            }
         }
     }
 
@@ -400,14 +403,17 @@ impl<'a> Scopes<'a> {
     pub(crate) fn declare_external(&mut self, p: &mut Typed, d: Decl) -> Result<Entry, Refusal>
         ensures answers { d.of < length p.old.types →
             Answers self.old p.old self.new p.new (declares_external (name_of self.old.file.now d)
-            (formed_of p.old d) d.defines) (IsNamed p.new (text_at self.old.file.now d.name)) result }
+            (formed_of p.old d) d.defines) (IsDeclared p.new) result }
         ensures extends { Extends p.old p.new }
         ensures file { self.new.file.now ≡ self.old.file.now }
     {
         let fits = self.external_fits(p, d)?;
         match admit(fits, d.faults, false, d.defines, d.pos) {
             Err(refusal) => Err(refusal),
-            Ok(()) => Ok(self.linked_object(p, d, false)?),
+            Ok(()) => {
+                let k = self.linked_object(p, d, false)?;
+                Ok(Entry::Global(k))
+            }
         }
     }
 }

@@ -12,12 +12,12 @@ ghost use Rattle.c_types.specs.Stands.{Stands, part_seen, member_kept};
 ghost use Rattle.c_types.specs.Stands.{number_among, first_named};
 ghost use Rattle.std.specs.Map.{lookup};
 
-use crate::extents::{LIMIT, finished};
+use crate::extents::finished;
 use crate::rooms::Room;
 use crate::scopes::{MemberTable, Scopes, TagInfo};
 use c_interner::{append, next_number, replace};
 use c_tree::{CType, Member, RecordKind, Typed};
-use cap_layout::LayoutFault;
+use cap_layout::{LIMIT, LayoutFault};
 use ck_base::{NoMemory, Pos, Refusal, Sequence};
 use indexmap::IndexMap;
 

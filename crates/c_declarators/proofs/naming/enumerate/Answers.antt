@@ -8,8 +8,8 @@ use Rattle.ck_base.specs.Tokens.{Lexeme}
 use Rattle.c_tree.specs.Scopes.{State, Enumerator, bind_name}
 use Rattle.c_tree.specs.Declarators.{is_new, in_int, enumerate}
 use Rattle.c_types.specs.declared.scopes.Scopes.{Scopes}
-use Rattle.c_types.specs.Calls.{Given, IsDenoted}
-use Rattle.c_types.specs.Declares.{denoted, declares_constant, name_of}
+use Rattle.c_types.specs.Calls.{Given, IsDeclared}
+use Rattle.c_types.specs.Declares.{declares_constant, name_of}
 use Rattle.c_elaborator.specs.declared.work.Work.{Work}
 use Rattle.c_elaborator.specs.Work.{Shows}
 use Rattle.c_elaborator.specs.Parts.{token_of}
@@ -25,8 +25,8 @@ returns-in-Err c =
     let t : Lexeme = token_of w c.args.name in
     let u : Lexeme = name_of w.nodes.scopes.file.now c.constant_of-d.result in
     let v : ℤ = to_z w32 (of_z w32 c.in-Some.value) in
-    refused w w (record w.nodes { scopes = c.declare_constant.new.self }) (denoted u (declares_constant u v))
-    (enumerate t c.args.number c.args.at) (IsDenoted w.nodes.p) NumberThere (in_any IsNumber) c.in-Err.refusal
+    refused w w (record w.nodes { scopes = c.declare_constant.new.self }) (declares_constant u v)
+    (enumerate t c.args.number c.args.at) (IsDeclared w.nodes.p) NumberThere (in_any IsNumber) c.in-Err.refusal
     (λ s z h e. absurd (constant_not_refused u v s z
     (ap (λ (x : Lexeme). is_new s x.text)
     (name_is w c.args.name c.constant_of-d.result s c.constant_of-d.ensures.name c.constant_of-d.ensures.pos h)
@@ -55,11 +55,11 @@ returns-in-Ok c =
       state = bind_name t.text (Enumerator z) s;
       is = enumerated t z c.args.at s (new s h) b;
       stands = constant_stands sc w.nodes.p t z s _ (new s h)
-          (subst (λ (y : ℤ). Given sc w.nodes.p (denoted t (declares_constant t y) s)
-          (IsDenoted w.nodes.p c.in-Ok.field-0)) (q ∙ v)
+          (subst (λ (y : ℤ). Given sc w.nodes.p (declares_constant t y s)
+          (IsDeclared w.nodes.p c.in-Ok.field-0)) (q ∙ v)
           (subst (λ (u : Lexeme). Given sc w.nodes.p
-          (denoted u (declares_constant u (to_z w32 (of_z w32 c.in-Some.value))) s)
-          (IsDenoted w.nodes.p c.in-Ok.field-0)) (n s h) (c.in-Ok.ensures.is w.nodes.p s h.stands)));
+          (declares_constant u (to_z w32 (of_z w32 c.in-Some.value)) s)
+          (IsDeclared w.nodes.p c.in-Ok.field-0)) (n s h) (c.in-Ok.ensures.is w.nodes.p s h.stands)));
       fits = e;
     })
     (λ s y f. f ∙ sym (to_z-of_z w128 c.next_after.result c.next_after.ensures.fits))

@@ -1,6 +1,3 @@
-use Rattle.std.proofs.Common.{Option, None, Some, sym, subst, ℕ}
-use Rattle.c_elaborator.specs.declared.work.Work.{Work}
-use Rattle.c_elaborator.specs.Rules.{IsFunctionType}
 use Rattle.c_elab.proofs.bodies.end_body.Goals as goal
 
 pub leave_body-requires : goal.leave_body-requires

@@ -1,5 +1,5 @@
 use Rattle.std.proofs.lemmas.Result.{err_from_is_err_and}
-use Rattle.std.proofs.Common.{◌≡◌, true, false, Some, sym, ap, ◌∙◌}
+use Rattle.std.proofs.Common.{◌≡◌, false, Some, sym, ap, ◌∙◌}
 use Rattle.std.proofs.Math.Bool.{or-true}
 use Rattle.c_tree.specs.Readings as meant
 use Rattle.c_tree.specs.Scopes.{State}
@@ -29,9 +29,6 @@ declare_definition-requires c =
     record {
       whole = a.whole;
       there = rw c.defined_as.ensures a.there;
-      what = ap (λ (x : Decl). x.what) c.defined_as.ensures;
-      defines =
-          ap (λ (x : Decl). x.defines) c.defined_as.ensures;
     }
 
 pub gives_complete-complete-requires : goal.gives_complete-complete-requires

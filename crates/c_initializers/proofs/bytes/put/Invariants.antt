@@ -1,10 +1,10 @@
-use Rattle.std.proofs.Common.{◌≡◌, ℕ, ◌+◌, ◌/◌, ◌^◌, length, get_or}
+use Rattle.std.proofs.Common.{◌≡◌, ℕ, ◌/◌, ◌^◌, get_or}
 use Rattle.c_tree.specs.Statics.{byte_in}
+use Rattle.c_initializers.proofs.ByteLaws.{cut}
 use Rattle.c_initializers.proofs.bytes.put.Given as goal
 
 abbrev pub invariant-loop-j : goal.invariant-loop-j
 invariant-loop-j l = record {
   rest : l.left ≡ l.x.number / 256 ^ l.j;
-  each : (k : ℕ) → get_or l.bytes k 0 ≡ get_or l.fn.bytes k 0
-      + byte_in k (record { at = l.x.at; width = l.j; number = l.x.number });
+  each : (k : ℕ) → get_or l.bytes k 0 ≡ byte_in k (get_or l.fn.bytes k 0) (cut l.x l.j);
 }

@@ -31,7 +31,8 @@ loop-p-preserved c =
     let d : Place = record { at = 0; of = 0 } in
     let p = get_or c.args.scalars.now c.loop-p.p-index d in
     let given = c.args.slots.now in
-    let q = ap (λ o. scalar_slot c.args.whole (place_of m p) (chosen (slots_in m given) o)) (c.find-found.ensures.found ∙ ap (position (covers_place p.at)) i.of)
+    let q = ap (λ o. scalar_slot c.args.whole (place_of m p) (chosen (slots_in m given) o))
+    (c.find-found.ensures.found ∙ ap (position (covers_place p.at)) i.of)
     ∙ given_kept a m given p c.args.extents.now c.args.whole i.keeps c.requires.slots
     (c.requires.scalars c.loop-p.p-index d c.loop-p-test.true) in
     record {

@@ -17,7 +17,8 @@ returns-in-There-clause-is c =
     let asks = reverse c.args.x.asks.items in
     IfOk-weaker c.moved_to.result _ _ (λ r g s h.
     ap (λ (v : Value). meant.move_by s c.args.by (start_of v, asks)) c.in-There.is
-    ∙ ap (λ (z : ℤ). meant.moved_to s (aim_of p.target) (reach_of p.bounds) z asks) (sym e) ∙ g s h) c.moved_to.ensures.is
+    ∙ ap (λ (z : ℤ). meant.moved_to s (aim_of p.target) (reach_of p.bounds) z asks) (sym e) ∙ g s h)
+    c.moved_to.ensures.is
 
 pub returns-in-There-clause-within : goal.returns-in-There-clause-within
 returns-in-There-clause-within c = λ n v.

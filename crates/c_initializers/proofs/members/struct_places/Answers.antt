@@ -3,6 +3,7 @@ use Rattle.std.specs.List.{All}
 use Rattle.std.proofs.lemmas.List.Elements.{All-push}
 use Rattle.cap_layout.specs.Answers.{extent_is}
 use Rattle.c_tree.specs.Layout.{Extent, member_offset, behind}
+use Rattle.c_tree.specs.Initializers.{next_within}
 use Rattle.c_tree.specs.Scopes.{type_extent}
 use Rattle.c_tree.specs.Types.{Ty}
 use Rattle.c_initializers.specs.declared.places.Place.{Place}
@@ -12,14 +13,15 @@ use Rattle.c_initializers.proofs.members.struct_places.Goals as goal
 
 pub loop-m-preserved : goal.loop-m-preserved
 loop-m-preserved c =
-    let n = rw c.in-Some.is at c.in_ok-next_of.ensures in
+    let n = rw c.in-Some.is at c.next_of.ensures in
     let p = c.in_ok-push-in-Some.ensures.items in
     let w = c.args.work.now in
     record {
       there = subst (λ (xs : List Place). All (IsPlaceThere w) xs) (sym p)
           (All-push (IsPlaceThere w) c.loop-m.places.items c.in-Some.next.place c.loop-m.invariant.there n.0);
       are = λ s h.
-          let f = subst (λ (u : Ty). (y : Extent) × (type_extent s.tags u ≡ Some y)
+          let f = subst (λ (u : Ty). (y : Extent)
+          × (next_within (extent_is c.loop-m.end) (type_extent s.tags u) ≡ Some y)
           × (place_in w c.in-Some.next.place ≡ (member_offset y (extent_is c.loop-m.end), u))
           × (extent_is c.in-Some.next.end ≡ behind y (extent_is c.loop-m.end))) c.there.ensures.is (n.1 s h) in
           subst (λ (xs : List Place). PlacedTo w s c.args.members.now (c.loop-m.m-index + 1) c.in-Some.next.end xs)

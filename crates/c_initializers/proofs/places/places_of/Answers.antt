@@ -6,8 +6,8 @@ use Rattle.c_initializers.specs.Places.{place_in}
 use Rattle.c_initializers.proofs.PlaceLaws.{item_place-stripped, array-place, option_map-if, alone-place, stripped_base}
 use Rattle.c_initializers.proofs.places.places_of.Goals as goal
 
-pub returns-in_ok-size_of-in-Array : goal.returns-in_ok-size_of-in-Array
-returns-in_ok-size_of-in-Array c =
+pub returns-in-Array : goal.returns-in-Array
+returns-in-Array c =
     let w = c.args.work.now in
     let t = type_in w.nodes c.args.of in
     record {
@@ -15,10 +15,10 @@ returns-in_ok-size_of-in-Array c =
       are = λ s h k l.
           sym (item_place-stripped s t k)
           ∙ ap (λ u. item_place s u k) (sym c.stripped-base.ensures.is ∙ c.in-Array.ensures.is)
-          ∙ array-place s (type_in w.nodes c.in-Array.element) c.in-Array.length k c.in_ok-size_of-in-Array.field-0
-          (c.in_ok-size_of-in-Array.ensures.is s h)
+          ∙ array-place s (type_in w.nodes c.in-Array.element) c.in-Array.length k c.size_of.result
+          (c.size_of.ensures.is s h)
           ∙ sym (option_map-if (place_in w) (nat_lt k c.in-Array.length || c.in-Array.length == 0)
-          (record { at = k * c.in_ok-size_of-in-Array.field-0; of = c.in-Array.element }));
+          (record { at = k * c.size_of.result; of = c.in-Array.element }));
     }
 
 pub returns-in_ok-first_members-in-Tagged : goal.returns-in_ok-first_members-in-Tagged

@@ -1,4 +1,5 @@
-use Rattle.std.proofs.Common.{◌≡◌, ◌+◌, ◌-◌, ◌*◌, ◌<◌, ◌≤◌, [], ◌∷◌, ◌++◌, List, get_or, length, drop, map, refl, sym, ap, subst, ◌∙◌}
+use Rattle.std.proofs.Common.{◌≡◌, ◌+◌, ◌-◌, ◌*◌, ◌<◌, ◌≤◌, [], ◌∷◌, ◌++◌, List, get_or, length, drop, map, refl, sym}
+use Rattle.std.proofs.Common.{ap, subst, ◌∙◌}
 use Rattle.std.proofs.Common.{arith}
 use Rattle.std.specs.List.{All}
 use Rattle.std.proofs.Math.Nat.{zero-mul}
@@ -36,19 +37,20 @@ loop-left-preserved c =
           (subst (λ (x : Place). x.of < type_count w.nodes) (sym q) (c.in_ok-members.ensures.there i m l))));
       are = λ s h.
           let go = tag_scalars (c.args.tags - 1) s in
-          member-row w s go ms i m c.args.at c.loop-left.rows.items c.push_row.new.rows.items c.args.rows.now.items _ l e
+          member-row w s go ms i m c.args.at c.loop-left.rows.items c.push_row.new.rows.items c.args.rows.now.items _ l
+          e
           (single-row w s c.single.result m.of c.in_ok-moved.field-0 (c.args.tags - 1) c.single.ensures
           ∙ ap (scalars_of s go (type_in w.nodes m.of)) c.in_ok-moved.ensures
           ∙ ap (λ (p : Place). scalars_of s go (type_in w.nodes p.of) (c.args.at + p.at)) q)
-          (subst (λ n. rows_scalars w s c.loop-left.rows.items ≡ all_scalars s go (map (place_in w) (drop n ms)) c.args.at
+          (subst (λ n. rows_scalars w s c.loop-left.rows.items
+          ≡ all_scalars s go (map (place_in w) (drop n ms)) c.args.at
           ++ rows_scalars w s c.args.rows.now.items) (sym z) (c.loop-left.invariant.are s h));
       steps =
           let p = steps-push w c.loop-left.rows.items c.single.result in
           let q : row_steps w c.single.result ≤ member_steps w c.args.tags =
           subst (λ (x : Row). row_steps w x ≤ member_steps w c.args.tags) (sym c.single.ensures)
           (member-steps w c.args.tags m.of (omega (arith, c.if-tags-eq0.false))) in
-          let f : rows_steps w c.push_row.new.rows.items ≡ rows_steps w (c.loop-left.rows.items ++ c.single.result ∷ []) =
-          ap (rows_steps w) e in
+          let f = ap (rows_steps w) e in
           let g = one-less c.loop-left.left (member_steps w c.args.tags) (omega (arith, c.loop-left-test.true)) in
           let h = c.loop-left.invariant.steps in
           omega arith;
@@ -64,14 +66,17 @@ returns c =
       are = λ s h.
           let go = tag_scalars (c.args.tags - 1) s in
           c.loop-left.invariant.are s h
-          ∙ ap (λ n. all_scalars s go (map (place_in w) (drop n ms)) c.args.at ++ rows_scalars w s c.args.rows.now.items) z
+          ∙ ap (λ n. all_scalars s go (map (place_in w) (drop n ms)) c.args.at
+          ++ rows_scalars w s c.args.rows.now.items) z
           ∙ ap (λ x. x ++ rows_scalars w s c.args.rows.now.items)
           (ap (λ ps. all_scalars s go ps c.args.at) (c.in_ok-members.ensures.are s h)
-          ∙ sym (one-depth c.args.tags (c.args.tags - 1) s c.args.tag c.args.at (omega (arith, c.if-tags-eq0.false)) refl));
+          ∙ sym (one-depth c.args.tags (c.args.tags - 1) s c.args.tag c.args.at
+          (omega (arith, c.if-tags-eq0.false)) refl));
       steps =
           let g : c.loop-left.left * member_steps w c.args.tags ≡ 0 =
           ap (λ n. n * member_steps w c.args.tags) z ∙ zero-mul (member_steps w c.args.tags) in
-          let f = members-steps w (length ms) c.args.tags c.args.tag (omega arith) (omega (arith, c.if-tags-eq0.false)) in
+          let f = members-steps w (length ms) c.args.tags c.args.tag (omega arith)
+          (omega (arith, c.if-tags-eq0.false)) in
           let h = c.loop-left.invariant.steps in
           omega arith;
     }

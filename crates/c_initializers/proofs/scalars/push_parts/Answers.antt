@@ -7,18 +7,20 @@ use Rattle.c_expressions.specs.Nodes.{type_in, type_count}
 use Rattle.c_initializers.specs.declared.scalars.Row.{Row}
 use Rattle.c_initializers.specs.Rows.{type_steps, row_steps}
 use Rattle.c_initializers.proofs.StepLaws.{lower-row, some-steps}
-use Rattle.c_initializers.proofs.RowLaws.{adds-row, adds-parts, array-row, single-row, scalar-alone, walks-rows, walks-place}
+use Rattle.c_initializers.proofs.RowLaws.{adds-row, adds-parts, array-row, single-row, scalar-alone, walks-rows}
+use Rattle.c_initializers.proofs.RowLaws.{walks-place}
 use Rattle.c_initializers.proofs.scalars.push_parts.Goals as goal
 
-pub returns-in_ok-step-in-Array-clause-walks : goal.returns-in_ok-step-in-Array-clause-walks
-returns-in_ok-step-in-Array-clause-walks c =
+pub returns-in_ok-check_room-in-Array-clause-walks : goal.returns-in_ok-check_room-in-Array-clause-walks
+returns-in_ok-check_room-in-Array-clause-walks c =
     let w = c.args.work.now in
     let parts = λ (s : State). scalars_of s (tag_scalars c.args.tags s) (type_in w.nodes c.args.of) c.args.at in
-    on_ok_weaker c.push_row.result (λ e. walks-rows w c.args.cursor.now.extents.now c.args.rows.now.items c.push_row.new.rows.items
+    on_ok_weaker c.push_row.result (λ e. walks-rows w c.args.cursor.now.extents.now c.args.rows.now.items
+    c.push_row.new.rows.items
     c.args.places.now.items _ _ parts
     (adds-row w c.args.rows.now.items c.push_row.new.rows.items _ _ parts e c.in-Array.ensures.there
-    (λ s k. array-row w s (type_in w.nodes c.args.of) c.in-Array.element c.in-Array.count c.in_ok-step-in-Array.step
-    c.args.at c.args.tags c.in-Array.ensures.is (c.in_ok-step-in-Array.ensures.is s k)) (omega arith))
+    (λ s k. array-row w s (type_in w.nodes c.args.of) c.in-Array.element c.in-Array.count c.size_of-step.result
+    c.args.at c.args.tags c.in-Array.ensures.is (c.size_of-step.ensures.is s k)) (omega arith))
     (lower-row w c.in-Array.count c.args.tags c.args.tags (type_in w.nodes c.in-Array.element)
     (type_in w.nodes c.args.of) (omega arith) (rw c.in-Array.ensures.is (omega arith)))) c.push_row.ensures
 
@@ -28,7 +30,8 @@ returns-in-Tagged-clause-walks c =
     let parts = λ (s : State). scalars_of s (tag_scalars c.args.tags s) (type_in w.nodes c.args.of) c.args.at in
     let n = type_steps w c.args.tags (Tagged c.in-Tagged.tag) in
     let l : 0 < n = some-steps w c.args.tags (Tagged c.in-Tagged.tag) in
-    on_ok_weaker c.push_members.result (λ a. walks-rows w c.args.cursor.now.extents.now c.args.rows.now.items c.push_members.new.rows.items
+    on_ok_weaker c.push_members.result (λ a. walks-rows w c.args.cursor.now.extents.now c.args.rows.now.items
+    c.push_members.new.rows.items
     c.args.places.now.items (n - 1) _ parts
     (adds-parts w c.args.rows.now.items c.push_members.new.rows.items (n - 1) _ parts
     (λ s. ap (λ t. scalars_of s (tag_scalars c.args.tags s) t c.args.at) (sym c.in-Tagged.ensures.is)) a)
@@ -38,7 +41,8 @@ pub returns-in-Const-clause-walks : goal.returns-in-Const-clause-walks
 returns-in-Const-clause-walks c =
     let w = c.args.work.now in
     let parts = λ (s : State). scalars_of s (tag_scalars c.args.tags s) (type_in w.nodes c.args.of) c.args.at in
-    on_ok_weaker c.push_row-in-Const.result (λ e. walks-rows w c.args.cursor.now.extents.now c.args.rows.now.items c.push_row-in-Const.new.rows.items
+    on_ok_weaker c.push_row-in-Const.result (λ e.
+    walks-rows w c.args.cursor.now.extents.now c.args.rows.now.items c.push_row-in-Const.new.rows.items
     c.args.places.now.items _ _ parts
     (adds-row w c.args.rows.now.items c.push_row-in-Const.new.rows.items c.single.result _ parts e
     (subst (λ (x : Row). x.of < type_count w.nodes) (sym c.single.ensures) c.in-Const.ensures.there)
@@ -53,7 +57,8 @@ returns-in_default-clause-walks c =
     let w = c.args.work.now in
     let e = c.class.ensures.is in
     let parts = λ (s : State). scalars_of s (tag_scalars c.args.tags s) (type_in w.nodes c.args.of) c.args.at in
-    on_ok_weaker c.push_needed.result (λ p. walks-place w c.args.cursor.now.extents.now c.args.rows.now.items c.args.places.now.items
+    on_ok_weaker c.push_needed.result (λ p. walks-place w c.args.cursor.now.extents.now c.args.rows.now.items
+    c.args.places.now.items
     c.push_needed.new.places.items (record { at = c.args.at; of = c.args.of }) _ parts p c.requires.there
     (λ s. ap (λ t. scalars_of s (tag_scalars c.args.tags s) t c.args.at) e
     ∙ scalar-alone s (tag_scalars c.args.tags s) c.class.result (type_in w.nodes) c.class.ensures.params c.args.at

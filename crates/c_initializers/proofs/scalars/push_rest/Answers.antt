@@ -12,7 +12,8 @@ returns c =
     let w = c.args.work.now in
     let r = c.args.row in
     on_ok_weaker c.push_row.result (λ e. adds-row w c.args.rows.now.items c.push_row.new.rows.items _ _ _ e
-    c.requires.there (λ s k. ap (repeat (r.count - 1) r.step (scalars_of s (tag_scalars r.tags s) (type_in w.nodes r.of)))
+    c.requires.there (λ s k. ap (repeat (r.count - 1) r.step
+    (scalars_of s (tag_scalars r.tags s) (type_in w.nodes r.of)))
     c.in_ok-at.ensures)
     (let l = one-less r.count (type_steps w r.tags (type_in w.nodes r.of)) c.requires.some in omega arith))
     c.push_row.ensures

@@ -20,7 +20,8 @@ pub returns-clause-walks : goal.returns-clause-walks
 returns-clause-walks c =
     let w = c.args.work.now in
     let r = c.args.row in
-    on_ok_weaker c.push_parts.result (λ b. walks-both w c.args.cursor.now.extents.now c.args.rows.now.items c.push_rest.new.rows.items
+    on_ok_weaker c.push_parts.result (λ b. walks-both w c.args.cursor.now.extents.now c.args.rows.now.items
+    c.push_rest.new.rows.items
     c.push_parts.new.rows.items c.args.places.now.items c.push_parts.new.places.items _ _ _ _ _
     c.in_ok-push_rest.ensures b (λ s. first-part r.count r.step r.at
     (scalars_of s (tag_scalars r.tags s) (type_in w.nodes r.of)) (omega (arith, c.if-row-eq0.false))))

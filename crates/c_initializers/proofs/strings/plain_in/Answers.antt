@@ -26,7 +26,8 @@ returns-in-Ok c =
     let a = c.in-Ok.ensures in
     let b = c.bare.ensures in
     let k : Keeps n m = a.keeps in
-    let e : type_in m c.bare.result ≡ bare t = b.is ∙ ap bare (k.types c.args.of c.requires.there) in
+    let u = type_in m c.bare.result in
+    let e : u ≡ bare t = b.is ∙ ap bare (k.types c.args.of c.requires.there) in
     record {
       value = slot_of c.args.at t a.value x.first;
       is = λ s. bind_gives (assigned t x) (λ y. give (slot_of c.args.at t y x.first)) a.value s (a.is s);
@@ -34,7 +35,8 @@ returns-in-Ok c =
       shows = record {
         there = record { of = b.there; value = a.shows.there };
         is = ap (λ u. (let y : meant.Slot = record { at = c.args.at; of = u; value = a.value; first = x.first } in
-            y)) (sym e) ∙ ap
-            (λ v. (let y : meant.Slot = record { at = c.args.at; of = type_in m c.bare.result; value = v; first = x.first } in y)) (sym a.shows.is);
+            y)) (sym e) ∙ ap (λ v.
+            (let y : meant.Slot = record { at = c.args.at; of = u; value = v; first = x.first } in y))
+            (sym a.shows.is);
       };
     }

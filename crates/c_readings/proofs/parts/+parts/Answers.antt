@@ -56,12 +56,12 @@ use Rattle.ck_base.specs.declared.refusal.Refusal.{Refusal}
 use Rattle.ck_base.specs.declared.refusal.Refusal.TheVariants.{Code}
 use Rattle.c_tree.specs.declared.typed.Member.{Member}
 use Rattle.c_tree.specs.Syntax.{StandAt}
-use Rattle.c_tree.specs.Types.{Tagged, int}
+use Rattle.c_tree.specs.Types.{int}
 use Rattle.c_tree.specs.Scopes.{Part, give, ◌>>◌}
 use Rattle.c_tree.specs.Readings as meant
 use Rattle.c_tree.specs.Declarators as declarations
 use Rattle.c_tree.specs.Declarators.{names_type, named_types, specifiers, typedef_name, type_name, record_specifier}
-use Rattle.c_tree.specs.Declarators.{enum_specifier, new_tag, named_tag, begin_tag, complete_tag, all_members}
+use Rattle.c_tree.specs.Declarators.{enum_specifier, new_tag, named_tag, begin_tag, all_members}
 use Rattle.c_tree.specs.Declarators.{add_member, member_of as members_at, member_declarators, enumerators, enumerator}
 use Rattle.c_tree.specs.Declarators.{enumerate, declarator_of, parts_const, wrapped, no_derived, parameter_of}
 use Rattle.c_tree.specs.Declarators.{parameter_from, parameter_list}
@@ -69,6 +69,9 @@ use Rattle.c_tree.specs.Programs.{type_of_kind}
 use Rattle.c_expressions.specs.Nodes.{type_count}
 use Rattle.c_elaborator.specs.Answers.{Done, NothingThere, IsNothing}
 use Rattle.c_elaborator.proofs.Sequencing.{also_then, failed, keeps_same, keeps_then}
+use Rattle.c_elaborator.proofs.Shown.{then_for}
+use Rattle.c_types.specs.Naming.{IsTagOf}
+use Rattle.c_readings.proofs.Filling.{filled_done, filled_fails, filled_refused, members_fail}
 use Rattle.c_declarators.specs.declared.members.Members.{Members}
 use Rattle.c_declarators.specs.declared.parts.Prototype.{Prototype}
 use Rattle.c_declarators.specs.declared.parts.Wrap.{Wrap}
@@ -92,7 +95,7 @@ use Rattle.std.proofs.Common.{◌-◌, ◌<◌, rules}
 use Rattle.std.proofs.lemmas.Int.{to_z-of_z}
 use mir.Syntax.{w128}
 use mir.Val.{to_z}
-use Rattle.c_readings.proofs.Among.{then_shown, then_failed, made_done}
+use Rattle.c_readings.proofs.Among.{then_failed, made_done}
 use Rattle.c_readings.proofs.Folding.{fold_begins, fold_more, fold_fails, fold_ends}
 use Rattle.c_declarators.proofs.Joining.{all_members_kept}
 use Rattle.c_readings.proofs.Lasting.{specified_there, specified_kept, some_specified, members_kept, no_members_there}
@@ -269,7 +272,9 @@ one_value-returns-in-None t c = refused_one c.args.work.now c.args.kids.now (rea
 
 pub two_values-values_of-requires : goal.two_values-values_of-requires
 two_values-values_of-requires t c =
-    let h = two_within c.args.work.now c.args.kids.now c.in-Some.x.first c.in-Some.x.second c.in-Some.ensures c.requires.parts in (omega arith, (c.requires.whole, (h.0, h.1)))
+    let h = two_within c.args.work.now c.args.kids.now c.in-Some.x.first c.in-Some.x.second c.in-Some.ensures
+    c.requires.parts in
+    (omega arith, (c.requires.whole, (h.0, h.1)))
 
 pub two_values-returns-in-Some : goal.two_values-returns-in-Some
 two_values-returns-in-Some t c =
@@ -282,7 +287,9 @@ two_values-returns-in-None t c =
 
 pub place_and_value-place_with_value-requires : goal.place_and_value-place_with_value-requires
 place_and_value-place_with_value-requires t c =
-    let h = two_within c.args.work.now c.args.kids.now c.in-Some.x.first c.in-Some.x.second c.in-Some.ensures c.requires.parts in (omega arith, (c.requires.whole, (h.0, h.1)))
+    let h = two_within c.args.work.now c.args.kids.now c.in-Some.x.first c.in-Some.x.second c.in-Some.ensures
+    c.requires.parts in
+    (omega arith, (c.requires.whole, (h.0, h.1)))
 
 pub place_and_value-returns-in-Some : goal.place_and_value-returns-in-Some
 place_and_value-returns-in-Some t c =
@@ -296,7 +303,9 @@ place_and_value-returns-in-None t c =
 
 pub type_and_value-type_with_value-requires : goal.type_and_value-type_with_value-requires
 type_and_value-type_with_value-requires t c =
-    let h = two_within c.args.work.now c.args.kids.now c.in-Some.x.first c.in-Some.x.second c.in-Some.ensures c.requires.parts in (omega arith, (c.requires.whole, (h.0, h.1)))
+    let h = two_within c.args.work.now c.args.kids.now c.in-Some.x.first c.in-Some.x.second c.in-Some.ensures
+    c.requires.parts in
+    (omega arith, (c.requires.whole, (h.0, h.1)))
 
 pub type_and_value-returns-in-Some : goal.type_and_value-returns-in-Some
 type_and_value-returns-in-Some t c =
@@ -309,7 +318,9 @@ type_and_value-returns-in-None t c =
 
 pub three_values-values_of_three-requires : goal.three_values-values_of_three-requires
 three_values-values_of_three-requires t c =
-    let h = three_within c.args.work.now c.args.kids.now c.in-Some.x.first c.in-Some.x.second c.in-Some.x.third c.in-Some.ensures c.requires.parts in (omega arith, (c.requires.whole, (h.0, (h.1, h.2))))
+    let h = three_within c.args.work.now c.args.kids.now c.in-Some.x.first c.in-Some.x.second c.in-Some.x.third
+    c.in-Some.ensures c.requires.parts in
+    (omega arith, (c.requires.whole, (h.0, (h.1, h.2))))
 
 pub three_values-returns-in-Some : goal.three_values-returns-in-Some
 three_values-returns-in-Some t c =
@@ -572,11 +583,15 @@ member_behind-returns t c = λ x t' word e n p.
 
 pub selected-member_of-requires : goal.selected-member_of-requires
 selected-member_of-requires t c =
-    let h = two_within c.args.work.now c.args.kids.now c.in-Some.x.first c.in-Some.x.second c.in-Some.ensures c.requires.parts in (omega arith, (c.requires.whole, h.0))
+    let h = two_within c.args.work.now c.args.kids.now c.in-Some.x.first c.in-Some.x.second c.in-Some.ensures
+    c.requires.parts in
+    (omega arith, (c.requires.whole, h.0))
 
 pub selected-member_behind-requires : goal.selected-member_behind-requires
 selected-member_behind-requires t c =
-    let h = two_within c.args.work.now c.args.kids.now c.in-Some.x.first c.in-Some.x.second c.in-Some.ensures c.requires.parts in (omega arith, (c.requires.whole, h.0))
+    let h = two_within c.args.work.now c.args.kids.now c.in-Some.x.first c.in-Some.x.second c.in-Some.ensures
+    c.requires.parts in
+    (omega arith, (c.requires.whole, h.0))
 
 pub selected-returns-in-None : goal.selected-returns-in-None
 selected-returns-in-None t c =
@@ -1194,9 +1209,9 @@ untagged-returns t c = λ xs p.
     let u = c.args.work.now in
     let v = c.new_tag.new.work in
     let a = c.in_ok-tag.ensures in
-    then quietly quiet_law u v c.filled.new.work (new_tag c.args.kind)
-    (λ m. filled c.args.kind m (readings xs) c.args.pos c.args.pos) c.in_ok-tag.tag _ TypeThere IsType
-    c.filled.result a (c.filled.ensures xs (parts_kept u v c.args.kids.now xs a.grows.keeps p))
+    then_for quietly quiet_law u v c.filled.new.work (new_tag c.args.kind)
+    (λ m. filled c.args.kind m (readings xs) c.args.pos c.args.pos) _ (IsTagOf c.args.kind c.in_ok-tag.tag) TypeThere
+    IsType c.filled.result a (c.filled.ensures xs (parts_kept u v c.args.kids.now xs a.grows.keeps p))
 
 pub tagged_record-returns-then-is_empty : goal.tagged_record-returns-then-is_empty
 tagged_record-returns-then-is_empty t c = λ xs p.
@@ -1225,12 +1240,14 @@ tagged_record-returns t c = λ xs p.
     let n = token_of u c.args.name in
     let a = c.in_ok-tag.ensures in
     let e = eqb-false (length c.args.members.now) 0 (sym c.is_empty.ensures ∙ c.if-is_empty.false) in
-    step_then u v c.filled.new.work (tagged_record c.args.kind c.args.alone n (readings xs) c.args.pos)
-    (named_tag true c.args.kind n) (λ m. filled c.args.kind m (readings xs) n.pos c.args.pos) c.in_ok-tag.tag _
-    TypeThere IsType c.filled.result
-    (λ s. record_behind c.args.kind c.args.alone n (readings xs) c.args.pos s
-    (λ z. e (sym (parts_length u c.args.members.now xs p) ∙ z))) a
-    (c.filled.ensures xs (parts_kept u v c.args.members.now xs a.grows.keeps p))
+    let f : ℕ → Doing Ty = λ m. filled c.args.kind m (readings xs) n.pos c.args.pos in
+    answers_at quietly u c.filled.new.work (tagged_record c.args.kind c.args.alone n (readings xs) c.args.pos)
+    (named_tag true c.args.kind n >>= f) TypeThere IsType c.filled.result
+    (λ s h. record_behind c.args.kind c.args.alone n (readings xs) c.args.pos s
+    (λ z. e (sym (parts_length u c.args.members.now xs p) ∙ z)))
+    (then_for quietly quiet_law u v c.filled.new.work (named_tag true c.args.kind n) f _
+    (IsTagOf c.args.kind c.in_ok-tag.tag) TypeThere IsType c.filled.result a
+    (c.filled.ensures xs (parts_kept u v c.args.members.now xs a.grows.keeps p)))
 
 pub filled-all_members-requires : goal.filled-all_members-requires
 filled-all_members-requires t c =
@@ -1255,26 +1272,58 @@ filled-tagged-requires t c =
     let m = some_members c.all_members.new.work c.in_ok-members.members.all.items in
     (c.in_ok-complete_tag.ensures m.0 m.1).whole
 
+pub filled-returns-in_err-begin_tag : goal.filled-returns-in_err-begin_tag
+filled-returns-in_err-begin_tag t c =
+    let q = err_from_is_err_and c.from_residual.result c.from_residual.ensures.1 in λ xs p.
+    let u = c.args.work.now in
+    let v = c.begin_tag.new.work in
+    rw (q.1, q.2) (filled_fails u v v c.args.kind c.args.tag (readings xs) c.args.at c.args.keyword AllMembersThere
+    AreAllMembers _ (failed quietly u v v (begin_tag c.args.tag c.args.at) (λ x. all_members (readings xs) [])
+    NothingThere IsNothing AllMembersThere AreAllMembers _ c.in_err-begin_tag.ensures))
+
+pub filled-returns-in_err-members : goal.filled-returns-in_err-members
+filled-returns-in_err-members t c =
+    let q = err_from_is_err_and c.from_residual-in_err-members.result c.from_residual-in_err-members.ensures.1 in
+    λ xs p.
+    let u = c.args.work.now in
+    let v = c.begin_tag.new.work in
+    let w = c.all_members.new.work in
+    let a = c.in_ok-begin_tag.ensures in
+    rw (q.1, q.2) (members_fail u w w c.args.kind c.args.tag (readings xs) c.args.at c.args.keyword v _ _
+    AllMembersThere AreAllMembers _ a
+    (c.in_err-members.ensures xs (parts_kept u v c.args.kids.now xs a.grows.keeps p)))
+
+pub filled-returns-in_err-complete_tag : goal.filled-returns-in_err-complete_tag
+filled-returns-in_err-complete_tag t c =
+    let q = err_from_is_err_and c.from_residual-in_err-complete_tag.result
+    c.from_residual-in_err-complete_tag.ensures.1 in
+    λ xs p.
+    let u = c.args.work.now in
+    let v = c.begin_tag.new.work in
+    let w = c.all_members.new.work in
+    let ms = c.in_ok-members.members in
+    let a = c.in_ok-begin_tag.ensures in
+    let b = c.in_ok-members.ensures xs (parts_kept u v c.args.kids.now xs a.grows.keeps p) in
+    rw (q.1, q.2) (filled_refused u w c.complete_tag.new.work c.args.kind c.args.tag (readings xs) c.args.at
+    c.args.keyword c.complete_tag.new.work _ (AreAllMembers w ms) _
+    (also_then quietly quiet_law u v w (begin_tag c.args.tag c.args.at) (all_members (readings xs) []) _ _
+    AllMembersThere AreAllMembers (Ok ms) a b) (λ s ys h i. c.in_err-complete_tag.ensures ys i))
+
 pub filled-returns : goal.filled-returns
 filled-returns t c = λ xs p.
     let u = c.args.work.now in
     let v = c.begin_tag.new.work in
     let w = c.all_members.new.work in
-    let z = c.complete_tag.new.work in
-    let k = c.args.kind in
-    let n = c.args.tag in
     let ms = c.in_ok-members.members in
     let a = c.in_ok-begin_tag.ensures in
     let b = c.in_ok-members.ensures xs (parts_kept u v c.args.kids.now xs a.grows.keeps p) in
-    let first = also_then quietly quiet_law u v w (begin_tag n c.args.at)
-    (all_members (readings xs) []) _ _ AllMembersThere AreAllMembers (Ok ms) a b in
     let some = some_members w ms.all.items in
-    let rest : (ys : List Part) → AreMembers w ms.all.items ys → Answers quietly w z (complete_tag k n ys c.args.keyword >> give (Tagged n)) TypeThere IsType c.tagged.result = λ ys i.
-    also_then quietly quiet_law w z z (complete_tag k n ys c.args.keyword)
-    (give (Tagged n)) _ _ TypeThere IsType c.tagged.result (c.in_ok-complete_tag.ensures ys i) c.tagged.ensures in
-    then_shown u w z (begin_tag n c.args.at >> all_members (readings xs) [])
-    (λ ys. complete_tag k n ys c.args.keyword >> give (Tagged n)) _
-    (AreAllMembers w ms) some.0 TypeThere IsType c.tagged.result first (rest some.0 some.1) (λ s ys t i. rest ys i)
+    filled_done u w c.complete_tag.new.work c.args.kind c.args.tag (readings xs) c.args.at c.args.keyword
+    c.tagged.result _ (AreAllMembers w ms) some.0
+    (also_then quietly quiet_law u v w (begin_tag c.args.tag c.args.at) (all_members (readings xs) []) _ _
+    AllMembersThere AreAllMembers (Ok ms) a b)
+    (c.in_ok-complete_tag.ensures some.0 some.1) (λ s ys h i. c.in_ok-complete_tag.ensures ys i)
+    c.tagged.ensures.there c.tagged.ensures.is
 
 pub all_members-loop-part-init : goal.all_members-loop-part-init
 all_members-loop-part-init t c =
@@ -1612,7 +1661,8 @@ tagged_enumeration-returns t c = λ xs p.
     (c.listed.ensures xs (parts_kept u v c.args.list.now xs a.grows.keeps p)))
 
 pub listed-int_type-requires : goal.listed-int_type-requires
-listed-int_type-requires t c = (c.in_ok-enumerators.ensures c.requires.parts.parts.syntax c.requires.parts.parts.are).whole
+listed-int_type-requires t c =
+    (c.in_ok-enumerators.ensures c.requires.parts.parts.syntax c.requires.parts.parts.are).whole
 
 pub listed-returns : goal.listed-returns
 listed-returns t c = λ xs p.
@@ -1705,7 +1755,8 @@ enumerator-returns t c = λ x p.
     at_node u w n x (λ r. r.enumerator c.args.next) NumberThere (in_any IsNumber) c.valued.result o
     (subst (λ (l : Lexeme). Answers quietly u w (enumerator l (readings o.parts) c.args.next) NumberThere
     (in_any IsNumber) c.valued.result) (ap (token_of u) c.name_of.ensures
-    ∙ sym (enumerator_is u n o.token o.parts o.node (kind_is u c.args.k n Kinds.Enumerator c.requires.part c.node_at-node.ensures)))
+    ∙ sym (enumerator_is u n o.token o.parts o.node
+    (kind_is u c.args.k n Kinds.Enumerator c.requires.part c.node_at-node.ensures)))
     (subst (λ (z : ℤ). Answers quietly u w (enumerator (token_of u c.name_of.result) (readings o.parts) z) NumberThere
     (in_any IsNumber) c.valued.result) (to_z-of_z w128 c.args.next c.ranges.next)
     (c.valued.ensures o.parts (subst (λ (ks : List ℕ). AreParts u ks o.parts) (sym c.as_slice.ensures) o.node.parts))))
@@ -1969,7 +2020,9 @@ open_array-returns t c = λ t' xs p.
 
 pub array-row-requires : goal.array-row-requires
 array-row-requires t c =
-    let h = ends_within c.args.work.now c.args.kids.now c.in-Some.x.before.now c.in-Some.x.last c.in-Some.ensures c.requires.parts in (omega arith, (c.requires.whole, (h.0, h.1)))
+    let h = ends_within c.args.work.now c.args.kids.now c.in-Some.x.before.now c.in-Some.x.last
+    c.in-Some.ensures c.requires.parts in
+    (omega arith, (c.requires.whole, (h.0, h.1)))
 
 pub array-returns-in-None : goal.array-returns-in-None
 array-returns-in-None t c =
@@ -2191,7 +2244,8 @@ parameter-returns t c = λ x p.
     at_node u w n x (λ r. r.parameter c.args.only) ParamThere (in_any IsParam) c.parameter_at.result o
     (subst (λ (l : Lexeme). Answers quietly u w (parameter_of l (readings o.parts) c.args.only) ParamThere
     (in_any IsParam) c.parameter_at.result)
-    (ap (token_of u) c.name_of.ensures ∙ sym (parameter_word u n o.token o.parts o.node (kind_is u c.args.k n Kinds.Parameter c.requires.part c.node_at-node.ensures)))
+    (ap (token_of u) c.name_of.ensures ∙ sym (parameter_word u n o.token o.parts o.node
+    (kind_is u c.args.k n Kinds.Parameter c.requires.part c.node_at-node.ensures)))
     (c.parameter_at.ensures o.parts (subst (λ (ks : List ℕ). AreParts u ks o.parts)
     (sym c.as_slice.ensures) o.node.parts)))
 
@@ -2357,7 +2411,8 @@ parameter_list-returns-in_err-p t c =
 
 pub parameter_list-returns-in_err-declare_parameter : goal.parameter_list-returns-in_err-declare_parameter
 parameter_list-returns-in_err-declare_parameter t c =
-    let e = err_from_is_err_and c.from_residual-in_err-declare_parameter.result c.from_residual-in_err-declare_parameter.ensures.1 in λ xs q.
+    let e = err_from_is_err_and c.from_residual-in_err-declare_parameter.result
+    c.from_residual-in_err-declare_parameter.ensures.1 in λ xs q.
     let v = c.loop-part.work in
     rw (e.1, e.2) (params_refuse c.args.work.now v c.parameter.new.work c.declare_parameter.new.work
     c.in-Some.part.first c.in-Some.part.others.now c.is_lone-only.result

@@ -12,7 +12,6 @@ use Rattle.c_expressions.specs.Nodes.{type_in}
 use Rattle.c_declarators.specs.declared.parts.Wrap.{Wrap}
 use Rattle.c_declarators.specs.Parts.{AreWraps, any_scope, FormedThere, IsFormed, in_any, name_token}
 use Rattle.c_declarators.specs.Steps.{forms}
-use Rattle.c_statements.specs.Declaring.{declares, EntityThere, IsEntity}
 use Rattle.c_statements.proofs.Named.{decl_of, named_unformed, named_refused, named_answers}
 use Rattle.c_statements.proofs.Standing.{some_wraps, are_some_wraps, has_behind_kept, behind_kept, behind_given}
 use Rattle.c_statements.proofs.declarations.declare_so.Goals as goal
@@ -37,7 +36,8 @@ initialize-requires c =
     record {
       whole = b.whole;
       there = type_there v w c.in_ok-f.f.of b.grows a.there;
-      behind = has_behind_kept c.args.depth u w c.args.behind (keeps_then u v w a.grows.keeps b.grows) c.requires.behind;
+      behind = has_behind_kept c.args.depth u w c.args.behind (keeps_then u v w a.grows.keeps b.grows)
+          c.requires.behind;
     }
 
 pub returns-in_err-f : goal.returns-in_err-f

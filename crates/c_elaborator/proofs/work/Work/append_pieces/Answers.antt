@@ -4,7 +4,8 @@ use Rattle.c_elaborator.proofs.Parting.{Written, none_written, one_written, all_
 use Rattle.c_elaborator.proofs.work.Work.append_pieces.Goals as goal
 
 pub append_piece-requires : goal.append_piece-requires
-append_piece-requires c = text_at_number c.args.self.now c.args.kids.now c.loop-k.k-index 0 c.requires c.loop-k-test.true
+append_piece-requires c =
+    text_at_number c.args.self.now c.args.kids.now c.loop-k.k-index 0 c.requires c.loop-k-test.true
 
 pub loop-k-init : goal.loop-k-init
 loop-k-init c = λ xs h. none_written c.args.self.now c.args.into.now.items xs c.args.kids.now h

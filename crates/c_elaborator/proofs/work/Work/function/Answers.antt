@@ -27,4 +27,5 @@ returns-in_ok-push_use-in-Some c =
     (giving_leaf (Fun k) (type_in w.nodes of) p) OperandThere IsOperand _
     c.requires.whole (uses_quiet w us _ c.in_ok-push_use-in-Some.ensures) (λ s h. still_routine k p s)
     (λ s h. let g = c.in-Some.ensures.is s h in shows_function w us k p s g.0 c.in_ok-push_use-in-Some.ensures g.1 h)
-    (λ s h. let g = c.in-Some.ensures.is s h in function_is k p (type_in w.nodes of) s g.0 g.1 g.2) c.leaf-in-Some.ensures
+    (λ s h. let g = c.in-Some.ensures.is s h in function_is k p (type_in w.nodes of) s g.0 g.1 g.2)
+    c.leaf-in-Some.ensures

@@ -4,7 +4,8 @@ use Rattle.c_elaborator.proofs.work.Work.part.Goals as goal
 
 pub unreachable-requires : goal.unreachable-requires
 unreachable-requires c =
-    part_there c.args.self.now.tree.now.nodes c.args.k c.requires.syntax (rw c.as_slice.ensures at c.in-None.ensures.lookup.3)
+    part_there c.args.self.now.tree.now.nodes c.args.k c.requires.syntax
+    (rw c.as_slice.ensures at c.in-None.ensures.lookup.3)
     c.requires.is.stands
 
 pub returns : goal.returns

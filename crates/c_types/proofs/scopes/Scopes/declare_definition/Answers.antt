@@ -1,14 +1,13 @@
-use Rattle.std.proofs.Common.{◌≡◌, ap, sym, ◌∙◌, refl, false, true, subst, []}
+use Rattle.std.proofs.Common.{◌≡◌, ℕ, ap, sym, ◌∙◌, refl, false, true, subst, []}
 use Rattle.std.specs.Prelude.{option_map, not, ◌||◌}
 use Rattle.c_tree.specs.Types.{is_function}
 use Rattle.c_tree.specs.Scopes.{RoutineState, find_in, innermost, change_routine, ◌>>=◌}
 use Rattle.c_tree.specs.Views.{types_of, type_at}
 use Rattle.c_tree.specs.Declarations.{definition_agrees, linked_routine}
 use Rattle.c_tree.specs.Programs.{is_typedef}
-use Rattle.c_types.specs.declared.entries.Entry.{Entry}
 use Rattle.c_types.specs.Declares.{name_of, formed_of, storage_of, declares_definition}
 use Rattle.c_types.specs.Fitting.{definition_seen}
-use Rattle.c_types.specs.Naming.{IsNamed, begins}
+use Rattle.c_types.specs.Naming.{IsNumber, begins}
 use Rattle.c_types.specs.Judging.{admits}
 use Rattle.c_types.specs.Stands.{Stands, entity_seen}
 use Rattle.c_types.proofs.Extending.{extends_after}
@@ -27,11 +26,11 @@ returns-in-Err-clause-answers c lt =
     c.either-misfits.ensures ∙ ap (λ b. b || not c.is_function.result) c.is_typedef.ensures
     ∙ ap (λ b. is_typedef (storage_of c.args.d.storage) || not b)
     (c.is_function.ensures ∙ ap (λ cs. is_function (type_at (types_of cs) c.args.d.of)) c.as_slice.ensures) in
-    not_admitted {X = Entry} sc p (declares_definition (storage_of c.args.d.storage) t f)
+    not_admitted {X = ℕ} sc p (declares_definition (storage_of c.args.d.storage) t f)
     (λ s. linked_routine t f.of (find_in (innermost s.scopes).names t.text) >>= begins t) f c.in_ok-fits.fits false
     c.either-misfits.result (λ s. definition_agrees s (find_in (innermost s.scopes).names t.text) t.text f.of)
     (λ s. false) (λ s. is_typedef (storage_of c.args.d.storage) || not (is_function f.of)) t.pos
-    (IsNamed p t.text) c.in-Err.refusal
+    IsNumber c.in-Err.refusal
     (λ s. steps_after (admits (definition_agrees s (find_in (innermost s.scopes).names t.text) t.text f.of) f false
     (is_typedef (storage_of c.args.d.storage) || not (is_function f.of)) t.pos)
     (linked_routine t f.of (find_in (innermost s.scopes).names t.text)) (begins t) s)
@@ -67,13 +66,12 @@ returns-in_ok-k-in-Ok-clause-answers c lt s h =
     (c.in_ok-fits.ensures s h lt ∙ ap (λ o. definition_seen s o t.text f.of) found
     ∙ sym (definition_seen_is s e t.text f.of))
     refl misfits (c.in-Ok.ensures f.of)
-    (definition_given c.linked_routine.new.self _ c.linked_routine.new.p _ s t f.of e t.text c.in_ok-k-in-Ok.k _ _
-    (c.in_ok-k-in-Ok.ensures.ok s e h lt found refl)
+    (definition_given c.linked_routine.new.self _ c.linked_routine.new.p _ s t f.of e c.in_ok-k-in-Ok.k
+    (c.in_ok-k-in-Ok.ensures.ok s e h lt found)
     (λ u g. subst (λ z. Stands c.begin_routine.new.self c.begin_routine.new.p
     (change_routine c.in_ok-k-in-Ok.k (λ (r : RoutineState).
     record r { name = name_of z c.args.d; begun = true }) (record u { locals = [] })))
-    c.in_ok-k-in-Ok.ensures.file (c.begin_routine.ensures.stands u g))
-    c.begin_routine.ensures.types c.function_entry.ensures)
+    c.in_ok-k-in-Ok.ensures.file (c.begin_routine.ensures.stands u g)))
 
 pub returns-in_ok-k-in-Ok-clause-extends : goal.returns-in_ok-k-in-Ok-clause-extends
 returns-in_ok-k-in-Ok-clause-extends c =

@@ -8,7 +8,6 @@ use Rattle.c_tree.specs.Scopes as meant
 use Rattle.c_tree.specs.Scopes.{StaticState, bind_name, change_static}
 use Rattle.c_interner.specs.Numbers.{type_named}
 use Rattle.c_types.specs.declared.scopes.Scopes.{Scopes}
-use Rattle.c_types.specs.Looks.{entry_of}
 use Rattle.c_types.specs.Stands.{Stands, entity_kept, text_at}
 use Rattle.c_types.proofs.Extending.{extends_after, extends_types, global_changed}
 use Rattle.c_types.proofs.Judged.{named_there}
@@ -26,7 +25,9 @@ returns-clause-ok c s h lt =
     record g { of = composite g.of t; defined = g.defined || c.args.defined }) s in
     let ready = c.reserve_name.ensures.keeps p s h in
     let same = ap (λ (x : Typed). x.globals) c.in_ok-of.ensures.adds.rest in
-    let changed = known_changed c.merged_object.new.self c.note_defined.new.self.objects c.merged_object.new.p c.set_type.new.globals s k c.in_ok-of.of t c.args.defined (c.in_ok-of.ensures.keeps s ready) c.note_defined.ensures.objects c.set_type.ensures
+    let changed = known_changed c.merged_object.new.self c.note_defined.new.self.objects c.merged_object.new.p
+    c.set_type.new.globals s k c.in_ok-of.of t c.args.defined (c.in_ok-of.ensures.keeps s ready)
+    c.note_defined.ensures.objects c.set_type.ensures
     (λ x y a b.
     let there : slice_get p.globals k ≡ Some x = ap (λ gs. slice_get gs k) (sym same) ∙ a in
     c.in_ok-of.ensures.ok x y.of t there (static_type c.reserve_name.new.self p s k x y ready there b)
@@ -37,11 +38,10 @@ returns-clause-ok c s h lt =
     ∙ ap (λ (x : Scopes). x.file.now) c.in_ok-of.ensures.others
     ∙ ap (λ (x : Scopes). x.file.now) c.reserve_name.ensures.others in
     let b = c.in_ok-bind.ensures.ok q st (meant.Static k) now
-    (ap (entity_kept (types_of q.types)) c.object-entity.ensures) in
-    known_given c.bind.new.self q s sc.file.now c.args.d k t c.args.defined c.entry_of.result
+    (ap (entity_kept (types_of q.types)) c.object.ensures) in
+    known_given c.bind.new.self q s sc.file.now c.args.d k t c.args.defined
     (subst (λ n. Stands c.bind.new.self q (bind_name n (meant.Static k) st))
     (c.text.ensures ∙ ap (λ z. text_at z c.args.d.name) file) b)
-    (c.entry_of.ensures ∙ ap entry_of c.object-entity.ensures)
 
 pub returns-clause-extends : goal.returns-clause-extends
 returns-clause-extends c =

@@ -23,4 +23,6 @@ pub returns-then-not-is_of_kind-clause-is : goal.returns-then-not-is_of_kind-cla
 returns-then-not-is_of_kind-clause-is c p =
     let t = name_of c.args.self.now.file.now c.args.d in
     fails_here c.args.self.now p (names_record c.args.kind t c.args.d.defines (Recorded c.args.tag)) 133 t.pos
-    (λ s h. let e : kind_at s c.args.tag c.args.kind ≡ false = sym (c.is_of_kind.ensures p s h) ∙ c.if-not-is_of_kind.true in rw e refl)
+    (λ s h. let e : kind_at s c.args.tag c.args.kind ≡ false =
+    sym (c.is_of_kind.ensures p s h) ∙ c.if-not-is_of_kind.true in
+    rw e refl)

@@ -10,7 +10,9 @@ pub returns-in-Some-clause-is : goal.returns-in-Some-clause-is
 returns-in-Some-clause-is c p =
     let t = name_of c.args.self.now.file.now c.args.d in
     fails_here c.args.self.now p (declares_enumeration t true) c.clash.result t.pos
-    (λ s h. let e : find_in (innermost s.scopes).tags t.text ≡ Some (tagging_of c.in-Some.found) = subst (λ n. find_in (innermost s.scopes).tags n ≡ Some (tagging_of c.in-Some.found)) c.text-name.ensures (sym (c.in-Some.ensures p s h)) in
+    (λ s h. let e : find_in (innermost s.scopes).tags t.text ≡ Some (tagging_of c.in-Some.found) =
+    subst (λ n. find_in (innermost s.scopes).tags n ≡ Some (tagging_of c.in-Some.found)) c.text-name.ensures
+    (sym (c.in-Some.ensures p s h)) in
     rw e (c.clash.ensures t s))
 
 pub returns-in_err-bind_tag-in-None-clause-is : goal.returns-in_err-bind_tag-in-None-clause-is

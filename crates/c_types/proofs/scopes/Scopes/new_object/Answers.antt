@@ -5,7 +5,6 @@ use Rattle.c_tree.specs.Scopes as meant
 use Rattle.c_tree.specs.Scopes.{bind_name}
 use Rattle.c_tree.specs.Views.{types_of}
 use Rattle.c_types.specs.declared.scopes.Scopes.{Scopes}
-use Rattle.c_types.specs.Looks.{entry_of}
 use Rattle.c_types.specs.Stands.{Stands, entity_kept, text_at}
 use Rattle.c_types.proofs.Extending.{global_added}
 use Rattle.c_types.proofs.Objects.{object_given, objects_same, linked_same}
@@ -25,9 +24,9 @@ returns-clause-ok c s h lt u =
     (objects_same sc c.reserve.new.self p s h c.in_ok-reserve.ensures.items) refl c.reserve-2.ensures.entries)
     in
     let b = c.in_ok-bind.ensures.ok p s (meant.Static k) ready
-    (ap (entity_kept (types_of p.types)) c.object-entity.ensures) in
+    (ap (entity_kept (types_of p.types)) c.object.ensures) in
     let sb = c.bind.new.self in
-    object_given sc sb _ p _ s c.args.d c.args.linkage c.args.defined k c.zeros.result c.entry_of.result h lt n
+    object_given sc sb _ p _ s c.args.d c.args.linkage c.args.defined k c.zeros.result h lt n
     (subst (λ x. Stands sb p (bind_name x (meant.Static k) s)) name b)
     (ap (λ (x : Scopes). x.file.now) c.bind.ensures.others ∙ same)
     (ap (λ (x : Scopes). record x { objects = c.push.new.self }) c.note_linked.ensures.others)
@@ -40,7 +39,7 @@ returns-clause-ok c s h lt u =
     (λ m. c.in_ok-note_linked.ensures.ok m
     ∙ ap (λ x. cond (c.args.linkage && bytes_eq x m) (Some k) (lookup (λ j. bytes_eq m j.now) sb.linked.entries))
     name)
-    c.in_ok-append.ensures.ok c.zeros.ensures u (c.entry_of.ensures ∙ ap entry_of c.object-entity.ensures)
+    c.in_ok-append.ensures.ok c.zeros.ensures u
 
 pub returns-clause-extends : goal.returns-clause-extends
 returns-clause-extends c = global_added c.args.p.now _ c.zeros.result c.in_ok-append.ensures.ok

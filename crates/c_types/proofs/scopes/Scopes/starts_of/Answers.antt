@@ -1,8 +1,9 @@
-use Rattle.std.proofs.Common.{get_or}
+use Rattle.std.proofs.Common.{get_or, arith}
 use Rattle.c_tree.specs.declared.typed.Member.{Member}
 use Rattle.std.proofs.lemmas.Option.{slice_get-get_or}
 use Rattle.cap_layout.specs.Answers.{extent_is}
 use Rattle.c_types.proofs.Growth.{slice_get-longer}
+use Rattle.c_types.proofs.Sizing.{next_fits}
 use Rattle.c_types.proofs.Starting.{starts_turn}
 use Rattle.c_types.proofs.scopes.Scopes.starts_of.Goals as goal
 
@@ -17,7 +18,8 @@ loop-m-preserved c =
           (extent_is c.in-Ok.l)
           _ c.loop-m.starts.items c.push.new.self.items c.start_of.result has
           (slice_get-get_or ms i d c.loop-m-test.true)
-          (c.in-Ok.ensures.is s h).is c.start_of.ensures.is c.placed-end.ensures.is c.in_ok-push-in-Ok.ensures.items
+          (next_fits (extent_is c.loop-m.end) _ c.in-Ok.l (omega arith) (c.in-Ok.ensures.is s h)) c.start_of.ensures.is
+          c.placed-end.ensures.is c.in_ok-push-in-Ok.ensures.items
           (c.loop-m.invariant.starts s parts h has);
       positive = c.placed-end.ensures.positive;
       align = c.placed-end.ensures.align;
