@@ -22,8 +22,8 @@ use Rattle.select_words.specs.Entries.{stack_place}
 use Rattle.select_words.specs.Selecting.{Selecting}
 use Rattle.select_words.specs.Services.{KeepSome}
 use Rattle.select_whole.specs.Visited.{main_of}
-use Rattle.rv_select.specs.Growing.{line_at}
-use Rattle.rv_select.specs.Leading.{IsHop}
+use Rattle.rv_emit.specs.Growing.{line_at}
+use Rattle.rv_emit.specs.Leading.{IsHop}
 use Rattle.rv_select.specs.Selected.{FunctionStands, in_function, is_entered, is_said, is_sunk}
 use Rattle.image_runs.specs.Asked.{Enters, FunctionIs, IsAt, Says, Sinks, called_to}
 use Rattle.image_runs.specs.Made.{AreMade, AreSelected, AreStanding, Made, SelectedFunctions, before_rest, behind_call}

@@ -67,7 +67,7 @@ use Rattle.select_whole.specs.Runs.{CallersKept, Each, Here, IsInteger, IsStrang
 use Rattle.select_whole.specs.Runs.{searched}
 use Rattle.select_whole.specs.Visited.{Whole, kinds_at, locals_of, tac_at}
 use Rattle.image_runs.specs.Asked.{Enters, Has, IsAt, IsCode, IsLoaded, IsSelected, Says, called_to}
-use Rattle.rv_select.specs.Leading.{IsHop}
+use Rattle.rv_emit.specs.Leading.{IsHop}
 use Rattle.rv_select.specs.Selected.{AreAside, Stands, Ways, WordsOf, noted_copy, ways}
 use Rattle.tac_live.specs.Calls.{arguments, is_call}
 use Rattle.temp_homes.specs.Keeping.{Reaches}

@@ -7,8 +7,8 @@ use Rattle.std.proofs.lemmas.Bool.{cases_lt, eq-eqb, ne_eqb}
 use Rattle.std.proofs.lemmas.List.Sums.{sum_by-cons}
 use Rattle.cap_ops.specs.Permissions.{data_permissions}
 use Rattle.cap_concentrate.specs.Rounding.{owned}
-use Rattle.c_tree.specs.Counts.{parts, size_of, var_granules}
-use Rattle.c_tree.specs.Layout.{Extent, extent, size_limit}
+use Rattle.c_tree.specs.Counts.{parts, var_granules}
+use Rattle.c_tree.specs.Layout.{Extent, extent, size_limit, size_of}
 use Rattle.c_tree.specs.declared.typed.CType.{CType}
 use Rattle.c_tree.specs.declared.typed.Typed.{Typed}
 use Rattle.c_tree.specs.declared.typed.VarDef.{VarDef}

@@ -38,7 +38,7 @@ use Rattle.select_words.specs.Selecting.{Selecting}
 use Rattle.select_words.specs.Zeroing as zeroing
 use Rattle.select_whole.specs.Visited.{Whole, locals_of}
 use Rattle.select_runs.specs.Returning.{StubAt}
-use Rattle.rv_select.specs.Growing.{AreEntries}
+use Rattle.rv_emit.specs.Growing.{AreEntries}
 use Rattle.rv_select.specs.Selected.{AreNumbers, Before, IsSelected}
 use Rattle.image_runs.specs.Asked.{FunctionIs, Has, called_to}
 use Rattle.image_runs.specs.Starting.{CallsFirst}

@@ -12,7 +12,7 @@ use Rattle.select_runs.specs.Operands.{ground_of}
 use Rattle.select_whole.specs.Matching.{Starts}
 use Rattle.select_whole.specs.Runs.{AreWords}
 use Rattle.select_whole.specs.Visited.{Whole, locals_of, main_of, ops_of}
-use Rattle.rv_select.specs.Leading.{IsHop}
+use Rattle.rv_emit.specs.Leading.{IsHop}
 use Rattle.image_runs.specs.Asked.{Enters, IsCode, IsLoaded, IsSelected}
 
 -- The machine stands for the program's first state, at the first word, and addresses have 64 bits in all that it comes

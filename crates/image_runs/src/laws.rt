@@ -29,8 +29,8 @@ pub fn first_starts()
     ensures { FirstStarts }
 {}
 
-/// The machine that was loaded with what is made of a program does what the program means, within the program's count of
-/// acts for each turn.
+/// The machine that was loaded with what is made of a program does what the program means, within the program's count
+/// of acts for each turn.
 pub fn made_code_runs()
     ensures { MadeCodeRuns }
 {}

@@ -6,8 +6,8 @@
 //! Definitions (`specs/`): `Asked` (what is asked, and what is then known), `Made` (the setting),
 //! `Counted` (its acts), `Starting` (the first function), `Running` (all).
 //! Main lemmas (`proofs/`): `Leading` (where instructions lead), `Placed` (runs come to places in the code),
-//! `Labels` (which stand once), `Formed`, `Standing` (the words stand there), `Meant`; `Lines`, `Kept`, `Turned`, `Made`;
-//! `Sums`, `Counts`, `Starting`, `Running`.
+//! `Labels` (which stand once), `Formed`, `Standing` (the words stand there), `Meant`; `Lines`, `Kept`, `Turned`,
+//! `Made`; `Sums`, `Counts`, `Starting`, `Running`.
 #![tactic(auto)]
 
 mod laws;

@@ -21,7 +21,7 @@ use Rattle.reg_alloc.specs.Placed.{IsRegister}
 use Rattle.reg_alloc.specs.declared.places.Places.{Places}
 use Rattle.rv_instr.specs.declared.instr.Instr.{Instr}
 use Rattle.rv_instr.specs.declared.instr.Instr.TheVariants.{Cjal, Cjalr}
-use Rattle.rv_select.specs.Growing.{AreEntries}
+use Rattle.rv_emit.specs.Growing.{AreEntries}
 use Rattle.rv_select.specs.Selected.{Before, EndsAt, FunctionStands, IsSelected, Ways, WordsOf, in_function, is_entered}
 use Rattle.rv_select.specs.Selected.{is_said, is_sunk, ways}
 use Rattle.select_words.specs.ContainedCode.{EndsInPlainJump}
@@ -388,7 +388,8 @@ module _ (funs : List TacFun) (places : List Places) (frames : List Frame) (tabl
         (λ (h : length entries ≤ suc fun). at_last (omega (arith, h, entered))) (cases_lt (suc fun) (length entries)))
 
 pub plain_functions_keep : PlainFunctionsKeepToRegisters
-plain_functions_keep funs places frames table main code lines entries sel each are jump low base more fun entry f l is_fun
+plain_functions_keep funs places frames table main code lines entries sel each are jump low base more fun entry f l
+    is_fun
     is_place enters plain =
     let own = low fun f l is_fun is_place plain in
     let moved = map (λ at. base + at) entries in
@@ -399,5 +400,6 @@ plain_functions_keep funs places frames table main code lines entries sel each a
     let at = get_or-map (λ at. base + at) entries fun 0 0 lt in
     let there : base + 4 * (slice_index entries fun / 4) ≡ entry = omega (arith, w, here, at) in
     subst (λ n. KeepsToRegisters f (stretch base text moved n)) there
-    (keeps funs places frames table main code lines entries sel each are jump base more fun f l own.frame is_fun is_place
+    (keeps funs places frames table main code lines entries sel each are jump base more fun f l own.frame is_fun
+    is_place
     own.there lt plain own.low)

@@ -5,7 +5,7 @@ use Rattle.obj_mem.specs.declared.map.Frame.{Frame}
 use Rattle.reg_alloc.specs.declared.places.Places.{Places}
 use Rattle.rv_instr.specs.declared.instr.Instr.{Instr}
 use Rattle.rv_instr.specs.declared.instr.Instr.TheVariants.{Cjal}
-use Rattle.rv_select.specs.Growing.{AreEntries}
+use Rattle.rv_emit.specs.Growing.{AreEntries}
 use Rattle.rv_select.specs.Selected.{Before, IsSelected}
 use Rattle.select_words.specs.ContainedCode.{EndsInPlainJump}
 use Rattle.tac_ir.specs.declared.code.TacFun.{TacFun}

@@ -1,5 +1,5 @@
 -- What is appended for loads and stores, whose lines say where the word stands that may trap.
-use Rattle.std.proofs.Common.{◌≡◌, ℕ, ◌+◌, pos, List, [], ◌∷◌, ◌++◌, length, refl, ap, ◌∙◌, subst, arith}
+use Rattle.std.proofs.Common.{◌≡◌, ℕ, ◌+◌, pos, List, [], ◌∷◌, ◌++◌, length, refl, ap, ◌∙◌, subst}
 use Rattle.std.proofs.lemmas.List.{length-append}
 use Rattle.ck_base.specs.declared.positions.Pos.{Pos}
 use Rattle.rv_instr.specs.declared.instr.Instr.{Instr}
@@ -9,9 +9,9 @@ use Rattle.tac_ir.specs.declared.code.TacKind.{TacKind}
 use Rattle.select_words.specs.Selecting.{Selecting}
 use Rattle.select_words.specs.Accesses.{load_words, store_op}
 use Rattle.select_words.specs.Emitted.{Operand, Target, Keep}
-use Rattle.rv_select.specs.Growing.{Size, Links, Puts, trapping}
+use Rattle.rv_emit.specs.Growing.{Size, Links, Puts, trapping}
 use Rattle.rv_select.specs.Noting.{Selects}
-use Rattle.rv_select.proofs.Skips.{more}
+use Rattle.rv_emit.proofs.Appended.{more}
 
 -- a word so far behind others traps
 pub trapping_behind : (old : Links) (a b text : List Instr) (now mid : Links) (place : Pos) → text ≡ a ++ b

@@ -20,13 +20,13 @@ use Rattle.tac_ir.specs.declared.code.TacFun.{TacFun}
 use Rattle.tac_ir.specs.declared.code.TacInstr.{TacInstr}
 use Rattle.tac_ir.specs.declared.code.TacInstr.TheVariants as instr
 use Rattle.rv_select.specs.Following.{Continues, Appends, LeadsTo}
-use Rattle.rv_select.specs.Growing.{Size, Links, line_at, trapping, jumping}
-use Rattle.rv_select.specs.Leading.{IsHop, JumpsTo, NoJump}
+use Rattle.rv_emit.specs.Growing.{Size, Links, line_at, trapping, jumping}
+use Rattle.rv_emit.specs.Leading.{IsHop, JumpsTo, NoJump}
 use Rattle.rv_select.specs.Noting.{noting}
 use Rattle.rv_select.specs.Selected.{WordsOf, noted_copy, ways}
-use Rattle.rv_select.specs.declared.jumps.Jump.{Jump}
-use Rattle.rv_select.proofs.Contained.{get_left, get_right}
-use Rattle.rv_select.proofs.Landed.{at_seam, off_seam}
+use Rattle.rv_emit.specs.declared.jumps.Jump.{Jump}
+use Rattle.rv_emit.proofs.Contained.{get_left, get_right}
+use Rattle.rv_emit.proofs.Landed.{at_seam, off_seam}
 
 -- ---- words in a code
 

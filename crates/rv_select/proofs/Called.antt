@@ -1,24 +1,18 @@
 -- What is appended for calls.
 use Rattle.std.proofs.Common.{◌≡◌, ℕ, ◌+◌, pos, List, [], ◌∷◌, ◌++◌, length, Option, refl, ap, ◌∙◌, subst}
-use Rattle.std.specs.Prelude.{Result, Ok, Err, OnOk}
 use Rattle.std.proofs.lemmas.List.{length-append}
 use Rattle.ck_base.specs.declared.positions.Pos.{Pos}
-use Rattle.rv_instr.specs.declared.instr.Instr.{Instr}
 use Rattle.rv_instr.specs.declared.instr.Instr.TheVariants.{Cjal, Cjalr}
 use Rattle.tac_ir.specs.declared.code.TacInstr.TheVariants as instr
 use Rattle.select_words.specs.Selecting.{Selecting}
 use Rattle.select_words.specs.Passing.{ArgumentWords}
 use Rattle.select_words.specs.Services.{KeepSome}
 use Rattle.select_words.specs.Words.{Bring}
-use Rattle.rv_select.specs.Growing.{Size, Links, Puts, calling, trapping}
+use Rattle.rv_emit.specs.Growing.{Size, Links, Puts, calling, trapping}
 use Rattle.rv_select.specs.Noting.{noting, Selects}
 use Rattle.rv_select.specs.Selected.{AreAside, CallsThrough}
 use Rattle.rv_select.proofs.Accessed.{trapping_behind}
-use Rattle.rv_select.proofs.Skips.{more}
-
-pub on_both : {T E : Type 0} (r : Result T E) (P Q R : Type 0) → OnOk r P → OnOk r Q → (P → Q → R) → OnOk r R
-on_both (Ok x) P Q R p q f = f p q
-on_both (Err e) P Q R p q f = p
+use Rattle.rv_emit.proofs.Appended.{more}
 
 module _ (s : Selecting) (to : Option ℕ) (args : List ℕ) (old passed called new : Size) where
   pub call_selected : (fun : ℕ) → Puts (λ ws. AreAside s args → ArgumentWords s args ws) old passed

@@ -1,8 +1,6 @@
 -- What is appended for temps has the forms of words.
-use Rattle.std.proofs.Common.{◌≡◌, ◌≢◌, ℕ, ◌<◌, ℤ, pos, List, [], ◌∷◌, ◌++◌, None, refl, sym, ap, ◌∙◌, subst}
-use Rattle.std.proofs.Common.{append_assoc, arith}
-use Rattle.std.proofs.lemmas.List.{append-nil}
-use Rattle.rv_instr.specs.declared.instr.Instr.{Instr}
+use Rattle.std.proofs.Common.{◌≡◌, ◌≢◌, ℕ, ◌<◌, ℤ, pos, [], ◌∷◌, ◌++◌, None, refl, sym, ap, ◌∙◌, subst}
+use Rattle.std.proofs.Common.{arith}
 use Rattle.rv_instr.specs.declared.instr.Instr.TheVariants.{CapGet}
 use Rattle.rv_instr.specs.declared.ops.CapGetOp.TheVariants.{Cmove}
 use Rattle.ck_int.specs.Kinds.{kept_of}
@@ -16,24 +14,8 @@ use Rattle.select_words.specs.Words.{Constant, Bring, Copied}
 use Rattle.rv_select.specs.declared.homes.Place.{Place}
 use Rattle.rv_select.specs.declared.homes.Place.TheVariants as place
 use Rattle.rv_select.specs.Choosing.{AreReached, IsFound}
-use Rattle.rv_select.specs.Growing.{Size, Puts, IsWordNumber, IsLongNumber, reach}
-
--- ---- words that were appended
-
-pub puts_none : (Words : List Instr → Type 0) (old : Size) → Words [] → Puts Words old old
-puts_none Words old w = record { added = []; is = sym (append-nil old.text); are = w }
-
-pub puts_map : (V W : List Instr → Type 0) (old new : Size) → ((ws : List Instr) → V ws → W ws) → Puts V old new
-    → Puts W old new
-puts_map V W old new f p = record { added = p.added; is = p.is; are = f p.added p.are }
-
-pub puts_then : (V W U : List Instr → Type 0) (old mid new : Size) → Puts V old mid → Puts W mid new
-    → ((a b : List Instr) → V a → W b → U (a ++ b)) → Puts U old new
-puts_then V W U old mid new p q f = record {
-  added = p.added ++ q.added;
-  is = q.is ∙ ap (λ x. x ++ q.added) p.is ∙ append_assoc old.text p.added q.added;
-  are = f p.added q.added p.are q.are;
-}
+use Rattle.rv_emit.specs.Growing.{Size, Puts, IsWordNumber, IsLongNumber, reach}
+use Rattle.rv_emit.proofs.Appended.{puts_none, puts_map, puts_then}
 
 -- ---- where temps are found
 

@@ -11,9 +11,10 @@ use Rattle.select_words.specs.Emitted.{IsNumber}
 use Rattle.select_words.specs.Forms.{OfOne, OfTwo, Other}
 use Rattle.select_words.specs.Operations as words
 use Rattle.select_words.specs.Operations.{compares_signed, compare_code, compare_number, compare_zero, ComparisonWords}
-use Rattle.rv_select.specs.Growing.{Size, Puts}
-use Rattle.rv_select.specs.Work.{is_equality, takes_number, zero_code, number_code}
-use Rattle.rv_select.proofs.Choices.{puts_map}
+use Rattle.rv_emit.specs.Growing.{Size, Puts}
+use Rattle.rv_select.specs.Work.{is_equality, takes_number}
+use Rattle.rv_idioms.specs.Operations.{zero_code, number_code}
+use Rattle.rv_emit.proofs.Appended.{puts_map}
 
 -- the words of an operation that has such a form
 pub zero_form : (o : CmpOp) (r x : ℕ) → is_equality o ≡ true → Some (zero_code o r x) ≡ compare_zero o r x

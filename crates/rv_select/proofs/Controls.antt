@@ -10,7 +10,7 @@ use Rattle.tac_ir.specs.declared.code.TacInstr.TheVariants as instr
 use Rattle.select_words.specs.Selecting.{Selecting}
 use Rattle.select_words.specs.Returning.{ReturnWords}
 use Rattle.rv_select.specs.Choosing.{ServiceWords}
-use Rattle.rv_select.specs.Growing.{Size, Puts, marking, jumping}
+use Rattle.rv_emit.specs.Growing.{Size, Puts, marking, jumping}
 use Rattle.rv_select.specs.Noting.{Selects}
 use Rattle.rv_select.specs.Selected.{LibraryWords}
 

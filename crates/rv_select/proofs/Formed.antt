@@ -1,5 +1,5 @@
 -- What is appended for most instructions has their form.
-use Rattle.std.proofs.Common.{◌≡◌, ℕ, ℤ, ◌*◌, ◌^◌, ◌<◌, List, [], ◌∷◌, ◌++◌, refl, ap, ◌∙◌, subst, sym, arith}
+use Rattle.std.proofs.Common.{◌≡◌, ℕ, ℤ, ◌*◌, ◌^◌, ◌<◌, List, [], ◌∷◌, ◌++◌, refl, ap, subst, sym, arith}
 use Rattle.std.specs.Prelude.{Result, Ok, Err, IfOk, Option, Some, slice_get}
 use Rattle.rv_instr.specs.declared.instr.Instr.{Instr}
 use Rattle.rv_instr.specs.declared.ops.CapGetOp.{CapGetOp}
@@ -21,26 +21,12 @@ use Rattle.rv_select.specs.declared.memory.Intrinsic.TheVariants as intrinsic
 use Rattle.rv_select.specs.Work.{IsOfForm, IsAmount}
 use Rattle.rv_select.specs.declared.function.Function.{Function}
 use Rattle.rv_select.specs.Choosing.{chosen, Chooses, ChoosesFirst}
-use Rattle.rv_select.specs.Growing.{Size, Puts, IsLongNumber, reach}
-use Rattle.rv_select.proofs.Choices.{puts_then, puts_map}
+use Rattle.rv_emit.specs.Growing.{Size, Puts, IsLongNumber, reach}
+use Rattle.rv_emit.proofs.Appended.{puts_then, puts_map, puts_all}
 
 pub if_ok : {T E : Type 0} (r : Result T E) (P Q : T → Type 0) → IfOk r P → ((x : T) → P x → Q x) → IfOk r Q
 if_ok (Ok x) P Q p f = f x p
 if_ok (Err e) P Q p f = p
-
--- one word
-pub puts_one : (Words : List Instr → Type 0) (old new : Size) (i j : Instr) → new.text ≡ old.text ++ i ∷ [] → i ≡ j
-    → Words (j ∷ []) → Puts Words old new
-puts_one Words old new i j e is w = record {
-  added = j ∷ [];
-  is = e ∙ ap (λ x. old.text ++ x ∷ []) is;
-  are = w;
-}
-
--- words that are known
-pub puts_all : (Words : List Instr → Type 0) (old new : Size) (ws : List Instr) → new.text ≡ old.text ++ ws → Words ws
-    → Puts Words old new
-puts_all Words old new ws e w = record { added = ws; is = e; are = w }
 
 module _ (s : Selecting) (to : ℕ) where
   pub makes_of : (Work : (r : ℕ) → List Instr → Type 0) (old mid new : Size) (r : ℕ) → Target s to r
@@ -122,17 +108,13 @@ second_some s b old new t x r e is p =
 
 -- ---- entries of the table
 
-pub entry_of : (s : Selecting) (to number at : ℕ) (old mid new : Size) (r : ℕ) → 16 * number < reach
-    → (16 * number < reach → at ≡ 16 * number) → Target s to r
-    → (at < reach → mid.text ≡ old.text ++ load_code r 3 at r) → Puts (Keep s to r) mid new
+pub entry_of : (s : Selecting) (to number : ℕ) (old mid new : Size) (r : ℕ) → 16 * number < reach → Target s to r
+    → (16 * number < reach → mid.text ≡ old.text ++ load_code r 3 (16 * number) r) → Puts (Keep s to r) mid new
     → Puts (EntryWords s to number) old new
-entry_of s to number at old mid new r lt same t e k =
-    let is = same lt in
-    let low : at < reach = omega (arith, is, lt) in
+entry_of s to number old mid new r lt t e k =
     puts_map (Makes s to (Entry (16 * number))) (EntryWords s to number) old new (λ ws m. (lt, m))
     (makes_of s to (Entry (16 * number)) old mid new r t
-    (puts_all (Entry (16 * number) r) old mid (load_code r 3 (16 * number) r)
-    (e low ∙ ap (λ y. old.text ++ load_code r 3 y r) is) refl) k)
+    (puts_all (Entry (16 * number) r) old mid (load_code r 3 (16 * number) r) (e lt) refl) k)
 
 -- ---- calls of the library
 

@@ -19,12 +19,12 @@ use Rattle.tac_ir.specs.WellFormed.{has_label, label_is_new, labels_differ}
 use Rattle.tac_ir.specs.declared.code.TacInstr.{TacInstr}
 use Rattle.tac_ir.specs.declared.code.TacInstr.TheVariants as instr
 use Rattle.rv_select.specs.Following.{Continues, Appends}
-use Rattle.rv_select.specs.Growing.{Size, Links, line_at, trapping, marking, jumping, calling}
-use Rattle.rv_select.specs.Leading.{StandsAt}
+use Rattle.rv_emit.specs.Growing.{Size, Links, line_at, trapping, marking, jumping, calling}
+use Rattle.rv_emit.specs.Leading.{StandsAt}
 use Rattle.rv_select.specs.Noting.{noting, Selects, SelectsAll}
 use Rattle.rv_select.specs.Selected.{WordsOf, noted_copy}
-use Rattle.rv_select.specs.declared.jumps.Jump.{Jump}
-use Rattle.rv_select.specs.declared.jumps.Mark.{Mark}
+use Rattle.rv_emit.specs.declared.jumps.Jump.{Jump}
+use Rattle.rv_emit.specs.declared.jumps.Mark.{Mark}
 
 -- ---- what is appended, one behind the other
 

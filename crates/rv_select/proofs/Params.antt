@@ -21,13 +21,14 @@ use Rattle.select_words.specs.Services.{IsAside}
 use Rattle.rv_select.specs.declared.function.Function.{Function}
 use Rattle.rv_select.specs.declared.homes.Place.{Place}
 use Rattle.rv_select.specs.declared.homes.Place.TheVariants as place
-use Rattle.rv_select.specs.declared.moves.Move.{Move}
+use Rattle.rv_idioms.specs.declared.moves.Move.{Move}
 use Rattle.rv_select.specs.Choosing.{chosen, HasHome}
-use Rattle.rv_select.specs.Growing.{Size, Puts, reach}
-use Rattle.rv_select.specs.Parameters.{TakesParameter, TakesParameters, AreFree, moving, Brings, AreMoved, Settles}
+use Rattle.rv_emit.specs.Growing.{Size, Puts, reach}
+use Rattle.rv_select.specs.Parameters.{TakesParameter, TakesParameters, Brings, AreMoved, Settles}
+use Rattle.rv_idioms.specs.Moves.{AreFree, moving}
 use Rattle.rv_select.specs.Parameters.{AreSettled}
 use Rattle.rv_select.specs.Parameters.{IsLoadedTo}
-use Rattle.rv_select.proofs.Choices.{puts_then}
+use Rattle.rv_emit.proofs.Appended.{puts_then}
 use Rattle.rv_select.proofs.Passes.{for_each_more}
 
 -- a temp stands in one register

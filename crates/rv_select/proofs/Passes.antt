@@ -20,11 +20,10 @@ use Rattle.rv_select.specs.declared.calls.Bring as calls
 use Rattle.rv_select.specs.declared.calls.Placed.{Placed}
 use Rattle.rv_select.specs.declared.function.Function.{Function}
 use Rattle.rv_select.specs.Choosing.{chosen, Chooses}
-use Rattle.rv_select.specs.Growing.{Size, Puts, reach}
+use Rattle.rv_emit.specs.Growing.{Size, Puts, reach}
 use Rattle.rv_select.specs.Passed.{AreChosen, ArePlaced}
 use Rattle.rv_select.specs.Selected.{AreAside}
-use Rattle.rv_select.proofs.Choices.{puts_then}
-use Rattle.rv_select.proofs.Skips.{more}
+use Rattle.rv_emit.proofs.Appended.{puts_then, more}
 
 module _ (Words : ℕ → List Instr → Type 0) where
   pub for_each_more : (k n : ℕ) (ws xs : List Instr) → ForEach Words k n ws → Words (k + n) xs

@@ -1,6 +1,6 @@
 -- How the first eight arguments come to their registers, one after another.
 use Rattle.std.proofs.Common.{◌≡◌, ℕ, ◌+◌, ◌<◌, ◌≤◌, ⊎_elim, List, [], ◌∷◌, ◌++◌, length, get_or, Some}
-use Rattle.std.proofs.Common.{refl, sym, ap, ◌∙◌, arith}
+use Rattle.std.proofs.Common.{sym, ap, ◌∙◌, arith}
 use Rattle.std.specs.Prelude.{slice_get, min}
 use Rattle.std.proofs.lemmas.Bool.{cases_lt}
 use Rattle.std.proofs.lemmas.List.{length-append}
@@ -11,7 +11,7 @@ use Rattle.rv_select.specs.declared.function.Function.{Function}
 use Rattle.rv_select.specs.Choosing.{chosen, Chooses}
 use Rattle.rv_select.specs.Passed.{StandsAside, ChoosesArguments, AreChosen, ArePlaced}
 use Rattle.rv_select.specs.Selected.{AreAside}
-use Rattle.rv_select.proofs.Contained.{get_left, get_right}
+use Rattle.rv_emit.proofs.Contained.{get_left, get_right}
 
 module _ (f : Function) (args : List ℕ) (k t to : ℕ) (was new : Placed) (lt : k < length args)
     (e : t ≡ get_or args k t) (comes : to ≡ 10 + k) (all : ChoosesArguments f args) where

@@ -27,11 +27,11 @@ use Rattle.rv_select.specs.declared.function.Function.{Function}
 use Rattle.rv_select.specs.declared.operations.Work.{Work}
 use Rattle.rv_select.specs.declared.operations.Work.TheVariants.{Registers, Immediate, Shift}
 use Rattle.rv_select.specs.Choosing.{Chooses}
-use Rattle.rv_select.specs.Growing.{Size, Puts}
+use Rattle.rv_emit.specs.Growing.{Size, Puts}
 use Rattle.rv_select.specs.Planning.{by_number, IsShift, IsWithNumber, Second, First, IsPlan, ChoosesWork}
 use Rattle.rv_select.specs.Planning as plan
 use Rattle.rv_select.specs.Planning.{OneWord, TwoWord, WorkWord, WorkWords}
-use Rattle.rv_select.proofs.Choices.{puts_then}
+use Rattle.rv_emit.proofs.Appended.{puts_then}
 
 pub if_some : {T : Type 0} (o : Option T) (P Q : T → Type 0) → IfSome o P → ((x : T) → P x → Q x) → IfSome o Q
 if_some None P Q p f = p

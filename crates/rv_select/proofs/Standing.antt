@@ -21,21 +21,21 @@ use Rattle.tac_ir.specs.declared.code.TacFun.{TacFun}
 use Rattle.tac_ir.specs.declared.code.TacInstr.{TacInstr}
 use Rattle.select_words.specs.ContainedCode.{offset_of}
 use Rattle.rv_select.specs.Following.{Continues, Appends, Becomes, IsBetween, FunctionIsPut}
-use Rattle.rv_select.specs.Growing.{Size, Links, Puts, line_at, entering, ended, trapping}
-use Rattle.rv_select.specs.Leading.{IsHop, JumpsTo, NoJump, StandsAt, AreLedTo}
+use Rattle.rv_emit.specs.Growing.{Size, Links, Puts, line_at, entering, ended, trapping}
+use Rattle.rv_emit.specs.Leading.{IsHop, JumpsTo, NoJump, StandsAt, AreLedTo}
 use Rattle.rv_select.specs.Noting.{SelectsAll}
 use Rattle.rv_select.specs.Selected.{WordsOf, ways, Stands, FunctionStands, is_entered, is_said, is_sunk}
-use Rattle.rv_select.specs.declared.jumps.Jump.{Jump}
+use Rattle.rv_emit.specs.declared.jumps.Jump.{Jump}
 use Rattle.rv_select.specs.Choosing.{chosen}
 use Rattle.rv_select.specs.Parameters.{TakesParameters}
 use Rattle.rv_select.specs.Suiting.{AllSuit}
 use Rattle.rv_select.specs.declared.function.Function.{Function}
 use Rattle.rv_select.proofs.Amid.{IsAmid, ComesTo, Labels, stands_as, has_kept}
-use Rattle.rv_select.proofs.Contained.{get_left}
+use Rattle.rv_emit.proofs.Contained.{get_left}
 use Rattle.rv_select.proofs.Noted.{continues_then, continues_more, continues_keeps, appends_then, appends_below}
 use Rattle.rv_select.proofs.Noted.{appends_none, Notes, all_marks, noted_all, place, place_first, place_most, splits}
 use Rattle.rv_select.proofs.Noted.{label_at, place_last}
-use Rattle.rv_select.proofs.Skips.{more}
+use Rattle.rv_emit.proofs.Appended.{more}
 
 -- the bytes from one word to another
 pub hop : (at to : ℕ) → (z : ℤ) × IsHop at to z

@@ -1,5 +1,5 @@
 -- What is asked of a function's code and its homes gives what is asked for the words of each of its instructions.
-use Rattle.std.proofs.Common.{◌≡◌, ◌⊎◌, ℕ, zero, suc, ◌+◌, ◌-◌, ◌*◌, ◌<◌, ◌≤◌, List, [], ◌∷◌, ◌++◌, length, refl, sym}
+use Rattle.std.proofs.Common.{◌≡◌, ◌⊎◌, ℕ, zero, suc, ◌+◌, ◌*◌, ◌<◌, ◌≤◌, List, [], ◌∷◌, ◌++◌, length, refl, sym}
 use Rattle.std.proofs.Common.{ap, ◌∙◌}
 use Rattle.std.proofs.Common.{subst, arith, ⊎_elim}
 use Rattle.std.proofs.lemmas.Bool.{cases_order}
@@ -25,7 +25,7 @@ use Rattle.rv_select.specs.declared.numbers.Written.{Written}
 use Rattle.rv_select.specs.declared.numbers.Written.TheVariants.{Nothing, Number, Values}
 use Rattle.rv_select.specs.Choosing.{chosen, number_in, AreReached, Chooses, ChoosesSome, ChoosesFirst, ChoosesAmount}
 use Rattle.rv_select.specs.Choosing.{Stands, ReachesHeap}
-use Rattle.rv_select.specs.Growing.{reach}
+use Rattle.rv_emit.specs.Growing.{reach}
 use Rattle.rv_select.specs.Parameters.{TakesParameters}
 use Rattle.rv_select.specs.Passed.{ChoosesArguments}
 use Rattle.rv_select.specs.Selectable.{IsSelectable, IsFormed, table_of}

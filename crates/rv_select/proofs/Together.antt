@@ -19,11 +19,11 @@ use Rattle.tac_ir.specs.declared.code.TacFun.{TacFun}
 use Rattle.tac_ir.specs.declared.code.TacInstr.{TacInstr}
 use Rattle.select_words.specs.ContainedCode.{offset_of}
 use Rattle.rv_select.specs.Following.{Continues, Follows, LeadsTo, Becomes, IsBetween, FunctionIsPut, IsPut, ArePut}
-use Rattle.rv_select.specs.Growing.{Size, Links, AreEntries, calling}
-use Rattle.rv_select.specs.Leading.{IsHop, JumpsTo, NoJump, IsEnteredAt, IsCompleted}
+use Rattle.rv_emit.specs.Growing.{Size, Links, AreEntries, calling}
+use Rattle.rv_emit.specs.Leading.{IsHop, JumpsTo, NoJump, IsEnteredAt, IsCompleted}
 use Rattle.rv_select.specs.Selected.{AreNumbers, Before, EndsAt, FunctionStands, IsSelected, in_function, is_entered}
 use Rattle.rv_select.specs.Selected.{is_said, is_sunk}
-use Rattle.rv_select.specs.declared.jumps.Jump.{Jump}
+use Rattle.rv_emit.specs.declared.jumps.Jump.{Jump}
 use Rattle.rv_select.specs.declared.function.Function.{Function}
 use Rattle.rv_select.specs.Choosing.{chosen, number_in}
 use Rattle.rv_select.specs.Parameters.{TakesParameters}
@@ -31,7 +31,7 @@ use Rattle.rv_select.specs.Selectable.{AreAll, IsSelectable, table_of}
 use Rattle.rv_select.specs.Suiting.{AllSuit}
 use Rattle.rv_select.specs.Written.{AreWritten}
 use Rattle.purecap_abi.specs.Saving.{IsFor}
-use Rattle.rv_select.proofs.Contained.{get_left}
+use Rattle.rv_emit.proofs.Contained.{get_left}
 use Rattle.rv_select.proofs.Noted.{continues_none, continues_then, continues_more, continues_keeps, appends_none}
 use Rattle.rv_select.proofs.Noted.{appends_then}
 use Rattle.rv_select.proofs.Standing.{hop}

@@ -6,9 +6,6 @@ use Rattle.reg_alloc.specs.declared.places.Home as places
 use Rattle.reg_alloc.specs.declared.places.Home.{Home}
 use Rattle.purecap_abi.specs.Saving.{slots_at}
 use Rattle.rv_instr.specs.declared.instr.Instr.{Instr}
-use Rattle.rv_instr.specs.declared.instr.Instr.TheVariants.{CapGet, Op}
-use Rattle.rv_instr.specs.declared.ops.CapGetOp.TheVariants.{Cgetlen, Cgetbase}
-use Rattle.rv_instr.specs.declared.ops.RegOp.TheVariants.{Sub}
 use Rattle.tac_ir.specs.declared.code.LibOp.{LibOp}
 use Rattle.tac_ir.specs.declared.code.LibOp.TheVariants as lib
 use Rattle.tac_ir.specs.declared.code.Amount.{Amount}
@@ -23,7 +20,7 @@ use Rattle.rv_select.specs.declared.homes.Place.{Place}
 use Rattle.rv_select.specs.declared.homes.Place.TheVariants as place
 use Rattle.rv_select.specs.declared.numbers.Written.{Written}
 use Rattle.rv_select.specs.declared.numbers.Written.TheVariants as written
-use Rattle.rv_select.specs.Growing.{reach}
+use Rattle.rv_emit.specs.Growing.{reach}
 
 -- the number that is all that a temp holds
 abbrev pub number_in : Option Written → Option ℕ
@@ -102,7 +99,3 @@ ServiceWords s lib.GetChar to args words = Asks s [] 2 to words
 ServiceWords s lib.Exit to args words = Asks s args 3 None words
 ServiceWords s lib.Malloc to (a ∷ more) words = Mallocs s a to words
 ServiceWords s lib.Malloc to [] words = ⊥
-
--- the words with which `malloc` measures, but for the branch
-abbrev pub measured : List Instr
-measured = CapGet Cgetbase 10 28 ∷ Op Sub 10 29 10 ∷ CapGet Cgetlen 30 28 ∷ []

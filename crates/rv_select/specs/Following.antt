@@ -10,11 +10,11 @@ use Rattle.reg_alloc.specs.declared.places.Places.{Places}
 use Rattle.select_words.specs.Selecting.{Selecting}
 use Rattle.tac_ir.specs.declared.code.TacFun.{TacFun}
 use Rattle.tac_ir.specs.declared.code.TacInstr.{TacInstr}
-use Rattle.rv_select.specs.Growing.{Size, room}
-use Rattle.rv_select.specs.Leading.{IsHop, JumpsTo, NoJump, IsEnteredAt}
+use Rattle.rv_emit.specs.Growing.{Size, room}
+use Rattle.rv_emit.specs.Leading.{IsHop, JumpsTo, NoJump, IsEnteredAt}
 use Rattle.rv_select.specs.Selected.{AreNumbers, Before, EndsAt, FunctionStands, in_function, is_entered, is_said}
 use Rattle.rv_select.specs.Selected.{is_sunk}
-use Rattle.rv_select.specs.declared.jumps.Jump.{Jump}
+use Rattle.rv_emit.specs.declared.jumps.Jump.{Jump}
 
 -- ---- what is appended
 

@@ -1,14 +1,12 @@
 pub mod Choosing
 pub mod Following
-pub mod Growing
-pub mod Leading
 pub mod Noting
 pub mod Objects
 pub mod Parameters
 pub mod Passed
+pub mod Planning
 pub mod Selectable
 pub mod Selected
 pub mod Suiting
 pub mod Work
 pub mod Written
-pub mod Planning

@@ -1,15 +1,11 @@
 -- What is appended for instructions, while their jumps lead nowhere yet: the words are those of the whole code but for
 -- the offsets of jumps, of which is noted where they are to lead. A line is noted for each word that may trap.
-use Rattle.std.specs.Prelude.{◌≡◌, ℕ, ◌+◌, pos, List, [], ◌∷◌, length}
-use Rattle.ck_base.specs.declared.positions.Pos.{Pos}
+use Rattle.std.specs.Prelude.{◌≡◌, ◌+◌, pos, List, [], ◌∷◌, length}
 use Rattle.tac_ir.specs.declared.code.TacInstr.{TacInstr}
 use Rattle.select_words.specs.Selecting.{Selecting}
-use Rattle.rv_select.specs.Growing.{Size, Puts, marking, jumping, calling, trapping, both_trapping}
+use Rattle.rv_emit.specs.Growing.{Size, Puts, marking, jumping, calling, trapping}
+use Rattle.rv_idioms.specs.Copies.{Twice}
 use Rattle.rv_select.specs.Selected.{Ways, WordsOf}
-
--- two words, the first of them so far behind that text
-abbrev pub Twice : (old new : Size) → (first second : Pos) → (skip : ℕ) → Type 0
-Twice old new first second skip = new.links ≡ both_trapping old.links (length old.text + skip) first second
 
 abbrev pub noting : (old new : Size) → Ways
 noting old new = record {

@@ -6,10 +6,8 @@ use Rattle.select_words.specs.Entries.{ForEach, SlotWords}
 use Rattle.select_words.specs.Selecting.{Selecting}
 use Rattle.select_words.specs.Services.{IsAside}
 use Rattle.rv_instr.specs.declared.instr.Instr.{Instr}
-use Rattle.rv_instr.specs.declared.instr.Instr.TheVariants.{CapGet}
-use Rattle.rv_instr.specs.declared.ops.CapGetOp.TheVariants.{Cmove}
 use Rattle.rv_select.specs.declared.function.Function.{Function}
-use Rattle.rv_select.specs.declared.moves.Move.{Move}
+use Rattle.rv_idioms.specs.declared.moves.Move.{Move}
 use Rattle.rv_select.specs.Choosing.{chosen, Chooses, Stands}
 
 -- Words are chosen for a parameter that is no number, and stands in the register in which it comes or in none of those
@@ -26,13 +24,6 @@ pub record TakesParameters (f : Function) (params : ℕ) : Type 0 where
   pub apart : (j k r : ℕ) → j < params → k < params → IsIn (chosen f) j r → IsIn (chosen f) k r → j ≡ k
 
 -- ---- moves
-
--- no move reads the target of one
-abbrev pub AreFree : List Move → Type 0
-AreFree moves = (m n : Move) → Contains moves m → Contains moves n → m.to ≢ n.from
-
-abbrev pub moving : Move → Instr
-moving m = CapGet Cmove m.to m.from
 
 -- a parameter comes from its register to its home elsewhere
 pub record Brings (s : Selecting) (count : ℕ) (m : Move) : Type 0 where

@@ -1,7 +1,6 @@
 -- How an operation on integers is computed.
 use Rattle.std.specs.Prelude.{◌≡◌, ℕ, ◌+◌, ◌%◌, ◌^◌, ◌<◌, ℤ, Bool, true, false, List, [], ◌∷◌, ◌++◌, Some}
-use Rattle.std.specs.Prelude.{if◌then◌else◌}
-use Rattle.ck_int.specs.Kinds.{form_of, width_of, is_signed}
+use Rattle.ck_int.specs.Kinds.{form_of, width_of}
 use Rattle.ck_int.specs.declared.kinds.IntKind.{IntKind}
 use Rattle.ck_int.specs.declared.kinds.IntOp.{IntOp}
 use Rattle.ck_int.specs.declared.kinds.IntOp.TheVariants as op
@@ -10,13 +9,10 @@ use Rattle.rv_instr.specs.Range.{count_bits}
 use Rattle.rv_instr.specs.declared.instr.Instr.{Instr}
 use Rattle.rv_instr.specs.declared.instr.Instr.TheVariants as word
 use Rattle.rv_instr.specs.declared.ops.ImmOp.{ImmOp}
-use Rattle.rv_instr.specs.declared.ops.RegOp.{RegOp}
-use Rattle.rv_instr.specs.declared.ops.RegOp.TheVariants.{Remu, Remw}
 use Rattle.rv_instr.specs.declared.ops.ShiftOp.TheVariants.{Slli}
 use Rattle.tac_ir.specs.Costs.{is_wide}
 use Rattle.select_words.specs.Emitted.{IsNumber, Operand}
 use Rattle.select_words.specs.Forms.{OfOne, OfTwo, Other}
-use Rattle.select_words.specs.Integers.{long_op, short_op, unsigned_op}
 use Rattle.select_words.specs.Operations.{selected_op, immediate_by, shift_by, add_op, OneThen, TwoThen}
 use Rattle.select_words.specs.Selecting.{Selecting}
 use Rattle.rv_select.specs.Choosing.{Chooses}
@@ -26,28 +22,10 @@ use Rattle.rv_select.specs.declared.operations.Work.TheVariants.{Registers, Imme
 
 -- ---- which operation
 
--- without a sign, where the remainder of two numbers of 32 bits is the same in 64
-abbrev pub without_sign : RegOp → RegOp
-without_sign Remw = Remu
-without_sign i = unsigned_op i
-
-abbrev pub op_of : IntKind → IntOp → RegOp
-op_of k o =
-    if is_signed (form_of k) then (if is_wide k then long_op o else short_op o)
-    else without_sign (if is_wide k then long_op o else short_op o)
-
 abbrev pub IsShift : IntOp → Type 0
 IsShift op.Shl = Unit {0}
 IsShift op.Shr = Unit {0}
 IsShift o = ⊥
-
--- at kinds of fewer than 32 bits these would give a number of the kind
-abbrev pub exact_below : IntOp → Bool
-exact_below op.And = true
-exact_below op.Or = true
-exact_below op.Xor = true
-exact_below op.Shr = true
-exact_below o = false
 
 -- ---- the work
 

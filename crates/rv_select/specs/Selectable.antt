@@ -4,6 +4,7 @@ use Rattle.std.specs.Prelude.{if◌then◌else◌}
 use Rattle.std.specs.List.{Contains}
 use Rattle.c_tree.specs.declared.typed.Typed.{Typed}
 use Rattle.obj_mem.specs.declared.map.Frame.{Frame}
+use Rattle.purecap_abi.specs.Saving.{IsFor}
 use Rattle.reg_alloc.specs.Placed.{IsUsable}
 use Rattle.reg_alloc.specs.declared.places.Home.{Home}
 use Rattle.reg_alloc.specs.declared.places.Home.TheVariants.{Register}
@@ -16,7 +17,7 @@ use Rattle.tac_ir.specs.declared.code.TacInstr.TheVariants as instr
 use Rattle.select_words.specs.Operations.{AtKind}
 use Rattle.select_words.specs.Services.{IsAside}
 use Rattle.rv_select.specs.declared.function.Entries.{Entries}
-use Rattle.rv_select.specs.Growing.{reach}
+use Rattle.rv_emit.specs.Growing.{reach}
 use Rattle.rv_select.specs.Objects.{HasObject}
 use Rattle.rv_select.specs.Selected.{Before}
 
@@ -66,3 +67,8 @@ AreAll table funs places frames =
 
 abbrev pub AreSelectable : Typed → List TacFun → List Places → List Frame → Type 0
 AreSelectable p funs places frames = AreAll (before p) funs places frames
+
+-- each frame is one for the homes at its place
+abbrev pub AreFramed : List Places → List Frame → Type 0
+AreFramed places frames =
+    (k : ℕ) (l : Places) (f : Frame) → slice_get places k ≡ Some l → slice_get frames k ≡ Some f → IsFor l.homes f

@@ -34,8 +34,8 @@ use Rattle.select_words.specs.Services.{Asks, KeepSome, IsAside, ask}
 use Rattle.select_words.specs.Standing.{HasAt}
 use Rattle.select_words.specs.Words.{Bring, ConstantWords, CopyWords}
 use Rattle.select_words.specs.Zeroing.{ZeroWords}
-use Rattle.rv_select.specs.Growing.{line_at}
-use Rattle.rv_select.specs.Leading.{IsHop}
+use Rattle.rv_emit.specs.Growing.{line_at}
+use Rattle.rv_emit.specs.Leading.{IsHop}
 
 -- ---- the words of an instruction
 

@@ -1,6 +1,6 @@
 -- What is asked of an instruction for words to be chosen for it: that words reach the homes of its temps and the
 -- objects that it names, and that it is one of those that lowering makes.
-use Rattle.std.specs.Prelude.{◌≡◌, ℕ, ◌+◌, ◌*◌, ◌/◌, ◌^◌, ◌<◌, true, List, [], ◌∷◌, Option, Some, None}
+use Rattle.std.specs.Prelude.{ℕ, ◌+◌, ◌*◌, ◌/◌, ◌^◌, ◌<◌, List}
 use Rattle.std.specs.Prelude.{if◌then◌else◌}
 use Rattle.std.specs.List.{Contains}
 use Rattle.tac_ir.specs.declared.code.TacInstr.{TacInstr}
@@ -9,7 +9,7 @@ use Rattle.select_words.specs.Operations.{AtKind}
 use Rattle.rv_select.specs.declared.function.Function.{Function}
 use Rattle.rv_select.specs.Choosing.{chosen, Chooses, ChoosesSome, ChoosesFirst, ChoosesAmount, Stands, IsOnly}
 use Rattle.rv_select.specs.Choosing.{ReachesHeap}
-use Rattle.rv_select.specs.Growing.{reach}
+use Rattle.rv_emit.specs.Growing.{reach}
 use Rattle.rv_select.specs.Objects.{HasObject}
 use Rattle.rv_select.specs.Passed.{ChoosesArguments}
 

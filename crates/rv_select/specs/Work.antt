@@ -1,20 +1,15 @@
 -- How an operation is computed, an intrinsic, and what an amount is.
-use Rattle.std.specs.Prelude.{◌≡◌, ℕ, ℤ, Bool, true, false, List, [], ◌∷◌}
+use Rattle.std.specs.Prelude.{◌≡◌, ℤ, Bool, true, false}
 use Rattle.ck_int.specs.declared.kinds.CmpOp.{CmpOp}
 use Rattle.ck_int.specs.declared.kinds.CmpOp.TheVariants as test
 use Rattle.cap_machine.specs.Integers.{extended}
 use Rattle.rv_instr.specs.Range.{FitsBits}
-use Rattle.rv_instr.specs.declared.instr.Instr.{Instr}
-use Rattle.rv_instr.specs.declared.instr.Instr.TheVariants.{Imm}
-use Rattle.rv_instr.specs.declared.ops.ImmOp.TheVariants.{Xori}
-use Rattle.rv_instr.specs.declared.ops.CapGetOp.{CapGetOp}
-use Rattle.rv_instr.specs.declared.ops.CapGetOp.TheVariants.{Csealentry}
 use Rattle.tac_ir.specs.declared.code.Amount.{Amount}
 use Rattle.tac_ir.specs.declared.code.Amount.TheVariants as amount
 use Rattle.select_words.specs.Capabilities as words
 use Rattle.select_words.specs.Emitted.{IsNumber}
-use Rattle.select_words.specs.Operations.{less_number, turn_round, is_zero, is_some}
 use Rattle.select_words.specs.Selecting.{Selecting}
+use Rattle.rv_emit.specs.Growing.{seals}
 use Rattle.rv_select.specs.declared.memory.Intrinsic.{Intrinsic}
 use Rattle.rv_select.specs.declared.memory.Intrinsic.TheVariants.{OfOne, OfTwo}
 use Rattle.rv_select.specs.declared.operations.Work.{Work}
@@ -31,12 +26,7 @@ abbrev pub IsAmount : Selecting → Amount → ℤ → Type 0
 IsAmount s (amount.Temp t) z = IsNumber s t (extended z)
 IsAmount s (amount.Number n) z = extended z ≡ n
 
--- it makes a sentry
-abbrev pub seals : CapGetOp → Bool
-seals Csealentry = true
-seals op = false
-
--- no intrinsic does
+-- no intrinsic makes a sentry
 abbrev pub NeverSeals : Intrinsic → Type 0
 NeverSeals (OfOne op) = seals op ≡ false
 NeverSeals (OfTwo op) = Unit {0}
@@ -49,7 +39,7 @@ IsOfForm form i = ⊥
 
 -- ---- comparisons
 
--- those of equality, those with a number that have a form of their own, and the words that selection puts for them
+-- those of equality, and those with a number that have a form of their own
 abbrev pub is_equality : CmpOp → Bool
 is_equality test.Eq = true
 is_equality test.Ne = true
@@ -59,13 +49,3 @@ abbrev pub takes_number : CmpOp → Bool
 takes_number test.Gt = false
 takes_number test.Le = false
 takes_number o = true
-
-abbrev pub zero_code : CmpOp → (r x : ℕ) → List Instr
-zero_code test.Eq r x = is_zero r x ∷ []
-zero_code o r x = is_some r x ∷ []
-
-abbrev pub number_code : CmpOp → Bool → (z : ℤ) → (r x : ℕ) → List Instr
-number_code test.Eq signed z r x = Imm Xori r x z ∷ is_zero r r ∷ []
-number_code test.Ne signed z r x = Imm Xori r x z ∷ is_some r r ∷ []
-number_code test.Ge signed z r x = Imm (less_number signed) r x z ∷ turn_round r ∷ []
-number_code o signed z r x = Imm (less_number signed) r x z ∷ []

@@ -12,16 +12,14 @@ ghost use Rattle.rv_select.specs.Selected.{AreAside, CallsThrough};
 ghost use Rattle.select_words.specs.Entries.{ForEach, stack_place};
 ghost use Rattle.select_words.specs.Passing.{ArgumentWords, StackedWords, IsPassing};
 ghost use Rattle.rv_select.specs.Passed.{StandsAside, ChoosesArguments, AreChosen, ArePlaced};
-ghost use Rattle.rv_select.specs.Growing.{Grows, Extends, Puts, room};
+ghost use Rattle.rv_emit.specs.Growing.{Grows, Extends, Puts, room};
 ghost use Rattle.tac_ir.specs.Costs.{places_cost};
 
-use crate::emit::Code;
 use crate::function::Function;
 use crate::homes::{Place, bring, keep_some, operand, register};
-use crate::instructions as instr;
-use crate::moves::{Move, move_all};
-use crate::registers::{left, right, way};
 use ck_base::{NoMemory, Pos};
+use rv_emit::{Code, instructions as instr};
+use rv_idioms::{Move, left, move_all, right, way};
 use rv_instr::Reg;
 use std::alloc::Global;
 

@@ -1,8 +1,7 @@
 // Comparisons, and branches on a truth value.
-ghost use Rattle.std.specs.Prelude.{◌≡◌, ◌+◌, [], ◌∷◌, ◌++◌, pos, true, Some, OnOk, IfSome};
+ghost use Rattle.std.specs.Prelude.{◌≡◌, pos, true, Some, OnOk, IfSome};
 ghost use Rattle.rv_instr.specs.Range.{FitsBits};
-ghost use Rattle.select_words.specs.Integers.{less};
-ghost use Rattle.select_words.specs.Operations.{compares_signed, less_number, turn_round, is_zero, is_some};
+ghost use Rattle.select_words.specs.Operations.{compares_signed};
 ghost use Rattle.select_words.specs.Operations.{compare_code, compare_number, compare_zero, ComparisonWords};
 ghost use Rattle.select_words.specs.Forms.{OfOne, OfTwo, Other};
 ghost use Rattle.select_words.specs.Emitted.{IsNumber};
@@ -11,18 +10,16 @@ ghost use Rattle.select_words.specs.Jumps.{inverted};
 ghost use Rattle.tac_ir.specs.declared.code.TacInstr.TheVariants.{Branch};
 ghost use Rattle.rv_select.specs.Choosing.{chosen, Chooses};
 ghost use Rattle.rv_select.specs.Noting.{Selects};
-ghost use Rattle.rv_select.specs.Growing.{Grows, Extends, Puts};
-ghost use Rattle.rv_select.specs.Work.{is_equality, takes_number, zero_code, number_code};
+ghost use Rattle.rv_emit.specs.Growing.{Grows, Extends, Puts};
+ghost use Rattle.rv_select.specs.Work.{is_equality, takes_number};
 
-use crate::emit::Code;
 use crate::function::Function;
 use crate::homes::{keep, operand};
-use crate::instructions as instr;
-use crate::operations::is_signed;
-use crate::registers::{left, right};
 use ck_base::NoMemory;
 use ck_int::CmpOp;
-use rv_instr::{BranchOp, ImmOp, Reg, RegOp};
+use rv_emit::Code;
+use rv_idioms::{compare, compare_number, compare_zero, is_signed, left, right};
+use rv_instr::{BranchOp, Reg};
 use tac_ir::TacKind;
 
 /// Whether values of a kind are compared with their signs.
@@ -32,69 +29,6 @@ fn compares_signed(kind: TacKind) -> bool
     match kind {
         TacKind::Int(k) => is_signed(k),
         TacKind::Cap(signed) => signed,
-    }
-}
-
-fn less(signed: bool) -> RegOp
-    ensures { result ≡ less signed }
-{
-    if signed { RegOp::Slt } else { RegOp::Sltu }
-}
-
-fn less_than_number(signed: bool) -> ImmOp
-    ensures { result ≡ less_number signed }
-{
-    if signed { ImmOp::Slti } else { ImmOp::Sltiu }
-}
-
-/// Turns a truth value round.
-fn turn_round(code: &mut Code, r: Reg) -> Result<(), NoMemory>
-    ensures size { OnOk result (Grows 1 code.old code.new) }
-    ensures text { OnOk result (code.new.text ≡ code.old.text ++ turn_round r ∷ []) }
-{
-    code.put(instr::immediate(ImmOp::Xori, r, r, 1))
-}
-
-/// Whether a register is zero.
-fn is_zero(code: &mut Code, to: Reg, a: Reg) -> Result<(), NoMemory>
-    ensures size { OnOk result (Grows 1 code.old code.new) }
-    ensures text { OnOk result (code.new.text ≡ code.old.text ++ is_zero to a ∷ []) }
-{
-    code.put(instr::immediate(ImmOp::Sltiu, to, a, 1))
-}
-
-/// Whether a register is not zero.
-fn is_not_zero(code: &mut Code, to: Reg, a: Reg) -> Result<(), NoMemory>
-    ensures size { OnOk result (Grows 1 code.old code.new) }
-    ensures text { OnOk result (code.new.text ≡ code.old.text ++ is_some to a ∷ []) }
-{
-    code.put(instr::operation(RegOp::Sltu, to, Reg::ZERO, a))
-}
-
-/// Compares two registers.
-fn compare(code: &mut Code, op: CmpOp, signed: bool, r: Reg, a: Reg, b: Reg) -> Result<(), NoMemory>
-    ensures size { OnOk result (Grows 2 code.old code.new) }
-    ensures text { OnOk result (code.new.text ≡ code.old.text ++ compare_code op signed r a b) }
-{
-    match op {
-        CmpOp::Lt => code.put(instr::operation(less(signed), r, a, b)),
-        CmpOp::Gt => code.put(instr::operation(less(signed), r, b, a)),
-        CmpOp::Le => {
-            code.put(instr::operation(less(signed), r, b, a))?;
-            turn_round(code, r)
-        }
-        CmpOp::Ge => {
-            code.put(instr::operation(less(signed), r, a, b))?;
-            turn_round(code, r)
-        }
-        CmpOp::Eq => {
-            code.put(instr::operation(RegOp::Xor, r, a, b))?;
-            is_zero(code, r, r)
-        }
-        CmpOp::Ne => {
-            code.put(instr::operation(RegOp::Xor, r, a, b))?;
-            is_not_zero(code, r, r)
-        }
     }
 }
 
@@ -110,47 +44,6 @@ fn compares_zero(op: CmpOp, number: i32) -> bool
     ensures { result ≡ true → (is_equality op ≡ true) × (number ≡ pos 0) }
 {
     number == 0 && is_equality(op)
-}
-
-/// Compares a register with zero, by equality or its opposite: no bits differ from zero.
-fn compare_zero(code: &mut Code, op: CmpOp, r: Reg, a: Reg) -> Result<(), NoMemory>
-    ensures size { OnOk result (Grows 1 code.old code.new) }
-    ensures text { OnOk result (code.new.text ≡ code.old.text ++ zero_code op r a) }
-{
-    match op {
-        CmpOp::Eq => is_zero(code, r, a),
-        _ => is_not_zero(code, r, a),
-    }
-}
-
-/// Compares a register with a number of 12 bits, by "less" or its opposite, or by equality or its opposite.
-fn compare_number(
-    code: &mut Code,
-    op: CmpOp,
-    signed: bool,
-    r: Reg,
-    a: Reg,
-    number: i32,
-) -> Result<(), NoMemory>
-    requires { FitsBits 12 number }
-    ensures size { OnOk result (Grows 2 code.old code.new) }
-    ensures text { OnOk result (code.new.text ≡ code.old.text ++ number_code op signed number r a) }
-{
-    match op {
-        CmpOp::Eq => {
-            code.put(instr::immediate(ImmOp::Xori, r, a, number))?;
-            is_zero(code, r, r)
-        }
-        CmpOp::Ne => {
-            code.put(instr::immediate(ImmOp::Xori, r, a, number))?;
-            is_not_zero(code, r, r)
-        }
-        CmpOp::Ge => {
-            code.put(instr::immediate(less_than_number(signed), r, a, number))?;
-            turn_round(code, r)
-        }
-        _ => code.put(instr::immediate(less_than_number(signed), r, a, number)),
-    }
 }
 
 /// Whether a comparison with a number has a form of its own.

@@ -1,20 +1,18 @@
 // Conversions between kinds.
-ghost use Rattle.std.specs.Prelude.{◌≡◌, ◌+◌, ◌≤◌, ◌++◌, ◌&&◌, OnOk, if◌then◌else◌};
+ghost use Rattle.std.specs.Prelude.{◌≡◌, ◌&&◌, OnOk, if◌then◌else◌};
 ghost use Rattle.select_words.specs.Forms.{OfOne};
-ghost use Rattle.select_words.specs.Operations.{is_narrower, is_widening, Reduces, kept_code, CopiedOr, ConversionBy};
+ghost use Rattle.select_words.specs.Operations.{is_narrower, is_widening, Reduces, CopiedOr, ConversionBy};
 ghost use Rattle.rv_select.specs.Choosing.{chosen, Chooses, Stands};
-ghost use Rattle.rv_select.specs.Growing.{Grows, Puts};
+ghost use Rattle.rv_emit.specs.Growing.{Grows, Puts};
 ghost use Rattle.tac_ir.specs.Costs.{conversion_cost, is_wide};
 
-use crate::emit::Code;
 use crate::function::Function;
 use crate::homes::{keep, operand};
-use crate::instructions as instr;
-use crate::operations::{bits_of, copy, is_signed, reduce};
-use crate::registers::left;
+use crate::operations::copy;
 use ck_base::NoMemory;
 use ck_int::IntKind;
-use rv_instr::{ImmOp, Reg};
+use rv_emit::Code;
+use rv_idioms::{bits_of, is_signed, keep_bits, left};
 use tac_ir::TacKind;
 
 /// Whether each number of so many bits, with a sign or without, is one of others, in the same 64 bits.
@@ -37,17 +35,6 @@ fn is_widening(old: IntKind, new: IntKind) -> bool
         (IntKind::Bool, _) => true,
         (_, IntKind::Bool) => false,
         _ => is_narrower(bits_of(old), bits_of(new), is_signed(old), is_signed(new)),
-    }
-}
-
-/// A register becomes the integer of a kind that another has the bits of.
-fn keep_bits(code: &mut Code, kind: IntKind, r: Reg, a: Reg) -> Result<(), NoMemory>
-    ensures size { OnOk result (Grows (if is_wide kind then 1 else 2) code.old code.new) }
-    ensures text { OnOk result (code.new.text ≡ code.old.text ++ kept_code kind r a) }
-{
-    match kind {
-        IntKind::I64 | IntKind::U64 => code.put(instr::immediate(ImmOp::Addi, r, a, 0)),
-        _ => reduce(code, kind, r, a),
     }
 }
 

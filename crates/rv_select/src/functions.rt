@@ -8,7 +8,7 @@ ghost use Rattle.purecap_abi.specs.Ends.{before_store, prologue_code};
 ghost use Rattle.select_words.specs.Entries.{ForEach, StackWords, ParameterWords};
 ghost use Rattle.rv_select.specs.Choosing.{chosen};
 ghost use Rattle.rv_select.specs.Following.{IsBetween, FunctionIsPut};
-ghost use Rattle.rv_select.specs.Growing.{Grows, Extends, Enters, Puts, entering, trapping, room};
+ghost use Rattle.rv_emit.specs.Growing.{Grows, Extends, Enters, Puts, entering, trapping, room};
 ghost use Rattle.rv_select.specs.Noting.{Selects};
 ghost use Rattle.rv_select.specs.Parameters.{TakesParameter, TakesParameters, Settles, AreSettled, IsLoadedTo};
 ghost use Rattle.rv_select.specs.Suiting.{Suits, AllSuit, Computes, Points, Touches, Leads};
@@ -16,18 +16,16 @@ ghost use Rattle.rv_select.specs.Suiting.{Suits, AllSuit, Computes, Points, Touc
 use crate::calls::{Callee, call, call_value, leave, stack_place};
 use crate::comparisons::{branch, comparison};
 use crate::conversions::conversion;
-use crate::emit::Code;
 use crate::function::Function;
 use crate::homes::{Place, keep, register};
-use crate::instructions as instr;
 use crate::memory::{
     Ends, capability, copy_units, function, global, load, local, narrow, offset, store, zero,
 };
-use crate::moves::{Move, move_all};
 use crate::operations::{constant, copy, integer};
-use crate::registers::{count, left, right};
 use crate::services::service;
 use ck_base::{NoMemory, Pos};
+use rv_emit::Code;
+use rv_idioms::{Move, count, left, move_all, right};
 use rv_instr::{Instr, Reg};
 use std::alloc::Global;
 use tac_ir::{TacFun, TacInstr};

@@ -1,22 +1,21 @@
 // Where the temps of the function at hand stand: from an operand to a register, and from a register to a home.
-ghost use Rattle.std.specs.Prelude.{◌≡◌, ◌+◌, ◌^◌, ◌<◌, ◌≤◌, length, slice_get, OnOk, IfOk, IfSome, Some};
+ghost use Rattle.std.specs.Prelude.{◌≡◌, ◌<◌, length, slice_get, OnOk, IfOk, IfSome, Some};
 ghost use Rattle.std.specs.Option.{option_map};
 ghost use Rattle.cap_machine.specs.Integers.{extended};
 ghost use Rattle.rv_instr.specs.Range.{FitsBits};
 ghost use Rattle.select_words.specs.Emitted.{IsNumber, Operand, Target, Keep};
 ghost use Rattle.select_words.specs.Words.{Bring};
 ghost use Rattle.select_words.specs.Services.{KeepSome};
-ghost use Rattle.rv_select.specs.Choosing.{chosen, number_in, AreReached, HasHome, IsFound, Chooses, ChoosesSome};
-ghost use Rattle.rv_select.specs.Growing.{Grows, Puts};
+ghost use Rattle.rv_select.specs.Choosing.{chosen, number_in, HasHome, IsFound, Chooses, ChoosesSome};
+ghost use Rattle.rv_emit.specs.Growing.{Grows, Puts};
 
-use crate::emit::Code;
 use crate::function::Function;
-use crate::instructions as instr;
 use crate::numbers::Written;
-use crate::registers::{left, way};
 use ck_base::NoMemory;
 use obj_mem::Slot;
 use reg_alloc::Home;
+use rv_emit::{Code, instructions as instr};
+use rv_idioms::{left, way};
 use rv_instr::Reg;
 
 /// Where a temp is found.

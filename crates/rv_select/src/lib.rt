@@ -1,26 +1,20 @@
 //! Selects the machine's instructions for three-address code.
 //!
 //! Promise: each instruction has a word, the size is within the costs, lines ascend, entries are distinct, and the
-//! code is contained.
-//! Definitions (`specs/`): `Growing`, `Choosing`, `ContainedCode`.
-//! Main lemmas (`proofs/`): `Texts`, `KindCosts`, `Contained`.
+//! code is contained; where it is selectable, its words are those of the whole program, function by function.
+//! Definitions (`specs/`): `Choosing`, `Suiting`, `Selectable`, `Noting`, `Following`, `Selected`.
+//! Main lemmas (`proofs/`): `Noted`, `Standing`, `Together`.
 #![tactic(auto)]
 
 mod calls;
 mod comparisons;
 mod conversions;
-mod emit;
 mod function;
 mod functions;
 mod homes;
-mod instructions;
-mod jumps;
 mod memory;
-mod moves;
 mod numbers;
 mod operations;
-mod parts;
-mod registers;
 mod selection;
 mod services;
 

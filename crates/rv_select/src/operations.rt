@@ -1,30 +1,27 @@
 // Constants, copies and operations on integers.
-ghost use Rattle.std.specs.Prelude.{◌≡◌, ◌+◌, ◌%◌, ◌^◌, ◌<◌, ◌≤◌, [], ◌∷◌, ◌++◌, pos, true, OnOk, IfSome, max};
-ghost use Rattle.ck_int.specs.Kinds.{form_of, width_of, is_signed};
+ghost use Rattle.std.specs.Prelude.{◌≡◌, ◌+◌, ◌%◌, ◌^◌, ◌<◌, ◌≤◌, pos, OnOk, IfSome};
+ghost use Rattle.ck_int.specs.Kinds.{form_of, width_of};
 ghost use Rattle.select_words.specs.Words.{Constant, Copied};
-ghost use Rattle.select_words.specs.Integers.{long_op, short_op};
-ghost use Rattle.select_words.specs.Operations.{reduce_code, finish_code, is_exact_word, is_exact, selected_op};
+ghost use Rattle.select_words.specs.Operations.{selected_op};
 ghost use Rattle.select_words.specs.Operations.{add_op, shift_by, AtKind, IntegerWords};
 ghost use Rattle.cap_machine.specs.Integers.{extended};
 ghost use Rattle.ck_int.specs.declared.kinds.IntOp.TheVariants.{Sub, Mul};
 ghost use Rattle.rv_select.specs.declared.operations.Work.TheVariants.{Registers};
-ghost use Rattle.rv_select.specs.Planning.{without_sign, exact_below, by_number, IsTimes, IsWithNumber, IsPlan};
+ghost use Rattle.rv_select.specs.Planning.{by_number, IsTimes, IsWithNumber, IsPlan};
 ghost use Rattle.rv_select.specs.Planning.{IsShift, ChoosesWork, WorkWord};
 ghost use Rattle.rv_instr.specs.declared.instr.Instr.TheVariants.{Shift};
 ghost use Rattle.rv_instr.specs.declared.ops.ShiftOp.TheVariants.{Slli};
-ghost use Rattle.rv_instr.specs.Range.{count_bits};
 ghost use Rattle.rv_select.specs.Choosing.{chosen, Chooses, IsOnly, Stands};
-ghost use Rattle.rv_select.specs.Growing.{Grows, Puts, reduce_words};
+ghost use Rattle.rv_emit.specs.Growing.{Grows, Puts};
 ghost use Rattle.rv_select.specs.Work.{WorkFits};
 ghost use Rattle.tac_ir.specs.Costs.{number_cost, operation_cost, is_wide};
 
-use crate::emit::Code;
 use crate::function::Function;
 use crate::homes::{Place, bring, keep, operand, register};
-use crate::instructions as instr;
-use crate::registers::{left, right};
 use ck_base::NoMemory;
 use ck_int::{IntKind, IntOp};
+use rv_emit::{Code, instructions as instr};
+use rv_idioms::{add_op, finish, is_wide, left, reg_op, right, shift_op};
 use rv_instr::{ImmOp, Reg, RegOp, ShiftOp};
 
 /// A temp becomes a constant.
@@ -61,142 +58,12 @@ pub fn copy(code: &mut Code, f: &Function<'_>, to: u32, from: u32) -> Result<(),
     }
 }
 
-/// Whether a kind has a sign.
-pub fn is_signed(kind: IntKind) -> bool
-    ensures { result ≡ is_signed (form_of kind) }
-{
-    matches!(
-        kind,
-        IntKind::I8 | IntKind::I16 | IntKind::I32 | IntKind::I64
-    )
-}
-
-/// Whether a kind has 64 bits.
-pub fn is_wide(kind: IntKind) -> bool
-    ensures { result ≡ is_wide kind }
-{
-    matches!(kind, IntKind::I64 | IntKind::U64)
-}
-
-/// The bits of a kind. A truth value is kept in 8.
-pub fn bits_of(kind: IntKind) -> u8
-    ensures { result ≡ max 8 (width_of (form_of kind)) }
-{
-    match kind {
-        IntKind::Bool | IntKind::I8 | IntKind::U8 => 8,
-        IntKind::I16 | IntKind::U16 => 16,
-        IntKind::I32 | IntKind::U32 => 32,
-        IntKind::I64 | IntKind::U64 => 64,
-    }
-}
-
-fn shift_twice(code: &mut Code, back: ShiftOp, count: u8, r: Reg, from: Reg) -> Result<(), NoMemory>
-    ensures size { OnOk result (Grows 2 code.old code.new) }
-    ensures text { OnOk result (code.new.text ≡ code.old.text ++
-        Shift Slli r from (count % 2 ^ 6) ∷ Shift back r r (count % 2 ^ count_bits back) ∷ []) }
-{
-    code.put(instr::shift(ShiftOp::Slli, r, from, count))?;
-    code.put(instr::shift(back, r, r, count))
-}
-
-/// A register becomes another, reduced to a kind. A kind of 64 bits has nothing to be reduced.
-pub fn reduce(code: &mut Code, kind: IntKind, r: Reg, from: Reg) -> Result<(), NoMemory>
-    ensures size { OnOk result (Grows (reduce_words kind) code.old code.new) }
-    ensures text { OnOk result (code.new.text ≡ code.old.text ++ reduce_code kind r from) }
-{
-    match kind {
-        IntKind::Bool => code.put(instr::operation(RegOp::Sltu, r, Reg::ZERO, from)),
-        IntKind::I8 => shift_twice(code, ShiftOp::Srai, 56, r, from),
-        IntKind::U8 => code.put(instr::immediate(ImmOp::Andi, r, from, 255)),
-        IntKind::I16 => shift_twice(code, ShiftOp::Srai, 48, r, from),
-        IntKind::U16 => shift_twice(code, ShiftOp::Srli, 48, r, from),
-        IntKind::I32 => code.put(instr::immediate(ImmOp::Addiw, r, from, 0)),
-        IntKind::U32 => shift_twice(code, ShiftOp::Srli, 32, r, from),
-        IntKind::I64 | IntKind::U64 => Ok(()),
-    }
-}
-
 /// How an operation is computed, before its result is reduced to its kind.
 #[derive(Clone, Copy)]
 enum Work {
     Registers(RegOp, u32, u32),
     Immediate(ImmOp, u32, i32),
     Shift(ShiftOp, u32, u8),
-}
-
-fn long_op(op: IntOp) -> RegOp
-    ensures { result ≡ long_op op }
-{
-    match op {
-        IntOp::Add => RegOp::Add,
-        IntOp::Sub => RegOp::Sub,
-        IntOp::Mul => RegOp::Mul,
-        IntOp::Div => RegOp::Div,
-        IntOp::Rem => RegOp::Rem,
-        IntOp::And => RegOp::And,
-        IntOp::Or => RegOp::Or,
-        IntOp::Xor => RegOp::Xor,
-        IntOp::Shl => RegOp::Sll,
-        IntOp::Shr => RegOp::Sra,
-    }
-}
-
-fn word_op(op: IntOp) -> RegOp
-    ensures { result ≡ short_op op }
-{
-    match op {
-        IntOp::Add => RegOp::Addw,
-        IntOp::Sub => RegOp::Subw,
-        IntOp::Mul => RegOp::Mulw,
-        IntOp::Div => RegOp::Divw,
-        IntOp::Rem => RegOp::Remw,
-        IntOp::And => RegOp::And,
-        IntOp::Or => RegOp::Or,
-        IntOp::Xor => RegOp::Xor,
-        IntOp::Shl => RegOp::Sllw,
-        IntOp::Shr => RegOp::Sraw,
-    }
-}
-
-// The operation without a sign. The remainder of two numbers of 32 bits is the same in 64.
-fn unsigned_op(op: RegOp) -> RegOp
-    ensures { result ≡ without_sign op }
-{
-    match op {
-        RegOp::Div => RegOp::Divu,
-        RegOp::Rem | RegOp::Remw => RegOp::Remu,
-        RegOp::Sra => RegOp::Srl,
-        RegOp::Divw => RegOp::Divuw,
-        RegOp::Sraw => RegOp::Srlw,
-        other => other,
-    }
-}
-
-/// The operation of two registers. A kind of fewer than 32 bits is promoted to 32, also for the count of a shift.
-fn reg_op(kind: IntKind, op: IntOp) -> RegOp
-    ensures { AtKind kind op → result ≡ selected_op kind op }
-{
-    let signed = if is_wide(kind) {
-        long_op(op)
-    } else {
-        word_op(op)
-    };
-    if is_signed(kind) {
-        signed
-    } else {
-        unsigned_op(signed)
-    }
-}
-
-/// The addition of a number.
-fn add_op(kind: IntKind) -> ImmOp
-    ensures { result ≡ add_op kind }
-{
-    if is_wide(kind) {
-        ImmOp::Addi
-    } else {
-        ImmOp::Addiw
-    }
 }
 
 /// The operation with a number on either side, where the order doesn't matter.
@@ -256,19 +123,6 @@ fn product(f: &Function<'_>, kind: IntKind, a: u32, b: u32) -> Option<Work>
     match shift_by(f, a, b) {
         Some(work) => Some(work),
         None => shift_by(f, b, a),
-    }
-}
-
-/// The shift of a kind by a count.
-fn shift_op(kind: IntKind, op: IntOp) -> ShiftOp
-    ensures { 32 ≤ width_of (form_of kind) → result ≡ shift_by kind op }
-{
-    match (op, kind) {
-        (IntOp::Shl, IntKind::I64 | IntKind::U64) => ShiftOp::Slli,
-        (IntOp::Shl, _) => ShiftOp::Slliw,
-        (_, IntKind::I32) => ShiftOp::Sraiw,
-        (_, IntKind::I8 | IntKind::I16 | IntKind::I64) => ShiftOp::Srai,
-        _ => ShiftOp::Srli,
     }
 }
 
@@ -337,54 +191,6 @@ fn by_number(work: Work) -> bool
     ensures { result ≡ by_number work }
 {
     matches!(work, Work::Shift(_, _, _))
-}
-
-/// Whether the result has 32 bits without a sign, without being reduced.
-fn is_exact_word(op: IntOp, by_number: bool) -> bool
-    ensures { result ≡ is_exact_word op by_number }
-{
-    match op {
-        IntOp::And | IntOp::Or | IntOp::Xor | IntOp::Rem => true,
-        IntOp::Shr => by_number,
-        _ => false,
-    }
-}
-
-/// Whether the result has a kind of fewer than 32 bits, without being reduced.
-fn is_exact_below(op: IntOp) -> bool
-    ensures { result ≡ exact_below op }
-{
-    matches!(op, IntOp::And | IntOp::Or | IntOp::Xor | IntOp::Shr)
-}
-
-/// Whether the result has its kind without being reduced.
-fn is_exact(op: IntOp, kind: IntKind, by_number: bool) -> bool
-    ensures { AtKind kind op → result ≡ is_exact kind op by_number }
-{
-    match kind {
-        IntKind::I32 | IntKind::I64 | IntKind::U64 => true,
-        IntKind::U32 => is_exact_word(op, by_number),
-        _ => is_exact_below(op),
-    }
-}
-
-/// Reduces a result to its kind, where it has to be.
-fn finish(
-    code: &mut Code,
-    op: IntOp,
-    kind: IntKind,
-    by_number: bool,
-    r: Reg,
-) -> Result<(), NoMemory>
-    ensures size { OnOk result (Grows (reduce_words kind) code.old code.new) }
-    ensures text { OnOk result (AtKind kind op →
-        code.new.text ≡ code.old.text ++ finish_code kind op by_number r) }
-{
-    if is_exact(op, kind, by_number) {
-        Ok(())
-    } else {
-        reduce(code, kind, r, r)
-    }
 }
 
 /// Computes in a register.

@@ -1,5 +1,5 @@
 //! Selection: the text of a program's code.
-ghost use Rattle.std.specs.Prelude.{◌≡◌, ◌+◌, ◌*◌, ◌^◌, ◌≤◌, ◌<◌, pos, [], ◌∷◌, ◌++◌, length, OnOk, IfOk, vec_len};
+ghost use Rattle.std.specs.Prelude.{◌≡◌, ◌+◌, ◌^◌, ◌≤◌, ◌<◌, pos, ◌∷◌, ◌++◌, length, OnOk, IfOk, vec_len};
 ghost use Rattle.std.specs.List.{sum_by};
 ghost use Rattle.purecap_abi.specs.Saving.{IsFor};
 ghost use Rattle.tac_ir.specs.Costs.{function_cost};
@@ -7,11 +7,11 @@ ghost use Rattle.select_words.specs.ContainedCode.{IsContainedCode};
 ghost use Rattle.rv_instr.specs.declared.instr.Instr.TheVariants.{Cjal};
 ghost use Rattle.select_words.specs.Services.{ask};
 ghost use Rattle.rv_select.specs.Following.{IsBetween, IsPut, ArePut};
-ghost use Rattle.rv_select.specs.Growing.{Extends, Enters, calling, room, IsText, AreFramed, AreEntries};
+ghost use Rattle.rv_emit.specs.Growing.{Extends, Enters, calling, room, IsText, AreEntries};
+ghost use Rattle.rv_select.specs.Selectable.{AreFramed};
 ghost use Rattle.rv_select.specs.Selectable.{IsSelectable, AreAll, AreSelectable, before, table_of};
 ghost use Rattle.rv_select.specs.Selected.{IsSelected};
 
-use crate::emit::{Code, Complete};
 use crate::function::{Entries, Function};
 use crate::functions::select_function;
 use crate::numbers::all_written;
@@ -20,6 +20,7 @@ use ck_base::NoMemory;
 use elf_file::Line;
 use obj_mem::Frame;
 use reg_alloc::Places;
+use rv_emit::{Code, Complete};
 use rv_instr::Instr;
 use std::alloc::Global;
 use tac_ir::{Tac, TacFun};

@@ -31,7 +31,7 @@ use Rattle.tac_ir.specs.Effects.{kind_of}
 use Rattle.tac_ir.specs.declared.code.TacInstr.TheVariants as instr
 use Rattle.tac_ir.specs.declared.code.TacKind.{TacKind}
 use Rattle.tac_ir.specs.declared.code.TacKind.TheVariants as kind
-use Rattle.tac_lower.specs.declared.emitter.Emitter.{Emitter}
+use Rattle.tac_emit.specs.declared.emitter.Emitter.{Emitter}
 use Rattle.tac_lower.specs.declared.operations.Change.{Change}
 use Rattle.tac_lower.specs.declared.operations.Pace.{Pace}
 use Rattle.tac_lower.specs.declared.writes.Written.{Written}
@@ -41,12 +41,14 @@ use Rattle.lower_runs.specs.Operating.{Code, give, transfer, changed, changed_te
 use Rattle.lower_runs.specs.Expressions as rule
 use Rattle.lower_runs.specs.Expressions.{Mark, more, position_in, IsPointer, IsAssignment, IsChange, IsStep, asks_old}
 use Rattle.lower_runs.specs.Trees.{Places, Values}
-use Rattle.tac_lower.specs.Emitted.{ComputedFits, Keeps}
+use Rattle.tac_lower.specs.Operands.{ComputedFits}
+use Rattle.tac_emit.specs.Emitted.{Keeps}
 use Rattle.tac_lower.specs.Nodes.{IsScalar, kind_in, kept_as, or_int, points, expression, AssignNode}
 use Rattle.tac_lower.specs.Nodes.{CompoundNode, StepNode, VarNode}
 use Rattle.c_tree.specs.Terms.{type_of}
 use Rattle.tac_lower.specs.Scenes.{frame_of}
-use Rattle.tac_lower.specs.Shown.{mark, Emits, none, one, Changes, ChangesBy, Paces}
+use Rattle.tac_emit.specs.Adding.{mark, Emits, none, one}
+use Rattle.tac_lower.specs.Shown.{Changes, ChangesBy, Paces}
 use Rattle.tac_lower.specs.Tables.{is_some, kept_by, type_at, IsPointed}
 use Rattle.tac_lower.specs.Trees.{Setting, tree, signatures, Suits, CoversAll, IsNode, IsVariable}
 use Rattle.tac_lower.specs.Trees.{pos_in, written_in, Located, HasRecord, ShowsStruct, ShowsOperand, ShowsValue}
@@ -56,11 +58,11 @@ use Rattle.tac_lower.specs.Assigning.{Renews, RenewsApart}
 use Rattle.tac_lower.proofs.Assigning.{point_is, point_of, given_is, none_is, element_small, pointed_is}
 use Rattle.tac_lower.proofs.Deriving.{node_tree, kind_is, same_scalar, mark_more, mark_same, cover_none}
 use Rattle.tac_lower.proofs.Deriving.{cover_one, right_is}
-use Rattle.tac_lower.proofs.Emitting.{added_then}
+use Rattle.tac_emit.proofs.Emitting.{added_then}
 use Rattle.tac_lower.proofs.Keeping.{scalar_kind}
 use Rattle.tac_lower.proofs.Standing.{named, no_record, kept_node}
 use Rattle.tac_lower.proofs.Typings.{none_kept, kept_is, points_is}
-use Rattle.tac_lower.proofs.Wells.{keeps_then, and_both}
+use Rattle.tac_emit.proofs.Wells.{keeps_then, and_both}
 
 -- ---- the operation of a compound assignment
 

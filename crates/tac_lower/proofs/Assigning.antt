@@ -27,24 +27,24 @@ use Rattle.tac_ir.specs.declared.code.Amount.TheVariants as amount
 use Rattle.tac_ir.specs.declared.code.TacInstr.TheVariants as instr
 use Rattle.tac_ir.specs.declared.code.TacKind.{TacKind}
 use Rattle.tac_ir.specs.declared.code.TacKind.TheVariants as kind
-use Rattle.tac_lower.specs.declared.emitter.Emitter.{Emitter}
+use Rattle.tac_emit.specs.declared.emitter.Emitter.{Emitter}
 use Rattle.lower_runs.specs.Operating.{stride, difference, moved, moved_temps}
 use Rattle.lower_runs.specs.Expressions as rule
 use Rattle.lower_runs.specs.Expressions.{IsConstant, more}
 use Rattle.lower_runs.specs.Trees.{Values}
 use Rattle.tac_lower.specs.Nodes.{IsScalar, points, expression, kind_in, DifferenceNode, SumNode, ConstantNode}
 use Rattle.tac_lower.specs.Scenes.{frame_of}
-use Rattle.tac_lower.specs.Shown.{mark, Emits, none, one}
+use Rattle.tac_emit.specs.Adding.{mark, Emits, none, one}
 use Rattle.tac_lower.specs.Tables.{is_some, target_by, type_at, IsSmall, IsPointed}
 use Rattle.tac_lower.specs.Trees.{Setting, tree, IsNode, Peels, TypesFit, ShowsValue, ShowsPair}
 use Rattle.tac_lower.specs.Assigning.{IsIndex, IsSum, ShowsMoved, ShowsOwn}
 use Rattle.tac_lower.proofs.Deriving.{node_tree, node_kind, kind_is, same_scalar, value_binary, value_as, kept_by_fit}
 use Rattle.tac_lower.proofs.Deriving.{mark_more, mark_same}
-use Rattle.tac_lower.proofs.Emitting.{added_then}
+use Rattle.tac_emit.proofs.Emitting.{added_then}
 use Rattle.tac_lower.proofs.Keeping.{scalar_kind}
 use Rattle.tac_lower.proofs.Signatures.{pointed}
 use Rattle.tac_lower.proofs.Typings.{facts_point, none_kept, none_points, expression_type}
-use Rattle.tac_lower.proofs.Wells.{keeps_same, keeps_then}
+use Rattle.tac_emit.proofs.Wells.{keeps_same, keeps_then}
 
 pub point_is : (c : Option CType) → is_some (target_by c) ≡ is_pointer c
 point_is (Some (types.Pointer t)) = refl

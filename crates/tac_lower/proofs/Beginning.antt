@@ -23,26 +23,26 @@ use Rattle.tac_ir.specs.Effects.{kind_of}
 use Rattle.tac_ir.specs.declared.code.TacInstr.TheVariants as instr
 use Rattle.tac_ir.specs.declared.code.TacKind.{TacKind}
 use Rattle.tac_lower.specs.declared.context.Home.TheVariants as home
-use Rattle.tac_lower.specs.declared.emitter.Emitter.{Emitter}
+use Rattle.tac_emit.specs.declared.emitter.Emitter.{Emitter}
 use Rattle.tac_lower.specs.declared.types.TypeFacts.{TypeFacts}
 use Rattle.tac_lower.specs.declared.writes.Written.TheVariants as write
 use Rattle.lower_runs.specs.Expressions.{Within, within, within_mark}
 use Rattle.lower_runs.specs.Statements.{Exits, variable, object, struct}
 use Rattle.lower_runs.specs.Trees.{HasSpot, Places, Values}
 use Rattle.tac_lower.specs.Nodes.{IsScalar, IsTyped, kind_in, or_int}
-use Rattle.tac_lower.specs.Shown.{mark, Emits, one}
+use Rattle.tac_emit.specs.Adding.{mark, Emits, one}
 use Rattle.tac_lower.specs.Tables.{FactsFit, IsSmall, type_at}
 use Rattle.tac_lower.specs.Trees.{Setting, tree, HasScalar, HasRecord, IsCopied}
 use Rattle.tac_lower.specs.Trees.{frame_in}
 use Rattle.tac_lower.specs.Trees.{Reached, ShowsValue, ShowsOperand, ShowsCopy}
 use Rattle.tac_lower.specs.Stating.{Routine, Points, IsStmt, IsWhole, Does, ShowsInit, ShowsStatement}
 use Rattle.tac_lower.proofs.Deriving.{mark_same, cover_none}
-use Rattle.tac_lower.proofs.Emitting.{added_then}
+use Rattle.tac_emit.proofs.Emitting.{added_then}
 use Rattle.tac_lower.proofs.Standing.{scalar_type}
 use Rattle.tac_lower.proofs.Stated.{Is, stmt_is, is_as}
 use Rattle.tac_lower.proofs.Tabled.{node_there, size_by}
 use Rattle.tac_lower.proofs.Typings.{expression_past}
-use Rattle.tac_lower.proofs.Wells.{keeps_then}
+use Rattle.tac_emit.proofs.Wells.{keeps_then}
 
 -- a node that is well typed is there
 no_typed : (f : Frame) → TermFits f no_term → ⊥

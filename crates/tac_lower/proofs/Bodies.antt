@@ -17,9 +17,9 @@ use Rattle.tac_ir.specs.declared.code.TacKind.{TacKind}
 use Rattle.tac_ir.specs.declared.code.TacKind.TheVariants as kinds
 use Rattle.tac_lower.specs.declared.context.Home.{Home}
 use Rattle.tac_lower.specs.declared.context.Home.TheVariants as home
-use Rattle.tac_lower.specs.declared.emitter.Emitter.{Emitter}
+use Rattle.tac_emit.specs.declared.emitter.Emitter.{Emitter}
 use Rattle.tac_lower.specs.declared.types.TypeFacts.{TypeFacts}
-use Rattle.tac_lower.specs.Emitted.{HasKind, Pushed, Entered}
+use Rattle.tac_emit.specs.Emitted.{HasKind, Pushed, Entered, Filled}
 use Rattle.tac_lower.specs.Nodes.{expression, kept_as, or_int, scalar_in, kind_in, IsScalar}
 use Rattle.tac_lower.specs.Parts.{ReturnPart}
 use Rattle.tac_lower.specs.Scenes.{HomeFits, Housed, Scene, Lowered, frame_of, given_in}
@@ -146,6 +146,12 @@ entered {p = p} {d = d} {types = types} {homes = homes} {a = a} {b = b} x n t s 
     let two = program_lowered p d types homes h.middle b one.scene (instr.Local t n)
     (pointer_at x n t one.scene.housed is, object_at x n t s.housed is) h.points in
     steps.both one two
+
+-- and a value is stored there
+pub filled : {p : Typed} {d : FunDef} {types : List TypeFacts} {homes : List Home} {a b : Emitter} (x n t : ℕ)
+    → Scene p d types homes a → slice_get homes x ≡ Some (home.Object n t) → Filled a b t n
+    → Lowered p d types homes a b 0
+filled x n t s is h = steps.grew (entered x n t s is h.entered) h.stored h.adds
 
 pub tail_entered : {T E : Type 0} {p : Typed} {d : FunDef} {types : List TypeFacts} {homes : List Home}
     {a : Emitter} (b : Emitter) (r : Result T E) (x n t : ℕ)

@@ -14,7 +14,7 @@ use Rattle.tac_ir.specs.WellFormed.{constant_fits}
 use Rattle.tac_ir.specs.declared.code.TacInstr.TheVariants as instr
 use Rattle.tac_ir.specs.declared.code.TacKind.{TacKind}
 use Rattle.tac_ir.specs.declared.code.TacKind.TheVariants as kind
-use Rattle.tac_lower.specs.declared.emitter.Emitter.{Emitter}
+use Rattle.tac_emit.specs.declared.emitter.Emitter.{Emitter}
 use Rattle.tac_lower.specs.declared.writes.Written.TheVariants as write
 use Rattle.lower_runs.specs.States.{Scene}
 use Rattle.lower_runs.specs.Operating.{Code}
@@ -26,18 +26,18 @@ use Rattle.lower_runs.specs.Expressions.{condition_opposite as condition_opposit
 use Rattle.lower_runs.specs.Expressions.{condition_both, condition_either, condition_both_around}
 use Rattle.lower_runs.specs.Expressions.{condition_either_around, condition_branch as condition_branch_rule}
 use Rattle.lower_runs.specs.Trees.{Values}
-use Rattle.tac_lower.specs.Emitted.{Keeps, HasKind, Labelled, Forked}
+use Rattle.tac_emit.specs.Emitted.{Keeps, HasKind, Labelled, Forked}
 use Rattle.tac_lower.specs.Nodes.{IsScalar, kind_in}
-use Rattle.tac_lower.specs.Shown.{mark, Added, Emits, one}
+use Rattle.tac_emit.specs.Adding.{mark, Added, Emits, one}
 use Rattle.tac_lower.specs.Trees.{Setting, tree, signatures, IsNode, HasScalar, joined}
 use Rattle.tac_lower.specs.Trees.{ShowsCondition, ShowsOperand, ShowsValue}
 use Rattle.tac_lower.proofs.Deriving.{node_tree, kind_is, node_kind, same_scalar, kept_by_fit, cover_none, value_as}
 use Rattle.tac_lower.proofs.Deriving.{mark_same, forked_mark, forked_next}
-use Rattle.tac_lower.proofs.Emitting.{added_then, kind_in_end}
+use Rattle.tac_emit.proofs.Emitting.{added_then, kind_in_end}
 use Rattle.tac_lower.proofs.Junctions.{labelled_mark}
 use Rattle.tac_lower.proofs.Keeping.{scalar_kind}
 use Rattle.tac_lower.proofs.Typings.{none_kept}
-use Rattle.tac_lower.proofs.Wells.{keeps_then}
+use Rattle.tac_emit.proofs.Wells.{keeps_then}
 
 -- a truth that is not another is its opposite
 pub opposite_of : (b when : Bool) → beq b when ≡ false → b ≡ not when

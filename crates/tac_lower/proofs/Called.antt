@@ -22,16 +22,16 @@ use Rattle.tac_ir.specs.declared.code.TacInstr.TheVariants as instr
 use Rattle.tac_ir.specs.declared.code.TacKind.{TacKind}
 use Rattle.tac_ir.specs.declared.code.TacKind.TheVariants as kind
 use Rattle.tac_lower.specs.declared.context.Home.{Home}
-use Rattle.tac_lower.specs.declared.emitter.Emitter.{Emitter}
+use Rattle.tac_emit.specs.declared.emitter.Emitter.{Emitter}
 use Rattle.tac_lower.specs.declared.types.TypeFacts.{TypeFacts}
-use Rattle.tac_lower.specs.Emitted.{HasCapability, Keeps, Pushed}
+use Rattle.tac_emit.specs.Emitted.{HasCapability, Keeps, Pushed}
 use Rattle.tac_lower.specs.Nodes.{expression, kept_as, or_int, kind_in}
 use Rattle.tac_lower.specs.Scenes.{Scene, Lowered}
 use Rattle.tac_lower.specs.Signed.{given_kind, taken_kinds, signature_as, HaveKinds, ResultFits, ServiceFits}
 use Rattle.tac_lower.specs.Signed.{ReturnFits, ProgramFits}
-use Rattle.tac_lower.proofs.Instructions.{has_of, capability_of}
+use Rattle.tac_emit.proofs.Instructions.{has_of, capability_of}
 use Rattle.tac_lower.proofs.Scening.{scene_built}
-use Rattle.tac_lower.proofs.Wells.{and_true, Lasts, pushed_built}
+use Rattle.tac_emit.proofs.Wells.{and_true, Lasts, pushed_built}
 
 -- ---- arguments
 

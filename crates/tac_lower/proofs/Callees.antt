@@ -27,7 +27,7 @@ use Rattle.tac_ir.specs.WellFormed as wf
 use Rattle.tac_ir.specs.declared.code.TacInstr.TheVariants as instr
 use Rattle.tac_ir.specs.declared.code.TacKind.{TacKind}
 use Rattle.tac_ir.specs.declared.code.TacKind.TheVariants as kind
-use Rattle.tac_lower.specs.declared.emitter.Emitter.{Emitter}
+use Rattle.tac_emit.specs.declared.emitter.Emitter.{Emitter}
 use Rattle.tac_lower.specs.declared.types.TypeFacts.{TypeFacts}
 use Rattle.tac_lower.specs.declared.writes.Written.{Written}
 use Rattle.lower_runs.specs.Operating.{Code}
@@ -37,19 +37,19 @@ use Rattle.lower_runs.specs.Trees.{AllValues, Values}
 use Rattle.tac_lower.specs.Callees.{NamesFunction}
 use Rattle.tac_lower.specs.Nodes.{kept_as, or_int, kind_in, scalar_in, expression, IsTyped, IsScalar, CallNode}
 use Rattle.tac_lower.specs.Scenes.{Ready, frame_of}
-use Rattle.tac_lower.specs.Shown.{mark, Emits, one}
+use Rattle.tac_emit.specs.Adding.{mark, Emits, one}
 use Rattle.tac_lower.specs.Signed.{given_kind, taken_kinds, signature_as}
 use Rattle.tac_lower.specs.Tables.{target_by}
 use Rattle.tac_lower.specs.Trees.{Setting, tree, signatures, signature_by, kinds_taken, IsNode}
 use Rattle.tac_lower.specs.Trees.{SparesAll, pos_in, pos_of, ShowsOperand, ShowsArguments, ShowsCall}
 use Rattle.tac_lower.proofs.Calling.{no_array}
 use Rattle.tac_lower.proofs.Deriving.{node_tree, mark_same}
-use Rattle.tac_lower.proofs.Emitting.{added_then}
+use Rattle.tac_emit.proofs.Emitting.{added_then}
 use Rattle.tac_lower.proofs.Nodes.{decays, decay_node, fun_node}
 use Rattle.tac_lower.proofs.Passing.{covers_all}
 use Rattle.tac_lower.proofs.Signatures.{pointed, signature_is}
 use Rattle.tac_lower.proofs.Typings.{type_past, expression_type, expression_past}
-use Rattle.tac_lower.proofs.Wells.{keeps_then}
+use Rattle.tac_emit.proofs.Wells.{keeps_then}
 
 -- ---- signatures, by the kinds of temps
 

@@ -26,10 +26,10 @@ use Rattle.tac_lower.specs.declared.calls.Intrinsic.{Intrinsic}
 use Rattle.tac_lower.specs.declared.calls.Intrinsic.TheVariants as intrinsics
 use Rattle.tac_lower.specs.declared.calls.Service.TheVariants as services
 use Rattle.tac_lower.specs.declared.context.Home.{Home}
-use Rattle.tac_lower.specs.declared.emitter.Emitter.{Emitter}
+use Rattle.tac_emit.specs.declared.emitter.Emitter.{Emitter}
 use Rattle.tac_lower.specs.declared.types.TypeFacts.{TypeFacts}
 use Rattle.tac_lower.specs.Copied.{copies_in, all_copies_in}
-use Rattle.tac_lower.specs.Emitted.{HasKind, HasCapability, HasRoom}
+use Rattle.tac_emit.specs.Emitted.{HasKind, HasCapability, HasRoom}
 use Rattle.tac_lower.specs.Nodes.{expression, kind_in, scalar_in, kept_as, or_int, weight_in, weights_in, IsTyped}
 use Rattle.tac_lower.specs.Scenes.{Ready, Scene, Lowered, frame_of}
 use Rattle.tac_lower.specs.Services.{ServiceAsks, IntrinsicFits}
@@ -41,7 +41,7 @@ use Rattle.tac_lower.proofs.Services.{work_fits, address_fits, bounds_fit}
 use Rattle.tac_lower.proofs.Spending.{nothing, after, within}
 use Rattle.tac_lower.proofs.Steps.{heavy}
 use Rattle.tac_lower.proofs.Signatures.{named_signature, signature_is}
-use Rattle.tac_lower.proofs.Wells.{as_int}
+use Rattle.tac_emit.proofs.Wells.{as_int}
 
 -- ---- the function that is named
 

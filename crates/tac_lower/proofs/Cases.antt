@@ -18,16 +18,16 @@ use Rattle.tac_ir.specs.declared.code.TacKind.TheVariants as kinds
 use Rattle.lower_runs.specs.Operating.{Code}
 use Rattle.lower_runs.specs.Statements.{kept_number, cases_code, otherwise, stands_before, stand_code, count_labels}
 use Rattle.lower_runs.specs.Statements.{AreAmong}
-use Rattle.tac_lower.specs.declared.emitter.Emitter.{Emitter}
+use Rattle.tac_emit.specs.declared.emitter.Emitter.{Emitter}
 use Rattle.tac_lower.specs.declared.switches.Case.{Case}
 use Rattle.tac_lower.specs.declared.switches.Cases.{Cases}
 use Rattle.tac_lower.specs.declared.switches.Switched.{Switched}
-use Rattle.tac_lower.specs.Emitted.{HasKind, Keeps, Pushed, Labelled}
-use Rattle.tac_lower.specs.Shown.{Added, Emits, none, one}
+use Rattle.tac_emit.specs.Emitted.{HasKind, Keeps, Pushed, Labelled}
+use Rattle.tac_emit.specs.Adding.{Added, Emits, none, one}
 use Rattle.tac_lower.specs.Cases.{labels_as, numbered, standing, up_to, past, here, Rise, Wait, StandSo, StandAt}
 use Rattle.tac_lower.specs.Cases.{compare_code, Compared, ShowsCases}
-use Rattle.tac_lower.proofs.Emitting.{none_emits, one_emits, emits_and, emits_then, added_then}
-use Rattle.tac_lower.proofs.Wells.{keeps_then}
+use Rattle.tac_emit.proofs.Emitting.{none_emits, one_emits, emits_and, emits_then, added_then}
+use Rattle.tac_emit.proofs.Wells.{keeps_then}
 
 -- ---- one label more
 

@@ -2,18 +2,18 @@
 use Rattle.std.proofs.Common.{ℕ, false, List, ◌∷◌, ◌++◌, ap, ◌∙◌, subst}
 use Rattle.tac_ir.specs.declared.code.TacInstr.TheVariants as instr
 use Rattle.tac_ir.specs.declared.code.TacKind.{TacKind}
-use Rattle.tac_lower.specs.declared.emitter.Emitter.{Emitter}
+use Rattle.tac_emit.specs.declared.emitter.Emitter.{Emitter}
 use Rattle.lower_runs.specs.States.{Scene}
 use Rattle.lower_runs.specs.Operating.{Code}
 use Rattle.lower_runs.specs.Expressions.{IsCondition, labelled, choice_code}
 use Rattle.lower_runs.specs.Trees.{Values}
-use Rattle.tac_lower.specs.Emitted.{Keeps, Forked}
+use Rattle.tac_emit.specs.Emitted.{Keeps, Forked}
 use Rattle.tac_lower.specs.Nodes.{IsScalar}
-use Rattle.tac_lower.specs.Shown.{mark, Added, Emits, one}
+use Rattle.tac_emit.specs.Adding.{mark, Added, Emits, one}
 use Rattle.tac_lower.specs.Trees.{Setting, tree, Suits, signatures, Shows, ShowsCondition}
 use Rattle.tac_lower.proofs.Deriving.{forked_mark, forked_next}
-use Rattle.tac_lower.proofs.Emitting.{added_then}
-use Rattle.tac_lower.proofs.Wells.{keeps_then}
+use Rattle.tac_emit.proofs.Emitting.{added_then}
+use Rattle.tac_emit.proofs.Wells.{keeps_then}
 
 -- a condition, and two ways
 pub record Chosen (s : Setting) (w : ℕ) (a c i : Emitter) (One Other : Scene → List TacKind → Code → Type 0) :

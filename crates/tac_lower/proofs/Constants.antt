@@ -11,9 +11,10 @@ use Rattle.tac_ir.specs.Effects.{kind_of}
 use Rattle.tac_ir.specs.WellFormed.{constant_fits, same_kind}
 use Rattle.tac_ir.specs.declared.code.TacKind.{TacKind}
 use Rattle.tac_ir.specs.declared.code.TacKind.TheVariants as kind
-use Rattle.tac_lower.specs.declared.emitter.Emitter.{Emitter}
-use Rattle.tac_lower.specs.Emitted.{HasKind, HasInt, IsWide, CountFits, wide_of, Grown}
-use Rattle.tac_lower.proofs.Wells.{kept, kept_int}
+use Rattle.tac_emit.specs.declared.emitter.Emitter.{Emitter}
+use Rattle.tac_emit.specs.Emitted.{HasKind, HasInt, IsWide, CountFits, Grown}
+use Rattle.tac_lower.specs.Operands.{wide_of}
+use Rattle.tac_emit.proofs.Wells.{kept, kept_int}
 
 same_as : (m n : ℕ) → m ≡ n → (m == n) ≡ true
 same_as m n e = grind (arith, nat_tests)

@@ -14,7 +14,7 @@ use Rattle.cheri_c_sem.specs.Tree.{Ex, Convert, Discard}
 use Rattle.cheri_c_sem.specs.Types.{is_void, scalar_of}
 use Rattle.tac_ir.specs.declared.code.TacInstr.TheVariants as instr
 use Rattle.tac_ir.specs.declared.code.TacKind.{TacKind}
-use Rattle.tac_lower.specs.declared.emitter.Emitter.{Emitter}
+use Rattle.tac_emit.specs.declared.emitter.Emitter.{Emitter}
 use Rattle.tac_lower.specs.declared.writes.Written.TheVariants as write
 use Rattle.lower_runs.specs.States.{Scene}
 use Rattle.lower_runs.specs.Operating.{Code}
@@ -22,14 +22,14 @@ use Rattle.lower_runs.specs.Expressions.{Mark, IsEffect, IsPlaceEffect, value_ke
 use Rattle.lower_runs.specs.Expressions.{value_converted as value_converted_rule, effect_convert, effect_discard}
 use Rattle.lower_runs.specs.Trees.{Places, Values}
 use Rattle.tac_lower.specs.Nodes.{IsScalar, kind_in, scalar_in}
-use Rattle.tac_lower.specs.Shown.{mark, Emits, one}
+use Rattle.tac_emit.specs.Adding.{mark, Emits, one}
 use Rattle.tac_lower.specs.Trees.{Setting, tree, signatures, IsNode, HasScalar}
 use Rattle.tac_lower.specs.Trees.{ShowsOperand, ShowsValue, ShowsEffect, ShowsPlaceEffect}
 use Rattle.tac_lower.proofs.Deriving.{node_tree, cover_none, value_as, mark_same}
-use Rattle.tac_lower.proofs.Emitting.{added_then}
+use Rattle.tac_emit.proofs.Emitting.{added_then}
 use Rattle.tac_lower.proofs.Keeping.{scalar_kind}
 use Rattle.tac_lower.proofs.Standing.{converts}
-use Rattle.tac_lower.proofs.Wells.{keeps_then}
+use Rattle.tac_emit.proofs.Wells.{keeps_then}
 
 pub none_is : (j : Option TacKind) → is_some j ≡ false → j ≡ None
 none_is None h = refl

@@ -31,7 +31,7 @@ use Rattle.tac_ir.specs.WellFormed.{constant_fits}
 use Rattle.tac_ir.specs.declared.code.TacInstr.TheVariants as instr
 use Rattle.tac_ir.specs.declared.code.TacKind.{TacKind}
 use Rattle.tac_ir.specs.declared.code.TacKind.TheVariants as kind
-use Rattle.tac_lower.specs.declared.emitter.Emitter.{Emitter}
+use Rattle.tac_emit.specs.declared.emitter.Emitter.{Emitter}
 use Rattle.tac_lower.specs.declared.writes.Written.{Written}
 use Rattle.tac_lower.specs.declared.writes.Written.TheVariants as write
 use Rattle.lower_runs.specs.States.{Scene}
@@ -42,20 +42,21 @@ use Rattle.lower_runs.specs.Expressions.{value_number, value_null, value_whole, 
 use Rattle.lower_runs.specs.Expressions.{value_comma as value_comma_rule}
 use Rattle.lower_runs.specs.Expressions.{IsCondition, labelled, value_choice as value_choice_rule}
 use Rattle.lower_runs.specs.Trees.{DerivesByKind, Places, Values}
-use Rattle.tac_lower.specs.Emitted.{Keeps, RightFits, Forked}
+use Rattle.tac_emit.specs.Emitted.{Keeps, Forked}
+use Rattle.tac_lower.specs.Operands.{RightFits}
 use Rattle.tac_lower.specs.Nodes.{IsScalar, kind_in, IntNode, CapabilityNode, CommaNode, CompareNode}
 use Rattle.tac_lower.specs.Nodes.{ConditionalNode}
 use Rattle.tac_lower.specs.Scenes.{frame_of}
-use Rattle.tac_lower.specs.Shown.{mark, Added, Emits, none, one}
+use Rattle.tac_emit.specs.Adding.{mark, Added, Emits, none, one}
 use Rattle.tac_lower.specs.Tables.{kept_by}
 use Rattle.tac_lower.specs.Trees.{Setting, tree, Suits, Covers, CoversAll, written_in, signatures}
 use Rattle.tac_lower.specs.Trees.{IsNode}
 use Rattle.tac_lower.specs.Trees.{ShowsInPlace, ShowsOperand, ShowsOperandIn, ShowsPair, ShowsValue, ShowsEffect}
 use Rattle.tac_lower.specs.Trees.{ShowsCondition}
-use Rattle.tac_lower.proofs.Emitting.{added_then}
+use Rattle.tac_emit.proofs.Emitting.{added_then}
 use Rattle.tac_lower.proofs.Typings.{facts_kept, none_kept}
 use Rattle.tac_lower.proofs.Keeping.{scalar_kind}
-use Rattle.tac_lower.proofs.Wells.{keeps_same, keeps_then, and_true}
+use Rattle.tac_emit.proofs.Wells.{keeps_same, keeps_then, and_true}
 
 -- ---- marks
 

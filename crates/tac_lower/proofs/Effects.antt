@@ -21,7 +21,7 @@ use Rattle.cheri_c_sem.specs.Types.{is_record, is_simple, is_pointer, objects_be
 use Rattle.cheri_c_sem.specs.Types.{offset_in}
 use Rattle.tac_ir.specs.Effects.{kind_of}
 use Rattle.tac_ir.specs.declared.code.TacKind.{TacKind}
-use Rattle.tac_lower.specs.declared.emitter.Emitter.{Emitter}
+use Rattle.tac_emit.specs.declared.emitter.Emitter.{Emitter}
 use Rattle.lower_runs.specs.States.{Scene}
 use Rattle.lower_runs.specs.Operating.{Code}
 use Rattle.lower_runs.specs.Expressions.{more, IsValue, IsEffect, IsPlaceEffect, is_still, is_still_place}
@@ -32,15 +32,15 @@ use Rattle.lower_runs.specs.Expressions.{effect_deref as deref_rule, place_effec
 use Rattle.lower_runs.specs.Expressions.{effect_member as member_rule, place_effect_member as place_member_rule}
 use Rattle.lower_runs.specs.Trees.{Places, Values}
 use Rattle.tac_lower.specs.Nodes.{IsScalar, scalar_in}
-use Rattle.tac_lower.specs.Shown.{mark, Emits, none}
+use Rattle.tac_emit.specs.Adding.{mark, Emits, none}
 use Rattle.tac_lower.specs.Trees.{Setting, tree, Suits, signatures, IsNode, IsVariable, HasScalar}
 use Rattle.tac_lower.specs.Trees.{HasRecord, IsTagged, IsWhole, Shows, ShowsValue, ShowsEffect, ShowsPlaceEffect}
 use Rattle.tac_lower.specs.Trees.{ShowsAssignment, ShowsSomeStruct, ShowsCall}
 use Rattle.tac_lower.proofs.Deriving.{node_tree, mark_more}
-use Rattle.tac_lower.proofs.Emitting.{added_then}
+use Rattle.tac_emit.proofs.Emitting.{added_then}
 use Rattle.tac_lower.proofs.Reading.{load_tree}
 use Rattle.tac_lower.proofs.Standing.{named}
-use Rattle.tac_lower.proofs.Wells.{keeps_same, keeps_then}
+use Rattle.tac_emit.proofs.Wells.{keeps_same, keeps_then}
 
 -- a constant or a name
 abbrev pub is_leaf : ExprKind → Bool

@@ -12,17 +12,17 @@ use Rattle.tac_ir.specs.WellFormed.{all_of, instruction_fits, return_by, return_
 use Rattle.tac_ir.specs.declared.code.TacInstr.{TacInstr}
 use Rattle.tac_ir.specs.declared.code.TacInstr.TheVariants as instr
 use Rattle.tac_ir.specs.declared.code.TacKind.{TacKind}
-use Rattle.tac_lower.specs.declared.emitter.Emitter.{Emitter}
+use Rattle.tac_emit.specs.declared.emitter.Emitter.{Emitter}
 use Rattle.lower_runs.specs.Functions.{end_code, HasEndTemp}
 use Rattle.lower_runs.specs.Shortened.{IsShort, same, left, AreNeedless}
-use Rattle.tac_lower.specs.Emitted.{HasKind, HasLeft, Pushed, WellListed}
+use Rattle.tac_emit.specs.Emitted.{HasKind, HasLeft, Pushed, WellListed}
 use Rattle.tac_lower.specs.Nodes.{kept_as}
 use Rattle.tac_lower.specs.Programs.{EndsWith, gives_in}
-use Rattle.tac_lower.specs.Shown.{Emits, one}
+use Rattle.tac_emit.specs.Adding.{Emits, one}
 use Rattle.tac_lower.specs.Signed.{given_kind}
 use Rattle.tac_lower.specs.Trees.{signature_by}
 use Rattle.tac_lower.proofs.Signatures.{signature_is}
-use Rattle.tac_lower.proofs.Wells.{and_both}
+use Rattle.tac_emit.proofs.Wells.{and_both}
 
 -- a value is given, or none
 pub ends_none : (a b : Emitter) → Pushed a b (instr.Return None) → EndsWith None a b

@@ -16,10 +16,10 @@ use Rattle.c_tree.specs.declared.typed.Typed.{Typed}
 use Rattle.tac_ir.specs.Costs.{cost, outgoing}
 use Rattle.tac_ir.specs.Within.{FunctionCosts, copied_parts, function_copies}
 use Rattle.tac_ir.specs.declared.code.TacFun.{TacFun}
-use Rattle.tac_lower.specs.declared.emitter.Emitter.{Emitter}
+use Rattle.tac_emit.specs.declared.emitter.Emitter.{Emitter}
 use Rattle.tac_lower.specs.Functions.{Makes}
 use Rattle.tac_lower.specs.Parts.{is_entered, entered, entered_in, all_entered_in}
-use Rattle.tac_lower.specs.Spent.{places, words, copying}
+use Rattle.tac_emit.specs.Spent.{places, words, copying}
 use Rattle.tac_lower.proofs.Calling.{places_small}
 
 pub entered_one : (d : FunDef) (x : ℕ) → length d.params ≤ x → x < length d.vars → entered d (x ∷ []) ≡ 1

@@ -9,9 +9,9 @@ use Rattle.tac_ir.specs.WellFormed.{all_of, has_label, instruction_fits, labels_
 use Rattle.tac_ir.specs.WellFormed.{return_fits, signature_of, begins_with, param_kinds, function_fits}
 use Rattle.tac_ir.specs.declared.code.TacFun.{TacFun}
 use Rattle.tac_ir.specs.declared.code.TacInstr.TheVariants as instr
-use Rattle.tac_lower.specs.declared.emitter.Emitter.{Emitter}
-use Rattle.tac_lower.specs.Emitted.{open_labels, WellListed, Follows, Ends, IsWell, Pushed}
-use Rattle.tac_lower.proofs.Wells.{and_true, or_left, keeps_same, pushed_has}
+use Rattle.tac_emit.specs.declared.emitter.Emitter.{Emitter}
+use Rattle.tac_emit.specs.Emitted.{WellListed, Follows, Ends, IsWell, Pushed, open_labels}
+use Rattle.tac_emit.proofs.Wells.{and_true, keeps_same, pushed_has, or_left}
 
 -- ---- where the code begins
 
@@ -45,7 +45,10 @@ module _ (p : Typed) (d : FunDef) (a b : Emitter) (v : Option ℕ) (closed : (l 
   ends_whole w fits =
       let ends : Ends a b.kinds.items b.code.items =
       record { keeps = keeps_same a.kinds.items b.kinds.items h.kinds; stand = all_stand } in
-      let follows : Follows a (instr.Return v ∷ []) = record { opens = λ l o. absurd (let q : false ≡ true = sym (closed l) ∙ o.is in cc); once = λ l s. refl } in
+      let follows : Follows a (instr.Return v ∷ []) = record {
+        opens = λ l o. absurd (let q : false ≡ true = sym (closed l) ∙ o.is in cc);
+        once = λ l s. refl;
+      } in
       let last : WellListed p d b.kinds.items b.code.items (instr.Return v ∷ []) = record {
         fits = and_true (return_fits p d b.kinds.items b.code.items (signature_of p d.of) v) true fits refl;
         differ = refl;

@@ -13,7 +13,7 @@ use Rattle.cheri_c_sem.specs.Types.{is_simple, objects_before, size_in}
 use Rattle.tac_ir.specs.declared.code.TacKind.{TacKind}
 use Rattle.tac_lower.specs.declared.context.Home.{Home}
 use Rattle.tac_lower.specs.declared.context.Home.TheVariants as home
-use Rattle.tac_lower.specs.declared.emitter.Emitter.{Emitter}
+use Rattle.tac_emit.specs.declared.emitter.Emitter.{Emitter}
 use Rattle.tac_lower.specs.Nodes.{kept_as, or_int}
 use Rattle.tac_lower.specs.Programs.{temp_of, IsNext, IsPlaced, AreHomes}
 use Rattle.tac_lower.specs.Scenes.{HomeFits}

@@ -27,8 +27,8 @@ use Rattle.tac_ir.specs.declared.code.TacFun.{TacFun}
 use Rattle.tac_ir.specs.declared.code.TacInstr.TheVariants as instr
 use Rattle.tac_ir.specs.declared.code.TacKind.{TacKind}
 use Rattle.tac_lower.specs.declared.context.Home.{Home}
-use Rattle.tac_lower.specs.declared.emitter.Emitter.{Emitter}
-use Rattle.tac_lower.specs.Emitted.{HasKind, HasLeft, WellListed, Keeps, IsWell, Grown, Adds, Pushed, open_labels}
+use Rattle.tac_emit.specs.declared.emitter.Emitter.{Emitter}
+use Rattle.tac_emit.specs.Emitted.{HasKind, HasLeft, WellListed, Keeps, IsWell, Grown, Adds, Pushed, open_labels}
 use Rattle.tac_lower.specs.Functions.{AreParameters, AreTypedFunctions, Makes}
 use Rattle.tac_lower.specs.Lowered.{names_of, names_in}
 use Rattle.tac_lower.specs.Nodes.{kept_as, or_int}
@@ -38,19 +38,19 @@ use Rattle.tac_lower.specs.Signed.{kept_parameter, signature_as, ReturnFits}
 use Rattle.tac_lower.specs.Statements.{IsPart}
 use Rattle.tac_lower.specs.Tables.{kept_by, given_by}
 use Rattle.tac_lower.specs.Programs.{AreHomes, IsNext}
-use Rattle.tac_lower.specs.Shown.{none, Added}
-use Rattle.tac_lower.proofs.Emitting.{added_then}
+use Rattle.tac_emit.specs.Adding.{none, Added}
+use Rattle.tac_emit.proofs.Emitting.{added_then}
 use Rattle.tac_lower.proofs.Homed.{before_is, homed_none, homed_more, home_below}
 use Rattle.tac_lower.proofs.Called.{return_lasts}
 use Rattle.tac_lower.proofs.Finished.{ends_whole, function_is}
-use Rattle.tac_lower.proofs.Labels.{closed_past}
+use Rattle.tac_emit.proofs.Labels.{closed_past}
 use Rattle.tac_lower.proofs.Leaving.{left_whole}
 use Rattle.tac_lower.proofs.Scening as scening
 use Rattle.tac_lower.proofs.Signatures.{signature_is, given, begins}
 use Rattle.tac_lower.proofs.Typings.{kept_is}
-use Rattle.tac_lower.specs.Spent.{Spent}
-use Rattle.tac_lower.proofs.Spending.{spent_same, spent_then}
-use Rattle.tac_lower.proofs.Wells.{and_true, keeps_same, keeps_then, grown_same, grown_then}
+use Rattle.tac_emit.specs.Spent.{Spent}
+use Rattle.tac_emit.proofs.Spending.{spent_same, spent_then}
+use Rattle.tac_emit.proofs.Wells.{and_true, keeps_same, keeps_then, grown_same, grown_then}
 
 -- ---- the items of a list
 

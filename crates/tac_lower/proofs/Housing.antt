@@ -10,8 +10,8 @@ use Rattle.tac_ir.specs.declared.code.TacKind.{TacKind}
 use Rattle.tac_ir.specs.declared.code.TacKind.TheVariants as kinds
 use Rattle.tac_lower.specs.declared.context.Home.{Home}
 use Rattle.tac_lower.specs.declared.context.Home.TheVariants as home
-use Rattle.tac_lower.specs.declared.emitter.Emitter.{Emitter}
-use Rattle.tac_lower.specs.Emitted.{HasKind}
+use Rattle.tac_emit.specs.declared.emitter.Emitter.{Emitter}
+use Rattle.tac_emit.specs.Emitted.{HasKind}
 use Rattle.tac_lower.specs.Nodes.{kept_as, or_int}
 use Rattle.tac_lower.specs.Scenes.{Housed}
 

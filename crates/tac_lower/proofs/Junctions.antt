@@ -11,7 +11,7 @@ use Rattle.ck_base.specs.declared.positions.Pos.{Pos}
 use Rattle.tac_ir.specs.Effects.{kind_of}
 use Rattle.tac_ir.specs.declared.code.TacInstr.TheVariants as instr
 use Rattle.tac_ir.specs.declared.code.TacKind.{TacKind}
-use Rattle.tac_lower.specs.declared.emitter.Emitter.{Emitter}
+use Rattle.tac_emit.specs.declared.emitter.Emitter.{Emitter}
 use Rattle.lower_runs.specs.States.{Scene}
 use Rattle.lower_runs.specs.Operating.{Code}
 use Rattle.lower_runs.specs.Expressions.{Mark, IsEffect, IsPlaceEffect, IsCondition, effect_both, effect_either}
@@ -19,13 +19,13 @@ use Rattle.lower_runs.specs.Expressions.{labelled, choice_code, guarded_code, ef
 use Rattle.lower_runs.specs.Expressions.{place_effect_choice as place_choice_rule, effect_comma as comma_rule}
 use Rattle.lower_runs.specs.Expressions.{place_effect_comma as place_comma_rule}
 use Rattle.lower_runs.specs.Trees.{Places, Values}
-use Rattle.tac_lower.specs.Emitted.{Keeps, Forked, Labelled}
-use Rattle.tac_lower.specs.Shown.{mark, Added, Emits, one}
+use Rattle.tac_emit.specs.Emitted.{Keeps, Forked, Labelled}
+use Rattle.tac_emit.specs.Adding.{mark, Added, Emits, one}
 use Rattle.tac_lower.specs.Trees.{Setting, tree, signatures, IsNode, HasScalar, joined}
 use Rattle.tac_lower.specs.Trees.{Shows, ShowsCondition, ShowsEffect, ShowsPlaceEffect}
 use Rattle.tac_lower.proofs.Deriving.{node_tree, kind_is, mark_same, forked_mark, forked_next}
-use Rattle.tac_lower.proofs.Emitting.{added_then}
-use Rattle.tac_lower.proofs.Wells.{keeps_then}
+use Rattle.tac_emit.proofs.Emitting.{added_then}
+use Rattle.tac_emit.proofs.Wells.{keeps_then}
 
 module _ (s : Setting) (o : Ordered s.program) (t : IsOrdered s.program) where
   -- of a tree and a mark that are equal

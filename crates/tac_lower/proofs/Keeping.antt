@@ -18,15 +18,16 @@ use Rattle.tac_ir.specs.declared.code.TacInstr.{TacInstr}
 use Rattle.tac_ir.specs.declared.code.TacKind.{TacKind}
 use Rattle.tac_ir.specs.declared.code.TacKind.TheVariants as kinds
 use Rattle.tac_lower.specs.declared.context.Home.{Home}
-use Rattle.tac_lower.specs.declared.emitter.Emitter.{Emitter}
+use Rattle.tac_emit.specs.declared.emitter.Emitter.{Emitter}
 use Rattle.tac_lower.specs.declared.operations.Change.{Change}
 use Rattle.tac_lower.specs.declared.places.Destination.{Destination}
 use Rattle.tac_lower.specs.declared.places.Target.{Target}
 use Rattle.tac_lower.specs.declared.places.Target.TheVariants as target
 use Rattle.tac_lower.specs.declared.types.TypeFacts.{TypeFacts}
 use Rattle.tac_lower.specs.Destinations.{TargetFits, DestinationFits}
-use Rattle.tac_lower.specs.Emitted.{HasKind, HasCapability, IsTemp, SameKind, SameCapability, Keeps, Pushed}
-use Rattle.tac_lower.specs.Emitted.{is_capability, RightFits, ComputedFits, ElementFits, ChangeFits}
+use Rattle.tac_emit.specs.Emitted.{HasKind, HasCapability, IsTemp, SameKind, SameCapability, Keeps, Pushed}
+use Rattle.tac_emit.specs.Emitted.{is_capability}
+use Rattle.tac_lower.specs.Operands.{RightFits, ComputedFits, ElementFits, ChangeFits}
 use Rattle.tac_lower.specs.Nodes.{IsTyped, IsScalar, NodeFits, HasOne, SumNode, UnaryNode, NotNode, expression, points}
 use Rattle.tac_lower.specs.Nodes.{kept_as, kind_in, or_int}
 use Rattle.tac_lower.specs.Scenes.{Ready, Lowered, Opened, frame_of}

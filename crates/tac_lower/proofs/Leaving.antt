@@ -20,11 +20,11 @@ use Rattle.tac_ir.specs.declared.code.TacInstr.{TacInstr}
 use Rattle.tac_ir.specs.declared.code.TacInstr.TheVariants as instr
 use Rattle.tac_ir.specs.declared.code.TacKind.{TacKind}
 use Rattle.tac_ir.specs.declared.code.TacKind.TheVariants as kind
-use Rattle.tac_lower.specs.declared.emitter.Emitter.{Emitter}
-use Rattle.tac_lower.specs.Emitted.{Keeps, open_labels, WellListed, Follows, Ends, IsWell, HasLeft}
+use Rattle.tac_emit.specs.declared.emitter.Emitter.{Emitter}
+use Rattle.tac_emit.specs.Emitted.{Keeps, WellListed, Follows, Ends, IsWell, HasLeft, open_labels}
 use Rattle.tac_lower.specs.Signed.{given_kind}
-use Rattle.tac_lower.proofs.Instructions.{same_kind_same}
-use Rattle.tac_lower.proofs.Wells.{and_true, and_both, keeps_same, keeps_then, keeps_more, get_last}
+use Rattle.tac_emit.proofs.Instructions.{same_kind_same}
+use Rattle.tac_emit.proofs.Wells.{and_true, and_both, keeps_same, keeps_then, keeps_more, get_last}
 
 -- ---- a Return less at the end
 

@@ -6,15 +6,15 @@ use Rattle.c_tree.specs.declared.typed.Typed.{Typed}
 use Rattle.tac_ir.specs.WellFormed.{has_label}
 use Rattle.tac_ir.specs.declared.code.TacInstr.TheVariants as instr
 use Rattle.tac_lower.specs.declared.context.Home.{Home}
-use Rattle.tac_lower.specs.declared.emitter.Emitter.{Emitter}
+use Rattle.tac_emit.specs.declared.emitter.Emitter.{Emitter}
 use Rattle.tac_lower.specs.declared.statements.Circle.{Circle}
 use Rattle.tac_lower.specs.declared.types.TypeFacts.{TypeFacts}
-use Rattle.tac_lower.specs.Emitted.{Stands, Built, Labelled, Turned, Pushed, Adds}
+use Rattle.tac_emit.specs.Emitted.{Stands, Built, Labelled, Turned, Pushed, Adds}
 use Rattle.tac_lower.specs.Scenes.{Scene, Lowered, Opened}
 use Rattle.tac_lower.specs.Statements.{Begun, Behind}
-use Rattle.tac_lower.proofs.Labels as labels
+use Rattle.tac_emit.proofs.Labels as labels
 use Rattle.tac_lower.proofs.Scening as scening
-use Rattle.tac_lower.proofs.Wells.{or_left, or_right, same_number, keeps_same, built, pushed_has}
+use Rattle.tac_emit.proofs.Wells.{or_left, or_right, same_number, keeps_same, pushed_has, built}
 
 -- ---- labels that stand
 

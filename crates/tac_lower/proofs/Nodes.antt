@@ -33,7 +33,7 @@ use Rattle.c_tree.proofs.Forest.{forest_reads}
 use Rattle.tac_ir.specs.declared.code.TacKind.{TacKind}
 use Rattle.tac_ir.specs.declared.code.TacKind.TheVariants as kind
 use Rattle.tac_lower.specs.Copied.{copies_in}
-use Rattle.tac_lower.specs.Emitted.{RightFits, ComputedFits}
+use Rattle.tac_lower.specs.Operands.{RightFits, ComputedFits}
 use Rattle.tac_lower.specs.Nodes.{kept_as, points, or_int, expression, IsTyped, IsScalar, HasOne, HasTwo, HasThree}
 use Rattle.tac_lower.specs.Nodes.{ConstantNode, IntNode, CapabilityNode, SameNode, NotNode, AddressNode, DerefNode}
 use Rattle.tac_lower.specs.Nodes.{SumNode, CompareNode, TruthNode, DifferenceNode, CommaNode, AssignNode, CompoundNode}
@@ -41,7 +41,7 @@ use Rattle.tac_lower.specs.Nodes.{StepNode, ConditionalNode, NameNode, VarNode, 
 use Rattle.tac_lower.specs.Nodes.{NodeFits}
 use Rattle.tac_lower.proofs.Constants.{kept_fits}
 use Rattle.tac_lower.proofs.Copying.{copied_is, copies_by}
-use Rattle.tac_lower.proofs.Wells.{and_both}
+use Rattle.tac_emit.proofs.Wells.{and_both}
 
 -- ---- one node
 

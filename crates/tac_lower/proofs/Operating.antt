@@ -25,10 +25,11 @@ use Rattle.lower_runs.specs.Operating.{computed_address, origin, derived, wide_k
 use Rattle.lower_runs.specs.Operating.{moved}
 use Rattle.lower_runs.specs.Operating.{moved_temps, difference, changed_whole, changed_capability, changed_temps}
 use Rattle.lower_runs.specs.Operating.{stepped, stepped_temps}
-use Rattle.tac_lower.specs.declared.emitter.Emitter.{Emitter}
+use Rattle.tac_emit.specs.declared.emitter.Emitter.{Emitter}
 use Rattle.tac_lower.specs.declared.operations.Pace.{Pace}
-use Rattle.tac_lower.specs.Shown.{Emits, one, none, bytes_code, bytes_temp, address_more, Paces}
-use Rattle.tac_lower.proofs.Emitting.{emits_then, emits_and, emits_count, emits_code, then_code, else_code}
+use Rattle.tac_emit.specs.Adding.{Emits, one, none}
+use Rattle.tac_lower.specs.Shown.{bytes_code, bytes_temp, address_more, Paces}
+use Rattle.tac_emit.proofs.Emitting.{emits_then, emits_and, emits_count, emits_code, then_code, else_code}
 
 -- the temp behind the next one
 behind : {a b : Emitter} {t u : ℕ} {c : Code} → t ≡ length a.kinds.items → Emits a b 1 c → u ≡ length b.kinds.items →

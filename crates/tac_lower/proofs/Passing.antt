@@ -4,17 +4,17 @@ use Rattle.std.proofs.Common.{Some, None, refl, sym, ap, ◌∙◌, subst, arith
 use Rattle.std.specs.Prelude.{drop}
 use Rattle.std.specs.Option.{option_to_list}
 use Rattle.cheri_c_sem.specs.Expressions.{arguments}
-use Rattle.tac_lower.specs.declared.emitter.Emitter.{Emitter}
+use Rattle.tac_emit.specs.declared.emitter.Emitter.{Emitter}
 use Rattle.tac_lower.specs.declared.writes.Written.{Written}
 use Rattle.lower_runs.specs.States.{Scene}
 use Rattle.lower_runs.specs.Expressions.{arguments_none, arguments_one, spares, spare}
 use Rattle.tac_lower.specs.Nodes.{IsScalar, kind_in}
-use Rattle.tac_lower.specs.Shown.{none}
+use Rattle.tac_emit.specs.Adding.{none}
 use Rattle.tac_lower.specs.Trees.{Setting, tree, Suits, CoversAll, SparesAll, AreBehind}
 use Rattle.tac_lower.specs.Trees.{ShowsOperand, ShowsArguments}
-use Rattle.tac_lower.proofs.Emitting.{added_then}
+use Rattle.tac_emit.proofs.Emitting.{added_then}
 use Rattle.tac_lower.proofs.Keeping.{scalar_kind}
-use Rattle.tac_lower.proofs.Wells.{keeps_same, keeps_then, and_true}
+use Rattle.tac_emit.proofs.Wells.{keeps_same, keeps_then, and_true}
 
 -- ---- the last of a list
 

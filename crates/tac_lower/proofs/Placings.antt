@@ -13,11 +13,11 @@ use Rattle.c_tree.specs.declared.typed.StmtKind.TheVariants as stmts
 use Rattle.c_tree.specs.declared.typed.SwitchLabel.{SwitchLabel}
 use Rattle.c_tree.specs.declared.typed.Typed.{Typed}
 use Rattle.tac_lower.specs.declared.context.Home.{Home}
-use Rattle.tac_lower.specs.declared.emitter.Emitter.{Emitter}
+use Rattle.tac_emit.specs.declared.emitter.Emitter.{Emitter}
 use Rattle.tac_lower.specs.declared.statements.Exits.{Exits}
 use Rattle.tac_lower.specs.declared.types.TypeFacts.{TypeFacts}
 use Rattle.tac_lower.specs.Copied.{part_copies, all_part_copies}
-use Rattle.tac_lower.specs.Emitted.{IsOpen}
+use Rattle.tac_emit.specs.Emitted.{IsOpen}
 use Rattle.tac_lower.specs.Nodes.{IsTyped}
 use Rattle.tac_lower.specs.Parts.{heft_in, hefts_in, PartFits, ArePlaced, EvaluatePart, InitPart, BlockPart, IfPart}
 use Rattle.tac_lower.specs.Parts.{LoopPart, ForPart, SwitchPart, ReturnPart}

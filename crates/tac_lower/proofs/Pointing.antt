@@ -23,7 +23,7 @@ use Rattle.tac_ir.specs.declared.code.TacInstr.TheVariants as instr
 use Rattle.tac_ir.specs.declared.code.TacKind.{TacKind}
 use Rattle.tac_lower.specs.declared.context.Home.{Home}
 use Rattle.tac_lower.specs.declared.context.Home.TheVariants as home
-use Rattle.tac_lower.specs.declared.emitter.Emitter.{Emitter}
+use Rattle.tac_emit.specs.declared.emitter.Emitter.{Emitter}
 use Rattle.tac_lower.specs.declared.writes.Written.{Written}
 use Rattle.lower_runs.specs.States.{Scene}
 use Rattle.lower_runs.specs.Operating.{Code, transfer}
@@ -35,21 +35,21 @@ use Rattle.lower_runs.specs.Expressions.{place_choice as place_choice_rule}
 use Rattle.lower_runs.specs.Expressions.{place_assigned, place_member, place_member_of, choice_code, pointer_deref}
 use Rattle.lower_runs.specs.Expressions.{pointer_local, pointer_aggregate, pointer_fresh}
 use Rattle.lower_runs.specs.Trees.{HasSpot, Places, Values}
-use Rattle.tac_lower.specs.Emitted.{Forked}
+use Rattle.tac_emit.specs.Emitted.{Forked}
 use Rattle.tac_lower.specs.Nodes.{expression, IsTyped, VarNode, DerefNode, AddressNode}
 use Rattle.tac_lower.specs.Scenes.{frame_of}
-use Rattle.tac_lower.specs.Shown.{mark, Emits, none, one}
+use Rattle.tac_emit.specs.Adding.{mark, Emits, none, one}
 use Rattle.tac_lower.specs.Tables.{AreSmall, IsSmall, type_at, narrowing_at}
 use Rattle.tac_lower.specs.Trees.{Setting, tree, frame_in, Suits, IsNode, IsVariable}
 use Rattle.tac_lower.specs.Trees.{HasScalar, Unplaced, ShowsBase, IsAddress, signatures, handed_on}
 use Rattle.tac_lower.specs.Trees.{ShowsOperand, ShowsValue, ShowsEffect, ShowsCondition, ShowsPointer, ShowsPlace}
 use Rattle.tac_lower.specs.Trees.{ShowsStruct}
 use Rattle.tac_lower.proofs.Deriving.{node_tree, same_scalar, value_as, kind_is, mark_more, mark_same}
-use Rattle.tac_lower.proofs.Emitting.{added_then}
+use Rattle.tac_emit.proofs.Emitting.{added_then}
 use Rattle.tac_lower.proofs.Choosing.{chosen}
 use Rattle.tac_lower.proofs.Locating.{both_records, lower, read_place}
 use Rattle.tac_lower.proofs.Standing.{named, spot_is}
-use Rattle.tac_lower.proofs.Wells.{keeps_same, keeps_then}
+use Rattle.tac_emit.proofs.Wells.{keeps_same, keeps_then}
 
 module _ (s : Setting) (o : Ordered s.program) (t : IsOrdered s.program) where
   -- of a tree and a mark that are equal

@@ -16,23 +16,23 @@ use Rattle.cheri_c_sem.specs.Types as sem_types
 use Rattle.tac_ir.specs.Effects.{kind_of}
 use Rattle.tac_ir.specs.declared.code.TacInstr.TheVariants as instr
 use Rattle.tac_ir.specs.declared.code.TacKind.{TacKind}
-use Rattle.tac_lower.specs.declared.emitter.Emitter.{Emitter}
+use Rattle.tac_emit.specs.declared.emitter.Emitter.{Emitter}
 use Rattle.tac_lower.specs.declared.writes.Written.TheVariants as write
 use Rattle.lower_runs.specs.Operating.{negated, signed, signed_temps, transfer}
 use Rattle.lower_runs.specs.Expressions.{value_sign, value_opposite, value_variable, value_load}
 use Rattle.lower_runs.specs.Trees.{Places, Values}
 use Rattle.tac_lower.specs.Nodes.{IsScalar, kind_in, or_int, SameNode, NotNode, VarNode}
 use Rattle.tac_lower.specs.Scenes.{frame_of}
-use Rattle.tac_lower.specs.Shown.{Emits, one}
+use Rattle.tac_emit.specs.Adding.{Emits, one}
 use Rattle.tac_lower.specs.Trees.{Setting, tree, IsNode, IsVariable, Signs, pos_in}
 use Rattle.tac_lower.specs.Trees.{Located}
 use Rattle.tac_lower.specs.Trees.{ShowsOperand, ShowsOperandIn, ShowsValue, ShowsPointer}
 use Rattle.tac_lower.proofs.Deriving.{node_tree, same_scalar, type_kind, kind_is, value_as, mark_more, mark_same}
 use Rattle.tac_lower.proofs.Deriving.{cover_none}
-use Rattle.tac_lower.proofs.Emitting.{added_then}
+use Rattle.tac_emit.proofs.Emitting.{added_then}
 use Rattle.tac_lower.proofs.Keeping.{scalar_kind}
 use Rattle.tac_lower.proofs.Standing.{kept_node, named, no_record}
-use Rattle.tac_lower.proofs.Wells.{keeps_then}
+use Rattle.tac_emit.proofs.Wells.{keeps_then}
 
 signs_as : (op : UnaryOp) (sign : Sign) (q : Pos) (k : Kind) (e : Ex) → Signs op sign →
     sign_of q k e op ≡ Unary q sign k e

@@ -7,14 +7,13 @@ use Rattle.tac_ir.specs.declared.code.TacInstr.TheVariants as instr
 use Rattle.tac_ir.specs.declared.code.TacKind.{TacKind}
 use Rattle.tac_lower.specs.declared.context.Home.{Home}
 use Rattle.tac_lower.specs.declared.context.Home.TheVariants as home
-use Rattle.tac_lower.specs.declared.emitter.Emitter.{Emitter}
+use Rattle.tac_emit.specs.declared.emitter.Emitter.{Emitter}
 use Rattle.tac_lower.specs.declared.types.TypeFacts.{TypeFacts}
-use Rattle.tac_lower.specs.Emitted.{HasKind, Keeps, IsWell, IsOpen, Built, Grown, Labelled, Forked, Turned, Pushed}
-use Rattle.tac_lower.specs.Emitted.{Adds}
+use Rattle.tac_emit.specs.Emitted.{HasKind, Keeps, IsWell, IsOpen, Built, Grown, Labelled, Forked, Turned, Pushed, Adds}
 use Rattle.tac_lower.specs.Scenes.{HomeFits, Housed, Scene, Lowered, Opened}
-use Rattle.tac_lower.proofs.Wells.{built, built_then, keeps_same}
-use Rattle.tac_lower.proofs.Labels.{pending_none, pending_built, pending_then, pending_more, pending_swap}
-use Rattle.tac_lower.proofs.Labels.{pending_stands, pending_open, pending_open_next}
+use Rattle.tac_emit.proofs.Wells.{built, built_then, keeps_same}
+use Rattle.tac_emit.proofs.Labels.{pending_none, pending_built, pending_then, pending_more, pending_swap}
+use Rattle.tac_emit.proofs.Labels.{pending_stands, pending_open, pending_open_next}
 
 module _ (p : Typed) (d : FunDef) (types : List TypeFacts) (homes : List Home) where
   pub home_kept : (a b : Emitter) (v : VarDef) (h : Home) → Keeps a.kinds.items b.kinds.items → HomeFits p d a v h →

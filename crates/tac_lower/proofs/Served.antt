@@ -28,7 +28,7 @@ use Rattle.tac_lower.specs.declared.calls.Intrinsic.{Intrinsic}
 use Rattle.tac_lower.specs.declared.calls.Intrinsic.TheVariants as intrinsics
 use Rattle.tac_lower.specs.declared.calls.Service.{Service}
 use Rattle.tac_lower.specs.declared.calls.Service.TheVariants as services
-use Rattle.tac_lower.specs.declared.emitter.Emitter.{Emitter}
+use Rattle.tac_emit.specs.declared.emitter.Emitter.{Emitter}
 use Rattle.lower_runs.specs.Operating.{Code}
 use Rattle.lower_runs.specs.Expressions.{Takes, served, serves, intrinsic, first_kind, IsCall}
 use Rattle.lower_runs.specs.Expressions.{call_library as library_rule}
@@ -36,14 +36,14 @@ use Rattle.lower_runs.specs.Trees.{AllValues, Values}
 use Rattle.tac_lower.specs.Callees.{service_as, intrinsic_as, HasLength}
 use Rattle.tac_lower.specs.Nodes.{kept_as, or_int, kind_in, scalar_in, expression}
 use Rattle.tac_lower.specs.Services.{ServiceAsks}
-use Rattle.tac_lower.specs.Shown.{mark, Emits, one}
+use Rattle.tac_emit.specs.Adding.{mark, Emits, one}
 use Rattle.tac_lower.specs.Signed.{HaveKinds}
 use Rattle.tac_lower.specs.Trees.{Setting, tree as tree_of, signatures, IsNode, HasScalar}
 use Rattle.tac_lower.specs.Trees.{AreScalars}
 use Rattle.tac_lower.specs.Trees.{ShowsArguments, ShowsCall}
 use Rattle.tac_lower.proofs.Deriving.{node_tree, mark_same}
-use Rattle.tac_lower.proofs.Emitting.{added_then}
-use Rattle.tac_lower.proofs.Wells.{keeps_then}
+use Rattle.tac_emit.proofs.Emitting.{added_then}
+use Rattle.tac_emit.proofs.Wells.{keeps_then}
 
 capability_kept : (t : Ty) → ty.is_capability t ≡ true → (s : Bool) × (kept_as t ≡ Some (kind.Cap s))
 capability_kept (ty.Cap s) h = (s, refl)

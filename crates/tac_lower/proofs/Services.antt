@@ -20,8 +20,8 @@ use Rattle.tac_ir.specs.declared.code.TacKind.{TacKind}
 use Rattle.tac_ir.specs.declared.code.TacKind.TheVariants as kinds
 use Rattle.tac_lower.specs.declared.calls.Intrinsic.TheVariants as intrinsics
 use Rattle.tac_lower.specs.declared.calls.Service.TheVariants as services
-use Rattle.tac_lower.specs.declared.emitter.Emitter.{Emitter}
-use Rattle.tac_lower.specs.Emitted.{HasKind, HasCapability, SameCapability, WorkFits}
+use Rattle.tac_emit.specs.declared.emitter.Emitter.{Emitter}
+use Rattle.tac_emit.specs.Emitted.{HasKind, HasCapability, SameCapability, WorkFits}
 use Rattle.tac_lower.specs.Nodes.{expression, kept_as, or_int, kind_in, scalar_in}
 use Rattle.tac_lower.specs.Services.{ServiceAsks}
 use Rattle.tac_lower.specs.Signed.{HaveKinds, ResultFits, ServiceFits}

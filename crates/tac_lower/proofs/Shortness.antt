@@ -22,10 +22,10 @@ use Rattle.tac_ir.specs.declared.code.TacKind.TheVariants as kind
 use Rattle.c_tree.specs.declared.typed.FunDef.{FunDef}
 use Rattle.tac_ir.specs.Within.{FunctionCosts}
 use Rattle.tac_ir.specs.declared.code.TacFun.{TacFun}
-use Rattle.tac_lower.specs.declared.emitter.Emitter.{Emitter}
-use Rattle.tac_lower.specs.Emitted.{Pushed, Stands}
+use Rattle.tac_emit.specs.declared.emitter.Emitter.{Emitter}
+use Rattle.tac_emit.specs.Emitted.{Pushed, Stands}
 use Rattle.tac_lower.specs.Functions.{Makes}
-use Rattle.tac_lower.proofs.Wells.{and_both, pushed_has}
+use Rattle.tac_emit.proofs.Wells.{and_both, pushed_has}
 
 -- ---- the labels of code
 

@@ -23,8 +23,8 @@ use Rattle.tac_lower.specs.Signed.{given_kind, taken_kinds, signed, signature_as
 use Rattle.tac_lower.specs.Tables.{kept_by, target_by, given_by}
 use Rattle.tac_lower.proofs.Nodes.{agree_kept}
 use Rattle.tac_lower.proofs.Typings.{kept_is, type_past}
-use Rattle.tac_lower.proofs.Instructions.{same_kind_same}
-use Rattle.tac_lower.proofs.Wells.{and_both, and_true}
+use Rattle.tac_emit.proofs.Instructions.{same_kind_same}
+use Rattle.tac_emit.proofs.Wells.{and_both, and_true}
 
 -- ---- kinds
 

@@ -14,18 +14,18 @@ use Rattle.tac_ir.specs.declared.code.TacInstr.TheVariants as instr
 use Rattle.tac_ir.specs.declared.code.TacKind.{TacKind}
 use Rattle.tac_lower.specs.declared.context.Home as places
 use Rattle.tac_lower.specs.declared.context.Home.TheVariants as home
-use Rattle.tac_lower.specs.declared.emitter.Emitter.{Emitter}
+use Rattle.tac_emit.specs.declared.emitter.Emitter.{Emitter}
 use Rattle.lower_runs.specs.Operating.{Code}
 use Rattle.lower_runs.specs.States.{Scene}
 use Rattle.lower_runs.specs.Statements.{with_spot, IsEntered, nothing, simple, whole}
-use Rattle.tac_lower.specs.Emitted.{Entered}
+use Rattle.tac_emit.specs.Emitted.{Entered}
 use Rattle.tac_lower.specs.Scenes.{Housed}
-use Rattle.tac_lower.specs.Shown.{Emits, one}
+use Rattle.tac_emit.specs.Adding.{Emits, one}
 use Rattle.tac_lower.specs.Trees.{Setting}
 use Rattle.lower_runs.specs.Trees.{IsInner}
 use Rattle.tac_lower.specs.Stating.{Routine, Points, Sited, Enters, ShowsEntered, AreInner, declared_in}
-use Rattle.tac_lower.proofs.Emitting.{added_then, one_emits}
-use Rattle.tac_lower.proofs.Wells.{keeps_same, keeps_then}
+use Rattle.tac_emit.proofs.Emitting.{added_then, one_emits}
+use Rattle.tac_emit.proofs.Wells.{keeps_same, keeps_then}
 
 -- ---- a place for an object more
 

@@ -16,7 +16,7 @@ use Rattle.c_tree.specs.declared.typed.ExprKind.TheVariants as exprs
 use Rattle.c_tree.specs.declared.typed.FunDef.{FunDef}
 use Rattle.c_tree.specs.declared.typed.Typed.{Typed}
 use Rattle.c_tree.specs.declared.typed.VarDef.{VarDef}
-use Rattle.c_facts.proofs.Sound.{well_typed}
+use Rattle.typing_laws.proofs.Sound.{well_typed}
 use Rattle.c_values.proofs.Whole.{parameters_fit}
 use Rattle.cheri_c_sem.specs.Expressions.{expr_tree}
 use Rattle.cheri_c_sem.specs.Order.{Ordered}

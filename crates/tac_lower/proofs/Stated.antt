@@ -21,7 +21,7 @@ use Rattle.cheri_c_sem.specs.Tree.{St, If, Do_while, Break, Continue, Empty, Nil
 use Rattle.tac_ir.specs.declared.code.TacInstr.TheVariants as instr
 use Rattle.tac_ir.specs.declared.code.TacKind.{TacKind}
 use Rattle.tac_ir.specs.declared.code.TacKind.TheVariants as kind
-use Rattle.tac_lower.specs.declared.emitter.Emitter.{Emitter}
+use Rattle.tac_emit.specs.declared.emitter.Emitter.{Emitter}
 use Rattle.tac_lower.specs.declared.statements.Circle.{Circle}
 use Rattle.tac_lower.specs.declared.writes.Written.TheVariants as write
 use Rattle.lower_runs.specs.States.{Scene}
@@ -32,8 +32,8 @@ use Rattle.lower_runs.specs.Statements.{choice, guarded, looped, repeated, leave
 use Rattle.lower_runs.specs.Statements.{returns_value, end, seq, empty, IsTest, tested, untested, stepped}
 use Rattle.lower_runs.specs.Statements.{unstepped, block, counted, IsEntered}
 use Rattle.lower_runs.specs.Trees.{Places, Values, ValuesIfAny, ValuesTested}
-use Rattle.tac_lower.specs.Emitted.{Keeps, Labelled, Forked, Pushed}
-use Rattle.tac_lower.specs.Shown.{mark, Added, Emits, one}
+use Rattle.tac_emit.specs.Emitted.{Keeps, Labelled, Forked, Pushed}
+use Rattle.tac_emit.specs.Adding.{mark, Added, Emits, one}
 use Rattle.tac_lower.specs.Trees.{Setting, tree, signatures, ShowsEffect, ShowsCondition}
 use Rattle.tac_lower.specs.Trees.{ShowsOperand}
 use Rattle.tac_lower.specs.Nodes.{IsScalar, kept_as, expression}
@@ -44,11 +44,11 @@ use Rattle.tac_lower.specs.Stating.{TestIs, StepIs, ShowsStatement, ShowsStateme
 use Rattle.tac_lower.specs.Stating.{ShowsLoop, ShowsJump, ShowsEntered, ShowsBlock, AreInner, declared_in}
 use Rattle.tac_lower.specs.Stating.{HasScalarIfAny}
 use Rattle.tac_lower.specs.Trees.{HasScalar}
-use Rattle.tac_lower.proofs.Emitting.{added_then, one_emits}
+use Rattle.tac_emit.proofs.Emitting.{added_then, one_emits}
 use Rattle.tac_lower.proofs.Deriving.{mark_same, forked_mark, forked_next, kind_is, cover_none}
 use Rattle.tac_lower.proofs.Bodies.{scalar_kept}
 use Rattle.tac_lower.proofs.Entering.{hefty}
-use Rattle.tac_lower.proofs.Wells.{keeps_same, keeps_then}
+use Rattle.tac_emit.proofs.Wells.{keeps_same, keeps_then}
 
 labelled_mark : {a b : Emitter} {l : ℕ} → Labelled a b l → mark b ≡ labelled 1 (mark a)
 labelled_mark {a = a} {b = b} h = let t : length b.kinds.items ≡ length a.kinds.items = ap length h.kinds in

@@ -8,11 +8,11 @@ use Rattle.c_tree.specs.declared.typed.Typed.{Typed}
 use Rattle.tac_ir.specs.declared.code.TacInstr.TheVariants as instr
 use Rattle.tac_ir.specs.declared.code.TacKind.{TacKind}
 use Rattle.tac_lower.specs.declared.context.Home.{Home}
-use Rattle.tac_lower.specs.declared.emitter.Emitter.{Emitter}
+use Rattle.tac_emit.specs.declared.emitter.Emitter.{Emitter}
 use Rattle.tac_lower.specs.declared.types.TypeFacts.{TypeFacts}
-use Rattle.tac_lower.specs.Emitted.{HasKind, IsOpen, Grown, Adds, HasRoom, Labelled, Forked, Turned, Pushed}
+use Rattle.tac_emit.specs.Emitted.{HasKind, IsOpen, Grown, Adds, HasRoom, Labelled, Forked, Turned, Pushed}
 use Rattle.tac_lower.specs.Scenes.{Scene, Lowered, Opened}
-use Rattle.tac_lower.proofs.Labels as labels
+use Rattle.tac_emit.proofs.Labels as labels
 use Rattle.tac_lower.proofs.Scening as scening
 
 pub start : {p : Typed} {d : FunDef} {types : List TypeFacts} {homes : List Home} {a : Emitter} →

@@ -20,7 +20,7 @@ use Rattle.cheri_c_sem.specs.Tree.{Ex, Nil, Cons, Comma, Conditional, Copy, Assi
 use Rattle.cheri_c_sem.specs.Types.{is_record, is_simple, objects_before, size_in, align_in, unit_of}
 use Rattle.tac_ir.specs.Effects.{kind_of}
 use Rattle.tac_ir.specs.declared.code.TacInstr.TheVariants as instr
-use Rattle.tac_lower.specs.declared.emitter.Emitter.{Emitter}
+use Rattle.tac_emit.specs.declared.emitter.Emitter.{Emitter}
 use Rattle.tac_lower.specs.declared.places.Destination.{Destination}
 use Rattle.tac_lower.specs.declared.types.TypeFacts.{TypeFacts}
 use Rattle.tac_lower.specs.declared.writes.Written.{Written}
@@ -31,22 +31,22 @@ use Rattle.lower_runs.specs.Expressions.{target_code}
 use Rattle.lower_runs.specs.Expressions.{target_temp, copy_choice, copy_comma as copy_comma_rule}
 use Rattle.lower_runs.specs.Expressions.{copy_aggregate, copy_plain as copy_plain_rule, struct_copy}
 use Rattle.lower_runs.specs.Trees.{Places, Values}
-use Rattle.tac_lower.specs.Emitted.{Forked}
+use Rattle.tac_emit.specs.Emitted.{Forked}
 use Rattle.tac_lower.specs.Nodes.{expression, IsTyped, AssignNode, ConditionalNode}
 use Rattle.tac_lower.specs.Scenes.{frame_of}
-use Rattle.tac_lower.specs.Shown.{mark, Added, Emits, one}
+use Rattle.tac_emit.specs.Adding.{mark, Added, Emits, one}
 use Rattle.tac_lower.specs.Tables.{FactsFit, record_size, type_at}
 use Rattle.tac_lower.specs.Trees.{Setting, tree, frame_in, IsNode, IsCopied, HasRecord, IsPlain}
 use Rattle.tac_lower.specs.Trees.{CoversAll, StandsAt, Reached, chooses, target_as, signatures, written_in}
 use Rattle.tac_lower.specs.Trees.{ShowsEffect, ShowsCondition, ShowsPointer, ShowsCopy, ShowsStruct}
 use Rattle.tac_lower.proofs.Choosing.{chosen}
 use Rattle.tac_lower.proofs.Deriving.{node_tree, kind_is, mark_same, cover_none, cover_one}
-use Rattle.tac_lower.proofs.Emitting.{added_then}
+use Rattle.tac_emit.proofs.Emitting.{added_then}
 use Rattle.tac_lower.proofs.Locating.{alike, both_copied, both_records, lower, read_place}
 use Rattle.tac_lower.proofs.Nodes.{expression_by, assign_node}
 use Rattle.tac_lower.proofs.Tabled.{size_is, align_is}
 use Rattle.tac_lower.proofs.Unplaced.{never_place, none_place}
-use Rattle.tac_lower.proofs.Wells.{keeps_then}
+use Rattle.tac_emit.proofs.Wells.{keeps_then}
 
 -- the bytes of a struct or union, by its facts
 record_bytes : (f : TypeFacts) → f.«record» ≡ true → record_size f ≡ f.size

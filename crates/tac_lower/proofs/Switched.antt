@@ -23,7 +23,7 @@ use Rattle.tac_ir.specs.declared.code.TacKind.{TacKind}
 use Rattle.tac_ir.specs.declared.code.TacKind.TheVariants as kind
 use Rattle.tac_lower.specs.declared.context.Home as places
 use Rattle.tac_lower.specs.declared.context.Home.TheVariants as home
-use Rattle.tac_lower.specs.declared.emitter.Emitter.{Emitter}
+use Rattle.tac_emit.specs.declared.emitter.Emitter.{Emitter}
 use Rattle.tac_lower.specs.declared.switches.Case.{Case}
 use Rattle.tac_lower.specs.declared.switches.Cases.{Cases}
 use Rattle.tac_lower.specs.declared.writes.Written.TheVariants as write
@@ -35,9 +35,9 @@ use Rattle.lower_runs.specs.Statements.{Exits, in_switch, IsEntered, nothing, si
 use Rattle.lower_runs.specs.Statements.{cases_code, otherwise, stand_code, count_labels, IsOnce, AreAmong}
 use Rattle.lower_runs.specs.Statements.{count_statements, IsStatement, IsBody, behind, among, switched}
 use Rattle.lower_runs.specs.Trees.{AreOthers, Values, held_by}
-use Rattle.tac_lower.specs.Emitted.{Keeps, Labelled, Pushed}
+use Rattle.tac_emit.specs.Emitted.{Keeps, Labelled, Pushed}
 use Rattle.tac_lower.specs.Scenes.{Housed, frame_of}
-use Rattle.tac_lower.specs.Shown.{mark, Added, Emits}
+use Rattle.tac_emit.specs.Adding.{mark, Added, Emits}
 use Rattle.tac_lower.specs.Trees.{Setting, tree, HasScalar, signatures, ShowsOperand}
 use Rattle.tac_lower.specs.Cases.{labels_as, standing, up_to, Wait, StandAt, Compares, ShowsCases, ShowsAmong}
 use Rattle.tac_lower.specs.Cases.{ShowsSwitch}
@@ -46,10 +46,10 @@ use Rattle.tac_lower.specs.Stating.{AreInner, ShowsStatement, ShowsEntered, decl
 use Rattle.tac_lower.proofs.Bodies.{temp_at, pointer_at}
 use Rattle.tac_lower.proofs.Cases.{stood_here, stood_behind, wait_past}
 use Rattle.tac_lower.proofs.Deriving.{mark_same, kind_is, cover_none}
-use Rattle.tac_lower.proofs.Emitting.{added_then, one_emits, kind_in_end}
+use Rattle.tac_emit.proofs.Emitting.{added_then, one_emits, kind_in_end}
 use Rattle.tac_lower.proofs.Sites.{no_home}
 use Rattle.tac_lower.proofs.Stated.{stmt_is, is_as, all_both}
-use Rattle.tac_lower.proofs.Wells.{keeps_same, keeps_then}
+use Rattle.tac_emit.proofs.Wells.{keeps_same, keeps_then}
 
 -- ---- the temp of the value is none of the block's
 

@@ -12,16 +12,16 @@ use Rattle.ck_int.specs.declared.kinds.IntKind.TheVariants as int
 use Rattle.tac_ir.specs.declared.code.TacInstr.TheVariants as instr
 use Rattle.tac_ir.specs.declared.code.TacKind.TheVariants as kinds
 use Rattle.tac_lower.specs.declared.context.Home.{Home}
-use Rattle.tac_lower.specs.declared.emitter.Emitter.{Emitter}
+use Rattle.tac_emit.specs.declared.emitter.Emitter.{Emitter}
 use Rattle.tac_lower.specs.declared.switches.Case.{Case}
 use Rattle.tac_lower.specs.declared.switches.Switched.{Switched}
 use Rattle.tac_lower.specs.declared.types.TypeFacts.{TypeFacts}
-use Rattle.tac_lower.specs.Emitted.{Keeps, IsOpen, Grown, Labelled, Pushed, Adds, open_labels, with_open, AreNew}
+use Rattle.tac_emit.specs.Emitted.{Keeps, IsOpen, Grown, Labelled, Pushed, Adds, with_open, AreNew, open_labels}
 use Rattle.tac_lower.specs.Scenes.{Scene, Opened}
 use Rattle.tac_lower.specs.Statements.{labels_of, IsSwitched, StandUpTo}
-use Rattle.tac_lower.proofs.Labels as labels
+use Rattle.tac_emit.proofs.Labels as labels
 use Rattle.tac_lower.proofs.Scening as scening
-use Rattle.tac_lower.proofs.Wells.{or_left, or_right, same_number, extensional, keeps_then}
+use Rattle.tac_emit.proofs.Wells.{or_left, or_right, same_number, extensional, keeps_then}
 
 -- ---- how often a label is among some
 

@@ -4,11 +4,13 @@ use Rattle.std.proofs.Common.{length, Option, Some, None, refl, sym, ap, subst, 
 use Rattle.std.proofs.Common.{◌-◌, get_or, drop-cons, add-one}
 use Rattle.std.proofs.Math.ListN.{drop_of_length-le}
 use Rattle.std.specs.Prelude.{not, slice_get, unwrap_or, nat_le, if◌then◌else◌}
-use Rattle.std.proofs.lemmas.Bool.{le-leb, leb-true, and_parts, and_from, eq-eqb}
+use Rattle.std.proofs.lemmas.Bool.{leb-true, and_parts, and_from, eq-eqb}
 use Rattle.std.proofs.lemmas.Option.{slice_get_past}
-use Rattle.c_tree.specs.Counts.{parts, copied, is_record, size_of}
+use Rattle.c_tree.specs.Counts.{parts, copied, is_record}
 use Rattle.c_tree.specs.Layout.{Extent, bare, extent, extent_of, extent_within, size_limit, with_extent, no_members}
 use Rattle.c_tree.specs.Layout.{behind, member_align, member_offset, struct_offset, union_offset, offset_of_member}
+use Rattle.c_tree.specs.Layout.{size_of}
+use Rattle.c_tree.proofs.Sizes.{fitting_same}
 use Rattle.c_tree.specs.declared.typed.Member.{Member}
 use Rattle.c_tree.specs.declared.typed.CType.{CType}
 use Rattle.c_tree.specs.declared.typed.CType.TheVariants as types
@@ -114,11 +116,8 @@ record_same (Some (types.Union tag ms)) = refl
 record_same None = refl
 record_same (Some c) = refl
 
-within_limit : (x : Extent) → x.size ≤ size_limit → size_of (Some x) ≡ x.size
-within_limit x h = rw (le-leb x.size size_limit h) refl
-
 size_laid : (b : Bool) (o : Option Extent) (f : TypeFacts) → LaidOut b o f → size_of o ≡ f.size
-size_laid true o f h = ap size_of h.is ∙ within_limit (record { size = f.size; align = f.align }) h.size
+size_laid true o f h = ap size_of h.is ∙ fitting_same f.size h.size
 size_laid false None f h = sym h.0
 size_laid false (Some x) f h = by (nat_le x.size size_limit) refl
   where

@@ -8,10 +8,10 @@ use Rattle.ck_base.specs.declared.positions.Pos.{Pos}
 use Rattle.tac_ir.specs.declared.code.TacInstr.{TacInstr}
 use Rattle.tac_ir.specs.declared.code.TacKind.{TacKind}
 use Rattle.tac_lower.specs.declared.context.Home as places
-use Rattle.tac_lower.specs.declared.emitter.Emitter.{Emitter}
+use Rattle.tac_emit.specs.declared.emitter.Emitter.{Emitter}
 use Rattle.tac_lower.specs.Programs.{taken_code, taking}
-use Rattle.tac_lower.specs.Shown.{Emits}
-use Rattle.tac_lower.proofs.Emitting.{emits_and, emits_code}
+use Rattle.tac_emit.specs.Adding.{Emits}
+use Rattle.tac_emit.proofs.Emitting.{emits_and, emits_code}
 
 -- ---- the code
 

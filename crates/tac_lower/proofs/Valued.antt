@@ -8,12 +8,12 @@ use Rattle.cheri_c_sem.specs.Expressions.{kind_tree}
 use Rattle.cheri_c_sem.specs.Tree.{Variable, Local}
 use Rattle.cheri_c_sem.specs.Types.{is_simple, objects_before}
 use Rattle.tac_ir.specs.declared.code.TacKind.{TacKind}
-use Rattle.tac_lower.specs.declared.emitter.Emitter.{Emitter}
+use Rattle.tac_emit.specs.declared.emitter.Emitter.{Emitter}
 use Rattle.lower_runs.specs.States.{Scene}
 use Rattle.lower_runs.specs.Expressions.{IsCall, value_assignment, value_call}
 use Rattle.lower_runs.specs.Trees.{Values}
 use Rattle.tac_lower.specs.Nodes.{IsScalar}
-use Rattle.tac_lower.specs.Shown.{mark}
+use Rattle.tac_emit.specs.Adding.{mark}
 use Rattle.tac_lower.specs.Trees.{Setting, tree, signatures, ShowsValue, ShowsAssignment, ShowsCall}
 
 -- a place of its own

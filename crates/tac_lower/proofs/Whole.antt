@@ -28,7 +28,7 @@ use Rattle.tac_ir.specs.declared.code.TacKind.{TacKind}
 use Rattle.tac_ir.specs.declared.code.TacKind.TheVariants as kinds
 use Rattle.tac_lower.specs.declared.context.Home as places
 use Rattle.tac_lower.specs.declared.context.Home.TheVariants as home
-use Rattle.tac_lower.specs.declared.emitter.Emitter.{Emitter}
+use Rattle.tac_emit.specs.declared.emitter.Emitter.{Emitter}
 use Rattle.tac_lower.specs.declared.writes.Written.{Written}
 use Rattle.lower_runs.specs.Expressions.{Signature}
 use Rattle.lower_runs.specs.Functions.{end_code, HasEndTemp, IsEnd, IsStart, AreTaken, IsFunction}
@@ -37,13 +37,13 @@ use Rattle.lower_runs.specs.Shortened.{IsShort}
 use Rattle.lower_runs.specs.States.{Home, Scene}
 use Rattle.lower_runs.specs.Statements.{Exits, IsStatement}
 use Rattle.lower_runs.specs.Trees.{HasSpot}
-use Rattle.tac_lower.specs.Emitted.{Keeps}
+use Rattle.tac_emit.specs.Emitted.{Keeps}
 use Rattle.tac_lower.specs.Functions.{Makes}
 use Rattle.tac_lower.specs.Nodes.{kept_as}
 use Rattle.tac_lower.specs.Programs.{AreHomes, EndsWith, HasParameters, Stands, Standing, gives_in, taking}
 use Rattle.tac_lower.specs.Scenes.{Housed, given_in}
-use Rattle.tac_lower.specs.Shown as shown
-use Rattle.tac_lower.specs.Shown.{Added, Emits, mark}
+use Rattle.tac_emit.specs.Adding as adding
+use Rattle.tac_emit.specs.Adding.{Added, Emits, mark}
 use Rattle.tac_lower.specs.Signed.{kept_parameter}
 use Rattle.tac_lower.specs.Stating.{Routine, Leads, Sited, ShowsStatement}
 use Rattle.tac_lower.specs.Tables.{kept_by, given_by}
@@ -314,7 +314,7 @@ module _ (p : Typed) (d : FunDef) (n : ℕ) (fits : FunctionFits p d) (o : IsOrd
     }
 
 -- no code so far
-pub code_none : {a b c : Emitter} → Added a b shown.none → Added b c shown.none → a.code.items ≡ [] → c.code.items ≡ []
+pub code_none : {a b c : Emitter} → Added a b adding.none → Added b c adding.none → a.code.items ≡ [] → c.code.items ≡ []
 code_none {a = a} {b = b} {c = c} f g e =
     sym (append-nil c.code.items) ∙ g.is [] ∙ f.is [] ∙ append-nil a.code.items ∙ e
 

@@ -27,7 +27,7 @@ use Rattle.tac_lower.specs.declared.writes.Written.{Written}
 use Rattle.tac_lower.specs.declared.writes.Written.TheVariants.{Nothing, One, Any}
 use Rattle.tac_lower.specs.Trees.{spares_of, written_in, Covers, AreCovered, SparesAll, AreBehind}
 use Rattle.tac_lower.specs.Writing.{both, written_on, target_in, target_by, kind_target, writes_by}
-use Rattle.tac_lower.proofs.Wells.{and_true}
+use Rattle.tac_emit.proofs.Wells.{and_true}
 
 -- ---- what is spared by both
 

@@ -21,10 +21,11 @@ use Rattle.tac_ir.specs.declared.code.TacInstr.{TacInstr}
 use Rattle.tac_ir.specs.declared.code.TacInstr.TheVariants as instr
 use Rattle.tac_lower.specs.declared.context.Home.{Home}
 use Rattle.tac_lower.specs.declared.context.Home.TheVariants as home
-use Rattle.tac_lower.specs.declared.emitter.Emitter.{Emitter}
+use Rattle.tac_emit.specs.declared.emitter.Emitter.{Emitter}
 use Rattle.tac_lower.specs.Functions.{Makes}
-use Rattle.tac_lower.specs.Spent.{zeroing, lone}
-use Rattle.tac_lower.specs.Zeroed.{zeroed_by, is_other, is_lone, lone_behind, is_object, is_taken, taken, is_zeroed}
+use Rattle.tac_emit.specs.Spent.{zeroing, lone}
+use Rattle.tac_emit.specs.Lone.{zeroed_by, is_other, is_lone, lone_behind}
+use Rattle.tac_lower.specs.Zeroed.{is_object, is_taken, taken, is_zeroed}
 use Rattle.tac_lower.specs.Zeroed.{zeroed}
 use Rattle.tac_lower.specs.Zeroed.{zeroed_in, all_zeroed_in, ZeroesOnce}
 

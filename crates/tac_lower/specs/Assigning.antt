@@ -13,7 +13,7 @@ use Rattle.tac_ir.specs.declared.code.Amount.TheVariants as amount
 use Rattle.tac_ir.specs.declared.code.TacInstr.TheVariants as instr
 use Rattle.tac_ir.specs.declared.code.TacKind.{TacKind}
 use Rattle.tac_ir.specs.declared.code.TacKind.TheVariants as kinds
-use Rattle.tac_lower.specs.declared.emitter.Emitter.{Emitter}
+use Rattle.tac_emit.specs.declared.emitter.Emitter.{Emitter}
 use Rattle.tac_lower.specs.declared.operations.Change.{Change}
 use Rattle.tac_lower.specs.declared.operations.Held.{Held}
 use Rattle.tac_lower.specs.declared.operations.Pace.{Pace}
@@ -21,9 +21,10 @@ use Rattle.lower_runs.specs.States.{Scene}
 use Rattle.lower_runs.specs.Operating.{Code, stride, stepped, stepped_temps}
 use Rattle.lower_runs.specs.Expressions.{Mark, IsConstant, IsOwn, IsOperand, IsValue, IsStep}
 use Rattle.lower_runs.specs.Trees.{Values}
-use Rattle.tac_lower.specs.Emitted.{Keeps}
+use Rattle.tac_emit.specs.Emitted.{Keeps}
 use Rattle.tac_lower.specs.Nodes.{kept_as, or_int, points, IsScalar}
-use Rattle.tac_lower.specs.Shown.{mark, Added, Emits, none, one, Paces}
+use Rattle.tac_emit.specs.Adding.{mark, Added, Emits, none, one}
+use Rattle.tac_lower.specs.Shown.{Paces}
 use Rattle.tac_lower.specs.Tables.{is_some, IsPointed}
 use Rattle.tac_lower.specs.Trees.{Setting, tree, signatures, Suits, Shows, ShowsOperandIn}
 

@@ -15,13 +15,13 @@ use Rattle.lower_runs.specs.Operating.{Code}
 use Rattle.lower_runs.specs.States.{Scene}
 use Rattle.lower_runs.specs.Statements.{Exits, in_switch, kept_number, cases_code, otherwise, stands_before}
 use Rattle.lower_runs.specs.Statements.{count_labels, IsBody}
-use Rattle.tac_lower.specs.declared.emitter.Emitter.{Emitter}
+use Rattle.tac_emit.specs.declared.emitter.Emitter.{Emitter}
 use Rattle.tac_lower.specs.declared.switches.Case.{Case}
 use Rattle.tac_lower.specs.declared.switches.Cases.{Cases}
 use Rattle.tac_lower.specs.declared.switches.Switched.{Switched}
 use Rattle.tac_lower.specs.declared.writes.Written.TheVariants as write
-use Rattle.tac_lower.specs.Emitted.{HasKind, Keeps, Labelled}
-use Rattle.tac_lower.specs.Shown.{Added, Emits, mark}
+use Rattle.tac_emit.specs.Emitted.{HasKind, Keeps, Labelled}
+use Rattle.tac_emit.specs.Adding.{Added, Emits, mark}
 use Rattle.tac_lower.specs.Trees.{ShowsOperand, signatures}
 use Rattle.tac_lower.specs.Stating.{Routine, stmt, Sited, DoAll, Leads, ShowsEntered}
 

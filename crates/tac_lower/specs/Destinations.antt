@@ -2,11 +2,11 @@
 use Rattle.std.specs.Prelude.{◌≡◌, true, false}
 use Rattle.tac_ir.specs.WellFormed.{units_fit}
 use Rattle.tac_ir.specs.declared.code.TacKind.TheVariants as kinds
-use Rattle.tac_lower.specs.declared.emitter.Emitter.{Emitter}
+use Rattle.tac_emit.specs.declared.emitter.Emitter.{Emitter}
 use Rattle.tac_lower.specs.declared.places.Destination.{Destination}
 use Rattle.tac_lower.specs.declared.places.Target.{Target}
 use Rattle.tac_lower.specs.declared.places.Target.TheVariants as target
-use Rattle.tac_lower.specs.Emitted.{HasKind}
+use Rattle.tac_emit.specs.Emitted.{HasKind}
 
 -- the pointer is in a temp
 abbrev pub TargetFits : Emitter → Target → Type 0

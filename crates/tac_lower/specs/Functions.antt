@@ -4,8 +4,8 @@ use Rattle.c_tree.specs.WellTyped.{FunctionFits}
 use Rattle.c_tree.specs.declared.typed.FunDef.{FunDef}
 use Rattle.c_tree.specs.declared.typed.Typed.{Typed}
 use Rattle.tac_ir.specs.declared.code.TacFun.{TacFun}
-use Rattle.tac_lower.specs.declared.emitter.Emitter.{Emitter}
-use Rattle.tac_lower.specs.Emitted.{HasKind}
+use Rattle.tac_emit.specs.declared.emitter.Emitter.{Emitter}
+use Rattle.tac_emit.specs.Emitted.{HasKind}
 use Rattle.tac_lower.specs.Signed.{kept_parameter}
 
 -- each function of a program is well typed

@@ -27,7 +27,7 @@ use Rattle.tac_ir.specs.WellFormed.{constant_fits}
 use Rattle.tac_ir.specs.declared.code.TacKind.{TacKind}
 use Rattle.tac_ir.specs.declared.code.TacKind.TheVariants as kinds
 use Rattle.tac_lower.specs.Copied.{copied_in, copies_in, all_copies_in}
-use Rattle.tac_lower.specs.Emitted.{RightFits, ComputedFits}
+use Rattle.tac_lower.specs.Operands.{RightFits, ComputedFits}
 
 -- how the scalars of a type are kept
 abbrev pub kept_as : Ty → Option TacKind

@@ -18,7 +18,7 @@ use Rattle.tac_ir.specs.declared.code.TacKind.{TacKind}
 use Rattle.tac_ir.specs.declared.code.TacKind.TheVariants as kinds
 use Rattle.tac_lower.specs.declared.context.Home.{Home}
 use Rattle.tac_lower.specs.declared.context.Home.TheVariants as home
-use Rattle.tac_lower.specs.declared.emitter.Emitter.{Emitter}
+use Rattle.tac_emit.specs.declared.emitter.Emitter.{Emitter}
 use Rattle.cheri_c_sem.specs.Expressions.{expr_tree}
 use Rattle.c_tree.specs.declared.typed.StmtKind.TheVariants as stmts
 use Rattle.lower_runs.specs.Expressions.{Signature, position_in}

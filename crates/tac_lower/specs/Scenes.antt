@@ -13,9 +13,9 @@ use Rattle.cheri_c_sem.specs.Programs.{lengths_of}
 use Rattle.tac_ir.specs.declared.code.TacKind.TheVariants as kinds
 use Rattle.tac_lower.specs.declared.context.Home.{Home}
 use Rattle.tac_lower.specs.declared.context.Home.TheVariants as home
-use Rattle.tac_lower.specs.declared.emitter.Emitter.{Emitter}
+use Rattle.tac_emit.specs.declared.emitter.Emitter.{Emitter}
 use Rattle.tac_lower.specs.declared.types.TypeFacts.{TypeFacts}
-use Rattle.tac_lower.specs.Emitted.{HasKind, IsWell, Built, Pending, Adds}
+use Rattle.tac_emit.specs.Emitted.{HasKind, IsWell, Built, Pending, Adds}
 use Rattle.tac_lower.specs.Nodes.{kept_as, or_int}
 use Rattle.tac_lower.specs.Tables.{TableFits}
 

@@ -11,8 +11,8 @@ use Rattle.tac_lower.specs.declared.calls.Intrinsic.{Intrinsic}
 use Rattle.tac_lower.specs.declared.calls.Intrinsic.TheVariants as intrinsics
 use Rattle.tac_lower.specs.declared.calls.Service.{Service}
 use Rattle.tac_lower.specs.declared.calls.Service.TheVariants as services
-use Rattle.tac_lower.specs.declared.emitter.Emitter.{Emitter}
-use Rattle.tac_lower.specs.Emitted.{HasKind, HasInt, SameCapability, WorkFits}
+use Rattle.tac_emit.specs.declared.emitter.Emitter.{Emitter}
+use Rattle.tac_emit.specs.Emitted.{HasKind, HasInt, SameCapability, WorkFits}
 
 -- it asks for these arguments, and gives this
 abbrev pub ServiceAsks : Service → List Asked → Given → Type 0

@@ -1,6 +1,5 @@
--- What the lowering shows of the code that it adds: which instructions they are, and how many temps and labels they
--- take.
-use Rattle.std.specs.Prelude.{◌≡◌, ℕ, ◌+◌, ◌++◌, ◌==◌, not, true, false, List, [], ◌∷◌, length, Option, Some}
+-- The code of operations on values in temps.
+use Rattle.std.specs.Prelude.{◌≡◌, ℕ, ◌==◌, not, true, false, ◌∷◌, Option, Some}
 use Rattle.std.specs.Prelude.{None}
 use Rattle.std.specs.Prelude.{if◌then◌else◌}
 use Rattle.ck_int.specs.declared.kinds.IntOp.{IntOp}
@@ -8,43 +7,16 @@ use Rattle.ck_int.specs.declared.kinds.IntOp.TheVariants.{Add, Sub}
 use Rattle.cheri_c_sem.specs.Tree as tree
 use Rattle.cheri_c_sem.specs.Tree.{Operation, Whole, Derived, Moved}
 use Rattle.cheri_c_sem.specs.Types.{takes_away}
-use Rattle.tac_ir.specs.declared.code.TacInstr.{TacInstr}
 use Rattle.tac_ir.specs.declared.code.TacInstr.TheVariants as instr
 use Rattle.tac_ir.specs.declared.code.TacKind.{TacKind}
 use Rattle.tac_ir.specs.declared.code.TacKind.TheVariants as kind
-use Rattle.tac_lower.specs.declared.emitter.Emitter.{Emitter}
 use Rattle.tac_lower.specs.declared.operations.Change.{Change}
 use Rattle.tac_lower.specs.declared.operations.Pace.{Pace}
 use Rattle.tac_lower.specs.declared.operations.Sign.{Sign}
 use Rattle.tac_lower.specs.declared.operations.Sign.TheVariants as signs
-use Rattle.tac_lower.specs.Emitted.{Keeps}
-use Rattle.lower_runs.specs.Operating.{Code, AreInts, is_capability, word, scaled, scaled_temp, keeps_count}
-use Rattle.lower_runs.specs.Expressions.{Mark}
-
--- how many temps and labels a function has so far
-abbrev pub mark : Emitter → Mark
-mark e = record { temps = length e.kinds.items; labels = e.labels }
-
--- in front of whatever follows, this code is added
-pub record Added (old new : Emitter) (code : Code) : Type 0 where
-  pub is : (rest : List TacInstr) → new.code.items ++ rest ≡ old.code.items ++ code rest
+use Rattle.lower_runs.specs.Operating.{Code, is_capability, word, scaled, scaled_temp, keeps_count}
 
 -- ---- operations
-
--- The code of an operation is added, with so many temps and no label; whatever temps are made later, the right operands
--- of its operations on integers have integer kinds
-pub record Emits (old new : Emitter) (n : ℕ) (code : Code) : Type 0 where
-  pub added : Added old new code
-  pub temps : length new.kinds.items ≡ length old.kinds.items + n
-  pub labels : new.labels ≡ old.labels
-  pub keeps : Keeps old.kinds.items new.kinds.items
-  pub ints : (kinds : List TacKind) → Keeps new.kinds.items kinds → AreInts kinds (code [])
-
-abbrev pub none : Code
-none rest = rest
-
-abbrev pub one : TacInstr → Code
-one i rest = i ∷ rest
 
 -- an integer of a value: a capability is converted
 abbrev pub count_code : TacKind → (y n : ℕ) → Code

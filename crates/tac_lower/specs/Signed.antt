@@ -15,8 +15,8 @@ use Rattle.tac_ir.specs.declared.code.TacInstr.{TacInstr}
 use Rattle.tac_ir.specs.declared.code.TacInstr.TheVariants as instr
 use Rattle.tac_ir.specs.declared.code.TacKind.{TacKind}
 use Rattle.tac_ir.specs.declared.code.TacKind.TheVariants as kind
-use Rattle.tac_lower.specs.declared.emitter.Emitter.{Emitter}
-use Rattle.tac_lower.specs.Emitted.{HasKind}
+use Rattle.tac_emit.specs.declared.emitter.Emitter.{Emitter}
+use Rattle.tac_emit.specs.Emitted.{HasKind}
 use Rattle.tac_lower.specs.Nodes.{kept_as, or_int}
 
 abbrev pub given_kind : Option TacKind → Option Kind

@@ -7,14 +7,14 @@ use Rattle.c_tree.specs.declared.typed.Typed.{Typed}
 use Rattle.tac_ir.specs.declared.code.TacInstr.TheVariants as instr
 use Rattle.tac_ir.specs.declared.code.TacKind.TheVariants as kinds
 use Rattle.tac_lower.specs.declared.context.Home.{Home}
-use Rattle.tac_lower.specs.declared.emitter.Emitter.{Emitter}
+use Rattle.tac_emit.specs.declared.emitter.Emitter.{Emitter}
 use Rattle.tac_lower.specs.declared.statements.Circle.{Circle}
 use Rattle.tac_lower.specs.declared.statements.Exits.{Exits}
 use Rattle.tac_lower.specs.declared.switches.Case.{Case}
 use Rattle.tac_lower.specs.declared.switches.Cases.{Cases}
 use Rattle.tac_lower.specs.declared.switches.Switched.{Switched}
 use Rattle.tac_lower.specs.declared.types.TypeFacts.{TypeFacts}
-use Rattle.tac_lower.specs.Emitted.{HasKind, IsOpen, Labelled, Forked, Pushed}
+use Rattle.tac_emit.specs.Emitted.{HasKind, IsOpen, Labelled, Forked, Pushed}
 use Rattle.tac_lower.specs.Nodes.{IsTyped}
 use Rattle.tac_lower.specs.Parts.{IsPlaced}
 use Rattle.tac_lower.specs.Scenes.{Lowered, Opened}

@@ -16,7 +16,7 @@ use Rattle.tac_ir.specs.declared.code.TacInstr.TheVariants as instr
 use Rattle.tac_ir.specs.declared.code.TacKind.{TacKind}
 use Rattle.tac_lower.specs.declared.context.Context.{Context}
 use Rattle.tac_lower.specs.declared.context.Home.TheVariants as home
-use Rattle.tac_lower.specs.declared.emitter.Emitter.{Emitter}
+use Rattle.tac_emit.specs.declared.emitter.Emitter.{Emitter}
 use Rattle.tac_lower.specs.declared.statements.Exits as lowered
 use Rattle.lower_runs.specs.Expressions.{Mark, labelled}
 use Rattle.lower_runs.specs.Operating.{Code}
@@ -25,10 +25,10 @@ use Rattle.lower_runs.specs.Statements.{Exits, in_loop, IsEntered, loop_code}
 use Rattle.lower_runs.specs.Statements.{IsStatement, IsStatements, IsTest, IsStep}
 use Rattle.lower_runs.specs.Trees as trees
 use Rattle.lower_runs.specs.Trees.{ValuesIfAny, ValuesTested}
-use Rattle.tac_lower.specs.Emitted.{Keeps, Pushed}
+use Rattle.tac_emit.specs.Emitted.{Keeps, Pushed}
 use Rattle.tac_lower.specs.Nodes.{kept_as}
 use Rattle.tac_lower.specs.Scenes.{given_in}
-use Rattle.tac_lower.specs.Shown.{Added, mark}
+use Rattle.tac_emit.specs.Adding.{Added, mark}
 use Rattle.tac_lower.specs.Tables.{IsSmall, type_at}
 use Rattle.tac_lower.specs.Trees.{HasScalar, HasRecord, Setting, setting, tree, Suits}
 use Rattle.tac_lower.specs.Trees.{signatures}

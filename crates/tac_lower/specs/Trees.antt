@@ -29,7 +29,7 @@ use Rattle.tac_ir.specs.declared.code.TacKind.{TacKind}
 use Rattle.tac_lower.specs.declared.context.Context.{Context}
 use Rattle.tac_lower.specs.declared.context.Home.{Home}
 use Rattle.tac_lower.specs.declared.context.Home.TheVariants as home
-use Rattle.tac_lower.specs.declared.emitter.Emitter.{Emitter}
+use Rattle.tac_emit.specs.declared.emitter.Emitter.{Emitter}
 use Rattle.tac_lower.specs.declared.writes.Written.{Written}
 use Rattle.tac_lower.specs.declared.writes.Written.TheVariants as write
 use Rattle.lower_runs.specs.Fitting.{CallsFit}
@@ -45,9 +45,9 @@ use Rattle.lower_runs.specs.Expressions.{IsValue, IsEffect, IsPlaceEffect, IsCon
 use Rattle.lower_runs.specs.Expressions.{IsAssignment}
 use Rattle.lower_runs.specs.Expressions.{IsStructAssignment, IsCopy, IsArguments, IsCall, position_in, IsBase}
 use Rattle.lower_runs.specs.Expressions.{pointer_kind, target_temp, target_mark, target_code}
-use Rattle.tac_lower.specs.Emitted.{Keeps}
+use Rattle.tac_emit.specs.Emitted.{Keeps}
 use Rattle.tac_lower.specs.Nodes.{kept_as, kind_in, or_int, scalar_in, expression, IsScalar, IsTyped}
-use Rattle.tac_lower.specs.Shown.{Added, mark, one}
+use Rattle.tac_emit.specs.Adding.{Added, mark, one}
 use Rattle.tac_lower.specs.Tables.{IsSmall, AreSmall, type_at}
 
 -- ---- what expressions write

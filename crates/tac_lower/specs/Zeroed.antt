@@ -1,5 +1,5 @@
 -- The objects that become zero in code: how often, and whether directly before the pointer to them is made.
-use Rattle.std.specs.Prelude.{ℕ, ◌+◌, ◌≤◌, ◌==◌, nat_lt, if◌then◌else◌, List, [], ◌∷◌, Option, Some, None, length}
+use Rattle.std.specs.Prelude.{ℕ, ◌≤◌, ◌==◌, nat_lt, if◌then◌else◌, List, Option, Some, length}
 use Rattle.std.specs.Prelude.{sum_by}
 use Rattle.std.specs.Prelude.{slice_get}
 use Rattle.c_tree.specs.declared.typed.FunDef.{FunDef}
@@ -7,32 +7,9 @@ use Rattle.c_tree.specs.declared.typed.Typed.{Typed}
 use Rattle.tac_ir.specs.Temps.{ZeroesFirst}
 use Rattle.tac_ir.specs.Within.{zeroes}
 use Rattle.tac_ir.specs.declared.code.TacFun.{TacFun}
-use Rattle.tac_ir.specs.declared.code.TacInstr.{TacInstr}
-use Rattle.tac_ir.specs.declared.code.TacInstr.TheVariants as instr
 use Rattle.tac_lower.specs.declared.context.Home.{Home}
 use Rattle.tac_lower.specs.declared.context.Home.TheVariants as home
 use Rattle.tac_lower.specs.Parts.{declared_by}
-
--- ---- pointers to locals
-
--- the local that becomes zero
-abbrev pub zeroed_by : TacInstr → Option ℕ
-zeroed_by (instr.Zero v) = Some v
-zeroed_by i = None
-
-abbrev pub is_other : Option ℕ → ℕ → ℕ
-is_other None w = 1
-is_other (Some v) w = if v == w then 0 else 1
-
--- 1 where the pointer to a local is made that did not become zero directly before
-abbrev pub is_lone : Option ℕ → TacInstr → ℕ
-is_lone z (instr.Local to w) = is_other z w
-is_lone z i = 0
-
--- how many such pointers there are, behind code that ends with the Zero of a local, if any
-abbrev pub lone_behind : Option ℕ → List TacInstr → ℕ
-lone_behind z [] = 0
-lone_behind z (i ∷ is) = is_lone z i + lone_behind (zeroed_by i) is
 
 -- ---- variables
 

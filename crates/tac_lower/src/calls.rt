@@ -7,30 +7,31 @@ ghost use Rattle.c_tree.specs.Terms.{type_of};
 ghost use Rattle.c_tree.specs.Types.{Ty, Tys, Function, Pointer};
 ghost use Rattle.cheri_c_sem.specs.Order.{Ordered};
 ghost use Rattle.tac_ir.specs.WellFormed.{signature_of_function};
-ghost use Rattle.tac_lower.specs.declared.emitter.Emitter.{Emitter};
+ghost use Rattle.tac_emit.specs.declared.emitter.Emitter.{Emitter};
 ghost use Rattle.tac_lower.specs.Copied.{copies_in, all_copies_in};
-ghost use Rattle.tac_lower.specs.Emitted.{HasKind, HasRoom, Grown, Adds};
+ghost use Rattle.tac_emit.specs.Emitted.{HasKind, HasRoom, Grown, Adds};
 ghost use Rattle.tac_lower.specs.Known.{AreBelow};
 ghost use Rattle.tac_lower.specs.Nodes.{scalar_in, kind_in, expression, weight_in, weights_in, IsTyped, AreTyped};
 ghost use Rattle.tac_lower.specs.Nodes.{CallNode, LibraryNode};
-ghost use Rattle.tac_lower.specs.Spent.{Spent, Spends, SpendsValue};
+ghost use Rattle.tac_emit.specs.Spent.{Spent};
+ghost use Rattle.tac_lower.specs.Spent.{Spends, SpendsValue};
 ghost use Rattle.c_tree.specs.declared.typed.ExprKind.TheVariants as exprs;
 ghost use Rattle.tac_lower.specs.Trees.{setting, IsNode, ShowsArguments, ShowsCall};
 ghost use Rattle.cheri_c_sem.specs.Types as meaning;
 ghost use Rattle.lower_runs.specs.Expressions as relation;
-ghost use Rattle.tac_lower.specs.Shown.{Emits};
+ghost use Rattle.tac_emit.specs.Adding.{Emits};
 ghost use Rattle.tac_lower.specs.Callees.{NamesFunction, intrinsic_as, service_as, HasLength};
 ghost use Rattle.tac_lower.specs.Scenes.{Ready, Scene, Lowered, frame_of};
 ghost use Rattle.tac_lower.specs.Services.{ServiceAsks, IntrinsicFits};
 ghost use Rattle.tac_lower.specs.Signed.{HaveKinds, ResultFits, signature_as};
 
 use crate::context::Context;
-use crate::emitter::Emitter;
 use crate::expressions::operand;
 use crate::types::{INT, WORD};
 use crate::writes::{Written, written_behind, written_by};
 use c_tree::ExprKind;
 use ck_base::NoMemory;
+use tac_emit::Emitter;
 use tac_ir::{Amount, CapWork, LibOp, TacKind};
 
 /// The number of the function that expression `f` names, if it names one.

@@ -3,9 +3,10 @@
 ghost use Rattle.std.specs.Prelude.{◌≡◌, ◌+◌, ◌-◌, ◌*◌, ◌<◌, true, false, IfOk};
 ghost use Rattle.cheri_c_sem.specs.Order.{Ordered};
 ghost use Rattle.tac_lower.specs.Copied.{copies_in};
-ghost use Rattle.tac_lower.specs.Emitted.{IsOpen, Grown, Adds, HasRoom};
+ghost use Rattle.tac_emit.specs.Emitted.{IsOpen, Grown, Adds, HasRoom};
 ghost use Rattle.tac_lower.specs.Nodes.{weight_in, IsTyped, HasOne, HasTwo};
-ghost use Rattle.tac_lower.specs.Spent.{Spent, SpendsCondition, SpendsJunction};
+ghost use Rattle.tac_emit.specs.Spent.{Spent};
+ghost use Rattle.tac_lower.specs.Spent.{SpendsCondition, SpendsJunction};
 ghost use Rattle.tac_lower.specs.Scenes.{Scene, Lowered, frame_of};
 ghost use Rattle.c_tree.specs.declared.typed.ExprKind.TheVariants as exprs;
 ghost use Rattle.c_tree.specs.declared.typed.UnaryOp.TheVariants as unary;
@@ -13,16 +14,16 @@ ghost use Rattle.ck_int.specs.declared.kinds.IntKind.TheVariants as int;
 ghost use Rattle.tac_ir.specs.declared.code.TacKind.TheVariants as kinds;
 ghost use Rattle.tac_ir.specs.declared.code.TacKind.{TacKind};
 ghost use Rattle.tac_lower.specs.Nodes.{IsScalar};
-ghost use Rattle.tac_lower.specs.Shown.{Emits};
+ghost use Rattle.tac_emit.specs.Adding.{Emits};
 ghost use Rattle.lower_runs.specs.Expressions as relation;
 ghost use Rattle.tac_lower.specs.Trees.{setting, ShowsCondition, HasScalar, IsNode, joined};
 
 use crate::context::Context;
-use crate::emitter::Emitter;
 use crate::expressions::operand;
 use crate::writes::Written;
 use c_tree::{ExprKind, UnaryOp};
 use ck_base::NoMemory;
+use tac_emit::Emitter;
 
 /// The operands of `&&` or `||`.
 #[derive(Clone, Copy)]
@@ -53,7 +54,7 @@ impl Junction {
     }
 }
 
-#[tactic(auto, using(crate::proofs::Wells::grown_same, crate::proofs::Wells::adds_same))]
+#[tactic(auto, using(tac_emit::proofs::Wells::grown_same, tac_emit::proofs::Wells::adds_same))]
 fn jump_if(out: &mut Emitter, truth: bool, jump: Jump) -> Result<(), NoMemory>
     requires open { IsOpen out.old jump.label }
     ensures grown { IfOk result (λ _. Grown out.old out.new) }
@@ -89,11 +90,8 @@ pub fn condition(cx: Context, k: u32, jump: Jump, out: &mut Emitter) -> Result<(
     };
     match &e.kind {
         ExprKind::Constant(n) => jump_if(out, *n != 0, jump),
-        #[tactic(auto, using(crate::proofs::Below::unary))]
         ExprKind::Unary(UnaryOp::LogicalNot, a) => opposite_condition(cx, k, *a, jump, out),
-        #[tactic(auto, using(crate::proofs::Below::and_left, crate::proofs::Below::and_right))]
         ExprKind::And(a, b) => joined_condition(cx, k, Junction::and(*a, *b), jump, out),
-        #[tactic(auto, using(crate::proofs::Below::or_left, crate::proofs::Below::or_right))]
         ExprKind::Or(a, b) => joined_condition(cx, k, Junction::or(*a, *b), jump, out),
         _ => {
             let on = operand(cx, k, Written::Nothing, out)?;

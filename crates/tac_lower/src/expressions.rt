@@ -4,12 +4,14 @@
 ghost use Rattle.std.specs.Prelude.{◌≡◌, ℕ, ◌+◌, ◌-◌, ◌*◌, ◌<◌, true, false, IfOk, IfSome, Some};
 ghost use Rattle.ck_int.specs.declared.kinds.IntKind.TheVariants as int;
 ghost use Rattle.tac_ir.specs.declared.code.TacKind.TheVariants as kinds;
-ghost use Rattle.tac_lower.specs.declared.emitter.Emitter.{Emitter};
+ghost use Rattle.tac_emit.specs.declared.emitter.Emitter.{Emitter};
 ghost use Rattle.cheri_c_sem.specs.Order.{Ordered};
 ghost use Rattle.tac_lower.specs.Copied.{copies_in};
-ghost use Rattle.tac_lower.specs.Emitted.{HasKind, Holds, ChangeFits, HasRoom, Grown, Adds};
+ghost use Rattle.tac_emit.specs.Emitted.{HasKind, HasRoom, Grown, Adds};
+ghost use Rattle.tac_lower.specs.Operands.{Holds, ChangeFits};
 ghost use Rattle.tac_lower.specs.Signed.{ResultFits};
-ghost use Rattle.tac_lower.specs.Spent.{Spent, Spends, SpendsValue, SpendsOperand, Owns, extra};
+ghost use Rattle.tac_emit.specs.Spent.{Spent};
+ghost use Rattle.tac_lower.specs.Spent.{Spends, SpendsValue, SpendsOperand, Owns, extra};
 ghost use Rattle.tac_lower.specs.Tables.{is_some};
 ghost use Rattle.c_tree.specs.WellTyped.{type_in};
 ghost use Rattle.tac_lower.specs.Nodes.{scalar_in, kind_in, kept_as, or_int, points, weight_in, IsTyped, IsScalar};
@@ -34,7 +36,6 @@ ghost use Rattle.tac_ir.specs.declared.code.TacKind.{TacKind};
 use crate::calls::{call, library};
 use crate::conditions::{Jump, Junction, condition, joined_condition};
 use crate::context::Context;
-use crate::emitter::Emitter;
 use crate::operations::{
     Change, Held, Pace, Sign, changed, derived, difference, moved, negated, signed, stepped,
     stepped_apart, stride, whole,
@@ -45,6 +46,7 @@ use crate::writes::Written;
 use c_tree::{ExprKind, UnaryOp};
 use ck_base::NoMemory;
 use ck_int::{CmpOp, IntOp};
+use tac_emit::Emitter;
 use tac_ir::{Amount, TacKind};
 
 /// Two expressions have values of one kind, scalars.
@@ -302,17 +304,12 @@ pub fn value(cx: Context, k: u32, to: u32, out: &mut Emitter) -> Result<(), NoMe
         ExprKind::Constant(n) => out.constant(to, kind, *n),
         #[tactic(auto, using(crate::proofs::Below::load))]
         ExprKind::Load(a) => load(cx, k, *a, to, out),
-        #[tactic(auto, using(crate::proofs::Below::decay))]
         ExprKind::Decay(a) => address(cx, k, *a, to, out),
-        #[tactic(auto, using(crate::proofs::Below::address))]
         ExprKind::Address(a) => address(cx, k, *a, to, out),
         #[tactic(auto, using(crate::proofs::Below::convert))]
         ExprKind::Convert(a) => conversion(cx, k, *a, to, out),
-        #[tactic(auto, using(crate::proofs::Below::unary))]
         ExprKind::Unary(op, a) => unary(cx, k, *op, *a, to, out),
-        #[tactic(auto, using(crate::proofs::Below::int_left, crate::proofs::Below::int_right))]
         ExprKind::Int(op, a, b) => integer(cx, k, *op, *a, *b, to, out),
-        #[tactic(auto, using(crate::proofs::Below::capability_left, crate::proofs::Below::capability_right))]
         ExprKind::Capability(op, a, b, right) => {
             let from = Operation {
                 op: *op,
@@ -320,32 +317,21 @@ pub fn value(cx: Context, k: u32, to: u32, out: &mut Emitter) -> Result<(), NoMe
             };
             capability(cx, k, from, *a, *b, to, out)
         }
-        #[tactic(auto, using(crate::proofs::Below::plus_left, crate::proofs::Below::plus_right))]
         ExprKind::Plus(a, b, minus) => sum(cx, k, *a, *b, *minus, to, out),
-        #[tactic(auto, using(crate::proofs::Below::difference_left, crate::proofs::Below::difference_right))]
         ExprKind::Difference(a, b) => distance(cx, k, *a, *b, to, out),
-        #[tactic(auto, using(crate::proofs::Below::compare_left, crate::proofs::Below::compare_right))]
         ExprKind::Compare(op, a, b) => comparison(cx, k, *op, *a, *b, to, out),
-        #[tactic(auto, using(crate::proofs::Below::and_left, crate::proofs::Below::and_right))]
         ExprKind::And(a, b) => truth(cx, k, Junction::and(*a, *b), to, out),
-        #[tactic(auto, using(crate::proofs::Below::or_left, crate::proofs::Below::or_right))]
         ExprKind::Or(a, b) => truth(cx, k, Junction::or(*a, *b), to, out),
-        #[tactic(auto, using(crate::proofs::Below::conditional_test, crate::proofs::Below::conditional_left, crate::proofs::Below::conditional_right))]
         ExprKind::Conditional(c, a, b) => choice(cx, k, *c, *a, *b, to, out),
-        #[tactic(auto, using(crate::proofs::Below::comma_left, crate::proofs::Below::comma_right))]
         ExprKind::Comma(a, b) => comma(cx, k, *a, *b, to, out),
         #[tactic(auto, using(crate::proofs::Below::assign_left, crate::proofs::Below::assign_right))]
         ExprKind::Assign(a, b) => assignment(cx, k, *a, *b, Some(to), out),
-        #[tactic(auto, using(crate::proofs::Below::compound_left, crate::proofs::Below::compound_right))]
         ExprKind::Compound(op, a, b, of) => {
             let change = change_of(cx, *op, *of);
             compound(cx, k, change, *a, *b, Some(to), out)
         }
-        #[tactic(auto, using(crate::proofs::Below::step))]
         ExprKind::Step(a, adds, front) => step(cx, k, *a, *adds, *front, Some(to), out),
-        #[tactic(auto, using(crate::proofs::Below::called, crate::proofs::Below::call_arguments))]
         ExprKind::Call(f, args) => call(cx, k, *f, args.as_slice(), asked(cx, k, to), out),
-        #[tactic(auto, using(crate::proofs::Below::library_arguments))]
         ExprKind::Library(n, args) => library(cx, k, *n, args.as_slice(), asked(cx, k, to), out),
         ExprKind::Literal(_)
         | ExprKind::Var(_)
@@ -536,33 +522,23 @@ pub fn effect(cx: Context, k: u32, out: &mut Emitter) -> Result<(), NoMemory>
         ExprKind::Convert(a) => effect(cx, *a, out),
         #[tactic(auto, using(crate::proofs::Below::assign_left, crate::proofs::Below::assign_right))]
         ExprKind::Assign(a, b) => assignment(cx, k, *a, *b, None, out),
-        #[tactic(auto, using(crate::proofs::Below::compound_left, crate::proofs::Below::compound_right))]
         ExprKind::Compound(op, a, b, of) => {
             let change = change_of(cx, *op, *of);
             compound(cx, k, change, *a, *b, None, out)
         }
-        #[tactic(auto, using(crate::proofs::Below::step))]
         ExprKind::Step(a, adds, front) => step(cx, k, *a, *adds, *front, None, out),
-        #[tactic(auto, using(crate::proofs::Below::called, crate::proofs::Below::call_arguments))]
         ExprKind::Call(f, args) => call(cx, k, *f, args.as_slice(), None, out),
-        #[tactic(auto, using(crate::proofs::Below::library_arguments))]
         ExprKind::Library(n, args) => library(cx, k, *n, args.as_slice(), None, out),
-        #[tactic(auto, using(crate::proofs::Below::comma_left, crate::proofs::Below::comma_right))]
         ExprKind::Comma(a, b) => {
             effect(cx, *a, out)?;
             effect(cx, *b, out)
         }
-        #[tactic(auto, using(crate::proofs::Below::conditional_test, crate::proofs::Below::conditional_left, crate::proofs::Below::conditional_right))]
         ExprKind::Conditional(c, a, b) => chosen_effect(cx, k, *c, *a, *b, out),
-        #[tactic(auto, using(crate::proofs::Below::and_left, crate::proofs::Below::and_right))]
         ExprKind::And(a, b) => guarded_effect(cx, k, *a, *b, false, out),
-        #[tactic(auto, using(crate::proofs::Below::or_left, crate::proofs::Below::or_right))]
         ExprKind::Or(a, b) => guarded_effect(cx, k, *a, *b, true, out),
         #[tactic(auto, using(crate::proofs::Below::load))]
         ExprKind::Load(a) => read_effect(cx, k, *a, out),
-        #[tactic(auto, using(crate::proofs::Below::deref))]
         ExprKind::Deref(a) => effect(cx, *a, out),
-        #[tactic(auto, using(crate::proofs::Below::member))]
         ExprKind::Member(a, _) => effect(cx, *a, out),
         ExprKind::Constant(_)
         | ExprKind::Literal(_)

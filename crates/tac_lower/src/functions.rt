@@ -12,14 +12,13 @@ ghost use Rattle.c_tree.specs.declared.typed.VarDef.{VarDef};
 ghost use Rattle.cheri_c_sem.specs.Programs.{lengths_of};
 ghost use Rattle.tac_ir.specs.WellFormed.{function_fits, type_of_param};
 ghost use Rattle.tac_lower.specs.declared.context.Home.TheVariants as homes;
-ghost use Rattle.tac_lower.specs.Emitted.{HasKind, Pushed, WellListed, Keeps, Grown, Adds, HasRoom, Stands};
-ghost use Rattle.tac_lower.specs.Emitted.{open_labels};
+ghost use Rattle.tac_emit.specs.Emitted.{HasKind, Pushed, WellListed, Keeps, Grown, Adds, HasRoom, Stands, open_labels};
 ghost use Rattle.tac_lower.specs.Functions.{AreParameters, Makes};
 ghost use Rattle.tac_lower.specs.Nodes.{kept_as, or_int};
 ghost use Rattle.tac_lower.specs.Scenes.{Ready, HomeFits, Housed, Scene, Lowered};
 ghost use Rattle.tac_ir.specs.Within.{FunctionCosts, function_copies};
 ghost use Rattle.tac_lower.specs.Copied.{part_copies};
-ghost use Rattle.tac_lower.specs.Spent.{Enters, Spent};
+ghost use Rattle.tac_emit.specs.Spent.{Enters, Spent};
 ghost use Rattle.tac_lower.specs.Zeroed.{is_object, is_taken, taken, ZeroesOnce};
 ghost use Rattle.tac_lower.specs.Signed.{kept_parameter, ReturnFits};
 ghost use Rattle.tac_ir.specs.declared.code.TacInstr.TheVariants as instr;
@@ -27,16 +26,16 @@ ghost use Rattle.tac_lower.specs.Programs.{gives_in, taken_code, taking, IsNext,
 ghost use Rattle.cheri_c_sem.specs.Expressions.{expr_tree};
 ghost use Rattle.lower_runs.specs.Programs.{IsCodeOf};
 ghost use Rattle.tac_lower.specs.Trees.{signatures, AreCovered};
-ghost use Rattle.tac_lower.specs.Shown.{none, Added, Emits};
+ghost use Rattle.tac_emit.specs.Adding.{none, Added, Emits};
 
 use crate::context::{Context, Home};
-use crate::emitter::Emitter;
 use crate::statements::{Exits, statement};
 use crate::types::{POINTER, TypeFacts, facts_at, or_int};
 use crate::writes::Written;
 use c_tree::{FunDef, Typed, VarDef};
 use ck_base::{NoMemory, Sequence};
 use std::alloc::Global;
+use tac_emit::Emitter;
 use tac_ir::{TacFun, TacKind};
 
 /// The program, and what is known of it.
@@ -134,7 +133,7 @@ fn object_home(n: u32, out: &mut Emitter) -> Result<Home, NoMemory>
 }
 
 /// The temp of variable `x`, which is no object: a parameter has its own.
-#[tactic(auto, using(crate::proofs::Wells::grown_same, crate::proofs::Wells::adds_same))]
+#[tactic(auto, using(tac_emit::proofs::Wells::grown_same, tac_emit::proofs::Wells::adds_same))]
 fn value_temp(x: u32, params: usize, kind: TacKind, out: &mut Emitter) -> Result<u32, NoMemory>
     requires parameter { x < params → HasKind out.old x kind }
     requires room { HasRoom out.old 1 }
@@ -233,9 +232,8 @@ fn take_object(
     ensures takes { IfOk result (λ _. Emits out.old out.new 0 (taken_code (Some (homes.Object n at)) t
         (kept_parameter cx.entry.p.now d.now x) d.now.pos)) }
 {
-    out.enter_object(at, n)?;
     let kind = cx.kind_of_type(type_of_variable(d, x));
-    out.store(at, t, kind, d.pos)
+    out.enter_with(at, n, t, kind, d.pos)
 }
 
 /// A parameter that is an object gets its argument, the value of temp `t`.

@@ -6,12 +6,14 @@ ghost use Rattle.ck_int.specs.declared.kinds.IntKind.TheVariants as int;
 ghost use Rattle.tac_ir.specs.declared.code.TacKind.TheVariants as kinds;
 ghost use Rattle.cheri_c_sem.specs.Types.{is_shift};
 ghost use Rattle.tac_ir.specs.WellFormed.{constant_fits};
-ghost use Rattle.tac_lower.specs.declared.emitter.Emitter.{Emitter};
+ghost use Rattle.tac_emit.specs.declared.emitter.Emitter.{Emitter};
 ghost use Rattle.tac_ir.specs.Costs.{number_cost};
-ghost use Rattle.tac_lower.specs.Spent.{Spent, is_number};
-ghost use Rattle.tac_lower.specs.Emitted.{HasKind, HasInt, HasAddress, IsWide, AmountFits, CountFits, RightFits};
-ghost use Rattle.tac_lower.specs.Emitted.{SameKind, SameCapability, Holds, is_capability, wide_of, Grown, Adds};
-ghost use Rattle.tac_lower.specs.Emitted.{HasRoom, ChangeFits};
+ghost use Rattle.tac_emit.specs.Spent.{Spent, is_number};
+ghost use Rattle.tac_emit.specs.Emitted.{HasKind, HasInt, HasAddress, IsWide, AmountFits, CountFits};
+ghost use Rattle.tac_lower.specs.Operands.{RightFits};
+ghost use Rattle.tac_emit.specs.Emitted.{SameKind, SameCapability, is_capability, Grown, Adds, HasRoom};
+ghost use Rattle.tac_lower.specs.Operands.{Holds, wide_of};
+ghost use Rattle.tac_lower.specs.Operands.{ChangeFits};
 ghost use Rattle.cheri_c_sem.specs.Tree.{Operation, Whole};
 ghost use Rattle.tac_ir.specs.Effects.{kind_of};
 ghost use Rattle.tac_lower.specs.declared.operations.Sign.TheVariants as signs;
@@ -21,13 +23,14 @@ ghost use Rattle.tac_ir.specs.declared.code.TacInstr.TheVariants as instr;
 ghost use Rattle.lower_runs.specs.Operating as operating;
 ghost use Rattle.lower_runs.specs.Operating.{sign_temps, signed_temps, right_temps, address_temps, moved_temps};
 ghost use Rattle.lower_runs.specs.Operating.{changed_temps, stepped_temps};
-ghost use Rattle.tac_lower.specs.Shown.{Emits, one, sign_as, count_code, count_temp, count_temps, Changes, Paces};
+ghost use Rattle.tac_emit.specs.Adding.{Emits, one};
+ghost use Rattle.tac_lower.specs.Shown.{sign_as, count_code, count_temp, count_temps, Changes, Paces};
 ghost use Rattle.tac_lower.specs.Shown.{address_more, bytes_code, bytes_temp};
 
-use crate::emitter::Emitter;
 use crate::types::{LONG, POINTER, WORD, is_capability, same_kind};
 use ck_base::NoMemory;
 use ck_int::{CmpOp, IntKind, IntOp, wrap};
+use tac_emit::Emitter;
 use tac_ir::{Amount, CapWork, TacKind};
 
 /// A value in a temp, with its kind.

@@ -2,9 +2,9 @@
 
 ghost use Rattle.std.specs.Prelude.{◌≡◌, ℕ, ◌+◌, ◌-◌, ◌*◌, ◌<◌, ◌≤◌, true, false, IfOk, IfSome, Some};
 ghost use Rattle.tac_ir.specs.declared.code.TacKind.TheVariants as kinds;
-ghost use Rattle.tac_lower.specs.declared.emitter.Emitter.{Emitter};
+ghost use Rattle.tac_emit.specs.declared.emitter.Emitter.{Emitter};
 ghost use Rattle.tac_lower.specs.Destinations.{TargetFits, DestinationFits};
-ghost use Rattle.tac_lower.specs.Emitted.{HasKind, Grown, Adds, HasRoom};
+ghost use Rattle.tac_emit.specs.Emitted.{HasKind, Grown, Adds, HasRoom};
 ghost use Rattle.tac_lower.specs.Nodes.{weight_in, kind_in, IsTyped, AddressNode, HasOne, HasTwo, HasThree};
 ghost use Rattle.tac_lower.specs.Nodes.{AssignNode, ConditionalNode, VarNode};
 ghost use Rattle.c_tree.specs.Counts.{parts};
@@ -12,7 +12,8 @@ ghost use Rattle.tac_lower.specs.Copied.{copies_in};
 ghost use Rattle.tac_lower.specs.Tables.{record_size};
 ghost use Rattle.tac_ir.specs.WellFormed.{units_fit};
 ghost use Rattle.cheri_c_sem.specs.Types.{unit_of};
-ghost use Rattle.tac_lower.specs.Spent.{Spent, Spends, SpendsValue, SpendsPlace, SpendsPointer, SpendsCopy, extra};
+ghost use Rattle.tac_emit.specs.Spent.{Spent};
+ghost use Rattle.tac_lower.specs.Spent.{Spends, SpendsValue, SpendsPlace, SpendsPointer, SpendsCopy, extra};
 ghost use Rattle.tac_lower.specs.Scenes.{Ready, Housed, Scene, Lowered, frame_of};
 ghost use Rattle.cheri_c_sem.specs.Order.{Ordered};
 ghost use Rattle.c_tree.specs.declared.typed.ExprKind.TheVariants as exprs;
@@ -26,12 +27,12 @@ ghost use Rattle.lower_runs.specs.Expressions.{Within};
 
 use crate::conditions::{Jump, condition};
 use crate::context::Context;
-use crate::emitter::{Copied, Emitter};
 use crate::expressions::{effect, in_place, operand, value};
-use crate::types::{POINTER, TypeFacts, owned_length};
+use crate::types::{POINTER, TypeFacts};
 use crate::writes::Written;
 use c_tree::ExprKind;
 use ck_base::{NoMemory, Pos};
+use tac_emit::{Copied, Emitter};
 use tac_ir::Amount;
 
 /// Where a struct or union is copied to.
@@ -165,7 +166,6 @@ pub fn pointer(cx: Context, k: u32, later: Written, out: &mut Emitter) -> Result
         return fresh_place(cx, k, out);
     };
     match e.kind {
-        #[tactic(auto, using(crate::proofs::Below::deref))]
         ExprKind::Deref(a) => operand(cx, a, later, out),
         #[tactic(auto, using(crate::proofs::Below::load))]
         ExprKind::Load(a) => pointer(cx, a, later, out),
@@ -220,15 +220,11 @@ pub fn place(cx: Context, k: u32, to: u32, out: &mut Emitter) -> Result<(), NoMe
         ExprKind::Global(g) => out.global(to, g, false),
         ExprKind::Literal(n) => out.global(to, n, true),
         ExprKind::Fun(f) => out.function(to, f),
-        #[tactic(auto, using(crate::proofs::Below::deref))]
         ExprKind::Deref(a) => value(cx, a, to, out),
-        #[tactic(auto, using(crate::proofs::Below::member))]
         ExprKind::Member(a, m) => member(cx, k, a, m, to, out),
         #[tactic(auto, using(crate::proofs::Below::load))]
         ExprKind::Load(a) => place(cx, a, to, out),
-        #[tactic(auto, using(crate::proofs::Below::comma_left, crate::proofs::Below::comma_right))]
         ExprKind::Comma(a, b) => place_behind(cx, k, a, b, to, out),
-        #[tactic(auto, using(crate::proofs::Below::conditional_test, crate::proofs::Below::conditional_left, crate::proofs::Below::conditional_right))]
         ExprKind::Conditional(c, a, b) => place_choice(cx, k, c, a, b, to, out),
         #[tactic(auto, using(crate::proofs::Below::assign_left, crate::proofs::Below::assign_right))]
         ExprKind::Assign(a, b) => {
@@ -354,7 +350,7 @@ pub fn address(cx: Context, k: u32, a: u32, to: u32, out: &mut Emitter) -> Resul
     place(cx, a, to, out)?;
     match cx.member_size(a) {
         None => Ok(()),
-        Some(size) => out.narrow(to, to, Amount::Number(owned_length(size)), true),
+        Some(size) => out.narrow_to_member(to, size),
     }
 }
 
@@ -418,9 +414,7 @@ pub fn struct_copy(
         return plain_copy(cx, k, destination, out);
     };
     match e.kind {
-        #[tactic(auto, using(crate::proofs::Below::conditional_test, crate::proofs::Below::conditional_left, crate::proofs::Below::conditional_right))]
         ExprKind::Conditional(c, a, b) => chosen_copy(cx, k, c, a, b, destination, out),
-        #[tactic(auto, using(crate::proofs::Below::comma_left, crate::proofs::Below::comma_right))]
         ExprKind::Comma(a, b) => {
             effect(cx, a, out)?;
             struct_copy(cx, b, destination, out)

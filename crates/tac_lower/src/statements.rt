@@ -6,18 +6,19 @@ ghost use Rattle.c_tree.specs.WellTyped.{AreVars, FunctionFits, InitFits};
 ghost use Rattle.cheri_c_sem.specs.Order.{Ordered};
 ghost use Rattle.tac_ir.specs.declared.code.TacKind.TheVariants as kinds;
 ghost use Rattle.tac_lower.specs.Copied.{copied_in, copies_in, part_copies, all_part_copies};
-ghost use Rattle.tac_lower.specs.Emitted.{HasKind, IsOpen, Stands, Grown, Turned, Adds, HasRoom};
+ghost use Rattle.tac_emit.specs.Emitted.{HasKind, IsOpen, Grown, Turned, Adds, HasRoom, Stands};
 ghost use Rattle.tac_lower.specs.Known.{AreBelow};
 ghost use Rattle.tac_lower.specs.Nodes.{expression, weight_in, IsTyped};
 ghost use Rattle.tac_lower.specs.Parts.{heft_in, hefts_in, entered, entered_in, all_entered_in, or_none, ReturnPart};
 ghost use Rattle.tac_lower.specs.Scenes.{Scene, Lowered, frame_of};
-ghost use Rattle.tac_lower.specs.Spent.{Enters, Spent, Consumes, SpendsCopy, SpendsFlat, SpendsPart};
+ghost use Rattle.tac_emit.specs.Spent.{Enters, Spent};
+ghost use Rattle.tac_lower.specs.Spent.{Consumes, SpendsCopy, SpendsFlat, SpendsPart};
 ghost use Rattle.tac_lower.specs.Zeroed.{zeroed, zeroed_in, all_zeroed_in};
 ghost use Rattle.tac_lower.specs.Statements.{IsPart, AreParts, IsTypedIfAny, IsExit, AreExits, Begun, Behind};
 ghost use Rattle.std.specs.Prelude.{ℕ, ◌≡◌, Some, None};
 ghost use Rattle.c_tree.specs.declared.typed.StmtKind.TheVariants as stmts;
 ghost use Rattle.tac_ir.specs.declared.code.TacInstr.TheVariants as instr;
-ghost use Rattle.tac_lower.specs.Shown.{Emits, one};
+ghost use Rattle.tac_emit.specs.Adding.{Emits, one};
 ghost use Rattle.tac_lower.specs.Trees.{setting, HasScalar};
 ghost use Rattle.tac_lower.specs.Stating.{routine, exits_as, IsStmt, ShowsStatement, ShowsStatements};
 ghost use Rattle.tac_lower.specs.Stating.{ShowsTest, ShowsStep, ShowsBehind, ShowsLoop, ShowsJump, ShowsEntered};
@@ -26,13 +27,13 @@ ghost use Rattle.lower_runs.specs.Statements.{Exits as Ways, in_loop};
 
 use crate::conditions::{Jump, condition};
 use crate::context::{Context, Home};
-use crate::emitter::Emitter;
 use crate::expressions::{effect, operand, value};
 use crate::places::{Destination, Target, struct_copy, within};
 use crate::switches::compared_cases;
 use crate::writes::Written;
 use c_tree::{StmtKind, SwitchLabel};
 use ck_base::{NoMemory, Pos};
+use tac_emit::Emitter;
 
 /// Where `break` and `continue` lead, if there are such places.
 #[derive(Clone, Copy)]
@@ -556,7 +557,6 @@ fn switch(
 }
 
 /// Statement `k`.
-#[tactic(auto, using(crate::proofs::Below::block_body, crate::proofs::Below::if_first, crate::proofs::Below::if_second, crate::proofs::Below::while_body, crate::proofs::Below::do_body, crate::proofs::Below::for_first, crate::proofs::Below::for_body, crate::proofs::Below::switch_body))]
 #[cycle(statements)]
 pub fn statement(cx: Context, k: u32, exits: Exits, out: &mut Emitter) -> Result<(), NoMemory>
     requires ordered { Ordered cx.p.now }

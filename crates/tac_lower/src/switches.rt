@@ -3,19 +3,19 @@
 ghost use Rattle.std.specs.Prelude.{◌≡◌, ℕ, ◌+◌, ◌*◌, true, [], length, drop, slice_get, Some, IfOk};
 ghost use Rattle.lower_runs.specs.Statements.{kept_number};
 ghost use Rattle.tac_ir.specs.WellFormed.{constant_fits};
-ghost use Rattle.tac_lower.specs.Emitted.{HasKind, IsOpen, Grown, Adds, HasRoom};
+ghost use Rattle.tac_emit.specs.Emitted.{HasKind, IsOpen, Grown, Adds, HasRoom};
 ghost use Rattle.tac_lower.specs.Scenes.{Scene, Opened};
-ghost use Rattle.tac_lower.specs.Spent.{Spent};
+ghost use Rattle.tac_emit.specs.Spent.{Spent};
 ghost use Rattle.tac_lower.specs.Cases.{labels_as, compare_code, standing, Compared, StandAt, ShowsCases};
-ghost use Rattle.tac_lower.specs.Shown.{Emits};
+ghost use Rattle.tac_emit.specs.Adding.{Emits};
 ghost use Rattle.tac_lower.specs.Statements.{labels_in, IsSwitched, StandUpTo};
 
 use crate::context::Context;
-use crate::emitter::Emitter;
 use crate::types::INT;
 use c_tree::SwitchLabel;
 use ck_base::NoMemory;
 use ck_int::{CmpOp, wrap};
+use tac_emit::Emitter;
 use tac_ir::TacKind;
 
 /// A label, and how many statements of the body stand before it.

@@ -7,7 +7,7 @@ ghost use Rattle.std.specs.Prelude.{slice_get};
 ghost use Rattle.cheri_c_sem.specs.Compatible.{kind_number};
 ghost use Rattle.tac_ir.specs.Effects.{kind_of};
 ghost use Rattle.tac_ir.specs.WellFormed.{same_kind};
-ghost use Rattle.tac_lower.specs.Emitted.{is_capability};
+ghost use Rattle.tac_emit.specs.Emitted.{is_capability};
 ghost use Rattle.tac_lower.specs.Nodes.{or_int};
 ghost use Rattle.tac_lower.specs.Tables.{kept_by, target_by, given_by, record_size, AreOwn, AreSmall, FactsFit};
 ghost use Rattle.tac_lower.specs.Tables.{HasLayout, TableFits};
@@ -35,9 +35,6 @@ pub const WORD: TacKind = TacKind::Int(IntKind::U64);
 pub const LONG: TacKind = TacKind::Int(IntKind::I64);
 /// The kind of a pointer.
 pub const POINTER: TacKind = TacKind::Cap(false);
-
-/// The greatest size of an object.
-const LIMIT: u64 = 67_108_864;
 
 /// How many numbers have 32 bits.
 const MOST: usize = 4_294_967_296;
@@ -276,13 +273,6 @@ pub fn or_int(kind: Option<TacKind>) -> TacKind
         None => INT,
         Some(k) => k,
     }
-}
-
-/// What a member of so many bytes owns.
-pub fn owned_length(size: u64) -> u64
-    ensures { size ≤ size_limit → result ≡ owned size }
-{
-    owned(size.min(LIMIT)).length
 }
 
 /// A kind is that of a capability.

@@ -11,7 +11,7 @@ use Rattle.purecap_abi.specs.Saving.{AreHomes, IsFor, IsSlotBelow}
 use Rattle.reg_alloc.specs.declared.places.Home.{Home}
 use Rattle.reg_alloc.specs.declared.places.Home.TheVariants.{Register}
 use Rattle.reg_alloc.specs.declared.places.Places.{Places}
-use Rattle.rv_select.specs.Growing.{AreFramed}
+use Rattle.rv_select.specs.Selectable.{AreFramed}
 use Rattle.tac_ir.specs.Costs.{cost, function_cost, operation_cost}
 use Rattle.tac_ir.specs.declared.code.LibOp.TheVariants as lib
 use Rattle.tac_ir.specs.declared.code.TacFun.{TacFun}

@@ -3,7 +3,7 @@ ghost use Rattle.std.specs.Prelude.{◌≡◌, ◌+◌, ◌<◌, ◌≤◌, leng
 ghost use Rattle.std.specs.List.{sum_by};
 ghost use Rattle.purecap_abi.specs.Frames.{AreLocals};
 ghost use Rattle.purecap_abi.specs.Saving.{AreHomes};
-ghost use Rattle.rv_select.specs.Growing.{AreFramed};
+ghost use Rattle.rv_select.specs.Selectable.{AreFramed};
 ghost use Rattle.tac_ir.specs.Costs.{function_cost};
 
 use c_tree::{CType, Typed};

@@ -33,20 +33,21 @@ use Rattle.tac_lower.proofs.Keeping.{change_as, not_node, unary_operand, pointer
 use Rattle.tac_lower.proofs.Keeping.{maybe_kept, maybe_kind, maybe_same, result_as, destination_kept}
 use Rattle.tac_lower.proofs.Keeping.{destination_opened, tail_pushed, tail_part}
 use Rattle.tac_lower.proofs.Services.{library_fits, exit_fits}
-use Rattle.tac_lower.proofs.Spending.{forked_spent, labelled_spent, nothing, plainly, after, and}
+use Rattle.tac_emit.proofs.Spending.{forked_spent, labelled_spent}
+use Rattle.tac_lower.proofs.Spending.{nothing, plainly, after, and}
 use Rattle.tac_lower.proofs.Spending.{within, extra_small, extra_none, in_fresh, in_own, owned, last, last_and}
 use Rattle.tac_lower.proofs.Spending.{last_pushed, last_fresh, last_given}
 use Rattle.tac_lower.proofs.Steps.{start, both, grew, at_most, still, as_kind, room, less_room, still_open, heavy}
 use Rattle.tac_lower.proofs.Steps.{tail, tail_grew, tail_stands, fork, label, opened, turned, first_open, second_open}
 use Rattle.tac_lower.proofs.Steps.{others_open, opened_has, opened_room}
-use Rattle.tac_lower.proofs.Wells.{grown_then, kept}
+use Rattle.tac_emit.proofs.Wells.{grown_then, kept}
 use Rattle.tac_lower.proofs.Deriving.{operand_held, operand_made, operand_in_held, operand_in_there, pair_both}
 use Rattle.tac_lower.proofs.Deriving.{value_constant, value_no_node, value_no_value, value_integer, value_capability}
 use Rattle.tac_lower.proofs.Deriving.{value_comma, value_comparison, value_choice}
-use Rattle.tac_lower.proofs.Emitting.{one_emits}
+use Rattle.tac_emit.proofs.Emitting.{one_emits}
 use Rattle.tac_lower.proofs.Reading.{value_signed, value_read, value_loaded, value_not}
 use Rattle.tac_lower.specs.Trees.{Signs, setting, HasScalar, IsNode, joined, ShowsArguments}
-use Rattle.tac_lower.proofs.Below.{load as below_load, member as below_member, comma_right as below_comma}
+use Rattle.tac_lower.proofs.Below.{load as below_load, comma_right as below_comma}
 use Rattle.tac_lower.proofs.Nodes.{loads, commas}
 use Rattle.lower_runs.specs.Expressions.{place_global, place_literal, place_function}
 use Rattle.tac_lower.proofs.Unplaced.{another, never_place, none_place}
@@ -1272,18 +1273,19 @@ places::address-returns-in-None t c =
           (c.in-None.ensures c.args.cx.d.now.vars c.requires.scene.ready) at c.in_ok-place.ensures.is);
     }
 
-pub places::address-narrow-requires-clause-same : goal.places::address-narrow-requires-clause-same
-places::address-narrow-requires-clause-same t c =
-    two_pointers (still (as_kind c.requires.to (scalar_kind c.requires.node.is)) c.in_ok-place.ensures.lowered)
-    (still (as_kind c.requires.to (scalar_kind c.requires.node.is)) c.in_ok-place.ensures.lowered)
+pub places::address-narrow_to_member-requires : goal.places::address-narrow_to_member-requires
+places::address-narrow_to_member-requires t c = record {
+  same = two_pointers (still (as_kind c.requires.to (scalar_kind c.requires.node.is)) c.in_ok-place.ensures.lowered)
+      (still (as_kind c.requires.to (scalar_kind c.requires.node.is)) c.in_ok-place.ensures.lowered);
+}
 
 pub places::address-returns-in-Some : goal.places::address-returns-in-Some
 places::address-returns-in-Some t c =
     record {
-      lowered = tail_grew _ _ c.narrow.result c.in_ok-place.ensures.lowered c.narrow.ensures.grown
-          c.narrow.ensures.adds
+      lowered = tail_grew _ _ c.narrow_to_member.result c.in_ok-place.ensures.lowered c.narrow_to_member.ensures.grown
+          c.narrow_to_member.ensures.adds
           (omega (arith, c.requires.node.operands.weight));
-      spends = last_and _ _ _ _ c.narrow.result c.in_ok-place.ensures.spends c.narrow.ensures.spent
+      spends = last_and _ _ _ _ c.narrow_to_member.result c.in_ok-place.ensures.spends c.narrow_to_member.ensures.spent
           (omega (
             arith,
             c.requires.node.operands.weight,
@@ -1299,10 +1301,10 @@ places::address-returns-in-Some t c =
             extra_small c.args.cx.fixed (Some c.args.to),
           ))
           (omega (arith, c.requires.node.operands.copies));
-      is = IfOk-weaker c.narrow.result _ _
+      is = IfOk-weaker c.narrow_to_member.result _ _
           (λ r f at. value_part _ c.requires.ordered c.requires.scene.ready.ordered c.args.cx.d.now _ c.requires.node
           c.requires.node.operands.operand (c.in-Some.ensures c.args.cx.d.now.vars c.requires.scene.ready)
-          c.owned_length.ensures at c.in_ok-place.ensures.is f) c.narrow.ensures.emits;
+          f.owns at c.in_ok-place.ensures.is f.emits) c.narrow_to_member.ensures.narrows;
     }
 
 pub places::struct_assignment-pointer-requires : goal.places::struct_assignment-pointer-requires

@@ -2,7 +2,7 @@ use Rattle.std.proofs.Common.{◌*◌}
 use Rattle.select_words.specs.Entries.{ForEach}
 use Rattle.select_words.specs.Passing.{BroughtWords}
 use Rattle.rv_select.specs.Choosing.{chosen}
-use Rattle.rv_select.specs.Growing.{Grows, Puts}
+use Rattle.rv_emit.specs.Growing.{Grows, Puts}
 use Rattle.rv_select.specs.Passed.{ChoosesArguments}
 use Rattle.rv_select.specs.Selected.{AreAside}
 use Rattle.rv_select.proofs.calls.arguments.Given as goal

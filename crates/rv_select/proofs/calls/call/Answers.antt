@@ -1,6 +1,7 @@
 use Rattle.std.proofs.Common.{refl}
 use Rattle.rv_select.specs.Choosing.{chosen}
-use Rattle.rv_select.proofs.Called.{on_both, call_selected}
+use Rattle.rv_emit.proofs.Appended.{on_both}
+use Rattle.rv_select.proofs.Called.{call_selected}
 use Rattle.rv_select.proofs.calls.call.Goals as goal
 
 pub returns-clause-words : goal.returns-clause-words

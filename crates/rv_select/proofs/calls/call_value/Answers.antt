@@ -1,7 +1,8 @@
 use Rattle.std.proofs.Common.{[], ◌∷◌, ◌++◌, ◌∙◌, refl, ap, arith}
 use Rattle.rv_instr.specs.declared.instr.Instr.{Instr}
 use Rattle.rv_select.specs.Choosing.{chosen}
-use Rattle.rv_select.proofs.Called.{on_both, through_called}
+use Rattle.rv_emit.proofs.Appended.{on_both}
+use Rattle.rv_select.proofs.Called.{through_called}
 use Rattle.rv_select.proofs.calls.call_value.Goals as goal
 
 pub returns-clause-words : goal.returns-clause-words

@@ -3,7 +3,7 @@ use Rattle.std.specs.Prelude.{max}
 use Rattle.select_words.specs.Entries.{ForEach}
 use Rattle.select_words.specs.Passing.{StackedWords}
 use Rattle.rv_select.specs.Choosing.{chosen}
-use Rattle.rv_select.specs.Growing.{Grows, Puts}
+use Rattle.rv_emit.specs.Growing.{Grows, Puts}
 use Rattle.rv_select.specs.Passed.{ChoosesArguments}
 use Rattle.rv_select.proofs.calls.stack_arguments.Given as goal
 

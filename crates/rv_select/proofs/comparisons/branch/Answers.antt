@@ -1,5 +1,5 @@
 use Rattle.rv_select.specs.Choosing.{chosen}
-use Rattle.rv_select.proofs.Landed.{branch_selected}
+use Rattle.rv_select.proofs.Branched.{branch_selected}
 use Rattle.rv_select.proofs.comparisons.branch.Goals as goal
 
 pub returns-clause-words : goal.returns-clause-words

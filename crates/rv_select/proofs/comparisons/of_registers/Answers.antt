@@ -5,8 +5,9 @@ use Rattle.select_words.specs.Emitted.{Operand}
 use Rattle.select_words.specs.Forms.{Other}
 use Rattle.select_words.specs.Operations.{compare_code}
 use Rattle.rv_select.specs.Choosing.{chosen}
-use Rattle.rv_select.specs.Growing.{Puts}
-use Rattle.rv_select.proofs.Formed.{puts_all, of_two}
+use Rattle.rv_emit.specs.Growing.{Puts}
+use Rattle.rv_emit.proofs.Appended.{puts_all}
+use Rattle.rv_select.proofs.Formed.{of_two}
 use Rattle.rv_select.proofs.comparisons.of_registers.Goals as goal
 
 pub returns-clause-words : goal.returns-clause-words

@@ -5,9 +5,10 @@ use Rattle.rv_instr.specs.declared.instr.Instr.{Instr}
 use Rattle.purecap_abi.proofs.Ranges.{on_ok}
 use Rattle.select_words.specs.Operations.{compare_number}
 use Rattle.rv_select.specs.Choosing.{chosen}
-use Rattle.rv_select.specs.Work.{number_code}
+use Rattle.rv_idioms.specs.Operations.{number_code}
 use Rattle.rv_select.proofs.Compared.{number_form}
-use Rattle.rv_select.proofs.Formed.{puts_all, of_one}
+use Rattle.rv_emit.proofs.Appended.{puts_all}
+use Rattle.rv_select.proofs.Formed.{of_one}
 use Rattle.rv_select.proofs.comparisons.with_number.Goals as goal
 
 pub returns-clause-words : goal.returns-clause-words

@@ -4,9 +4,10 @@ use Rattle.rv_instr.specs.declared.instr.Instr.{Instr}
 use Rattle.purecap_abi.proofs.Ranges.{on_ok}
 use Rattle.select_words.specs.Operations.{compare_zero}
 use Rattle.rv_select.specs.Choosing.{chosen}
-use Rattle.rv_select.specs.Work.{zero_code}
+use Rattle.rv_idioms.specs.Operations.{zero_code}
 use Rattle.rv_select.proofs.Compared.{zero_form}
-use Rattle.rv_select.proofs.Formed.{puts_all, of_one}
+use Rattle.rv_emit.proofs.Appended.{puts_all}
+use Rattle.rv_select.proofs.Formed.{of_one}
 use Rattle.rv_select.proofs.comparisons.with_zero.Goals as goal
 
 pub returns-clause-words : goal.returns-clause-words

@@ -2,7 +2,7 @@ use Rattle.std.proofs.Common.{Bool, subst, sym, ◌∙◌}
 use Rattle.purecap_abi.proofs.Ranges.{on_ok}
 use Rattle.select_words.specs.Operations.{CopiedOr}
 use Rattle.rv_select.specs.Choosing.{chosen}
-use Rattle.rv_select.specs.Growing.{Puts}
+use Rattle.rv_emit.specs.Growing.{Puts}
 use Rattle.rv_select.proofs.conversions.between.Goals as goal
 
 pub returns-then-is_widening-clause-words : goal.returns-then-is_widening-clause-words

@@ -3,7 +3,7 @@ use Rattle.purecap_abi.proofs.Ranges.{on_ok}
 use Rattle.tac_ir.specs.declared.code.TacKind.{TacKind}
 use Rattle.select_words.specs.Operations.{ConversionBy}
 use Rattle.rv_select.specs.Choosing.{chosen}
-use Rattle.rv_select.specs.Growing.{Puts}
+use Rattle.rv_emit.specs.Growing.{Puts}
 use Rattle.rv_select.proofs.conversions.conversion.Goals as goal
 
 pub returns-in_default-Cap-clause-words : goal.returns-in_default-Cap-clause-words

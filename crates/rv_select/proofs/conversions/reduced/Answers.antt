@@ -2,7 +2,8 @@ use Rattle.std.proofs.Common.{refl}
 use Rattle.purecap_abi.proofs.Ranges.{on_ok}
 use Rattle.select_words.specs.Operations.{Reduces, kept_code}
 use Rattle.rv_select.specs.Choosing.{chosen}
-use Rattle.rv_select.proofs.Formed.{puts_all, of_one}
+use Rattle.rv_emit.proofs.Appended.{puts_all}
+use Rattle.rv_select.proofs.Formed.{of_one}
 use Rattle.rv_select.proofs.conversions.reduced.Goals as goal
 
 pub returns-clause-words : goal.returns-clause-words

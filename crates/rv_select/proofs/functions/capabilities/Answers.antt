@@ -1,4 +1,4 @@
-use Rattle.rv_select.proofs.Called.{on_both}
+use Rattle.rv_emit.proofs.Appended.{on_both}
 use Rattle.rv_select.proofs.Controls.{passing}
 use Rattle.rv_select.proofs.functions.capabilities.Goals as goal
 

@@ -1,5 +1,5 @@
 use Rattle.std.proofs.Common.{◌<◌, ◌^◌, rules}
-use Rattle.rv_select.proofs.Called.{on_both}
+use Rattle.rv_emit.proofs.Appended.{on_both}
 use Rattle.rv_select.proofs.Controls.{passing}
 use Rattle.rv_select.proofs.functions.computation.Goals as goal
 

@@ -1,6 +1,6 @@
 use Rattle.purecap_abi.proofs.Ranges.{on_ok}
 use Rattle.rv_select.specs.Choosing.{chosen}
-use Rattle.rv_select.proofs.Called.{on_both}
+use Rattle.rv_emit.proofs.Appended.{on_both}
 use Rattle.rv_select.proofs.Controls.{label_selected, jump_selected, return_selected, service_selected}
 use Rattle.rv_select.proofs.functions.control.Goals as goal
 

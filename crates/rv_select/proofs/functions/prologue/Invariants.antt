@@ -1,5 +1,5 @@
 use Rattle.std.proofs.Common.{◌≡◌, ◌+◌, ◌++◌, ◌<◌, ◌≤◌, length, take}
-use Rattle.rv_select.specs.Growing.{entering, trapping}
+use Rattle.rv_emit.specs.Growing.{entering, trapping}
 use Rattle.rv_select.proofs.functions.prologue.Given as goal
 
 abbrev pub invariant-loop-k : goal.invariant-loop-k

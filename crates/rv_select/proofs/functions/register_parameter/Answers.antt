@@ -2,9 +2,9 @@ use Rattle.std.proofs.Common.{sym, ◌∙◌, subst}
 use Rattle.purecap_abi.proofs.Ranges.{on_ok}
 use Rattle.rv_select.specs.declared.homes.Place.TheVariants as place
 use Rattle.rv_select.specs.Choosing.{chosen}
-use Rattle.rv_select.specs.Growing.{Puts}
+use Rattle.rv_emit.specs.Growing.{Puts}
 use Rattle.rv_select.specs.Parameters.{Settles}
-use Rattle.rv_select.proofs.Choices.{puts_none}
+use Rattle.rv_emit.proofs.Appended.{puts_none}
 use Rattle.rv_select.proofs.Params.{home_at, settled_here, settled_move, settled_slot}
 use Rattle.rv_select.proofs.functions.register_parameter.Goals as goal
 

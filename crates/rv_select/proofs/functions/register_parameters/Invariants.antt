@@ -1,7 +1,7 @@
 use Rattle.std.proofs.Common.{◌≡◌, ◌+◌, ◌*◌, ◌≤◌}
 use Rattle.std.specs.Prelude.{vec_len}
 use Rattle.rv_select.specs.Choosing.{chosen}
-use Rattle.rv_select.specs.Growing.{Puts}
+use Rattle.rv_emit.specs.Growing.{Puts}
 use Rattle.rv_select.specs.Parameters.{TakesParameters, AreSettled}
 use Rattle.rv_select.proofs.functions.register_parameters.Given as goal
 

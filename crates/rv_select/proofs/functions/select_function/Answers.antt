@@ -2,7 +2,7 @@ use Rattle.std.proofs.Common.{◌≡◌, ◌<◌, length, refl, sym, ap, ◌∙�
 use Rattle.std.specs.List.{sum_by}
 use Rattle.tac_ir.specs.Costs.{cost}
 use Rattle.rv_select.specs.Choosing.{chosen}
-use Rattle.rv_select.proofs.Called.{on_both}
+use Rattle.rv_emit.proofs.Appended.{on_both}
 use Rattle.rv_select.proofs.Noted.{selects_next}
 use Rattle.rv_select.proofs.Standing.{function_put}
 use Rattle.rv_select.proofs.TakeSums.{sum_step, sum_room}

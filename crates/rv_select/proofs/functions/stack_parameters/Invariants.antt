@@ -2,7 +2,7 @@ use Rattle.std.proofs.Common.{◌-◌, ◌*◌, ◌≤◌}
 use Rattle.std.specs.Prelude.{max}
 use Rattle.select_words.specs.Entries.{ForEach, StackWords}
 use Rattle.rv_select.specs.Choosing.{chosen}
-use Rattle.rv_select.specs.Growing.{Grows, Puts}
+use Rattle.rv_emit.specs.Growing.{Grows, Puts}
 use Rattle.rv_select.specs.Parameters.{TakesParameters}
 use Rattle.rv_select.proofs.functions.stack_parameters.Given as goal
 

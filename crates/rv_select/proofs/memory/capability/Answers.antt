@@ -3,8 +3,9 @@ use Rattle.rv_instr.specs.declared.instr.Instr.TheVariants.{CapGet, CapReg}
 use Rattle.purecap_abi.proofs.Ranges.{on_ok}
 use Rattle.select_words.specs.Capabilities.{OneOfOne, OneOfTwo, Seconds, intrinsic_of}
 use Rattle.rv_select.specs.Choosing.{chosen}
-use Rattle.rv_select.specs.Growing.{Size}
-use Rattle.rv_select.proofs.Formed.{puts_one, of_one, of_two, intrinsic_one, intrinsic_two}
+use Rattle.rv_emit.specs.Growing.{Size}
+use Rattle.rv_emit.proofs.Appended.{puts_one}
+use Rattle.rv_select.proofs.Formed.{of_one, of_two, intrinsic_one, intrinsic_two}
 use Rattle.rv_select.proofs.memory.capability.Goals as goal
 use Rattle.rv_select.proofs.memory.capability.Goals.{in-OfOne+in_ok-put-in-OfOne}
 use Rattle.rv_select.proofs.memory.capability.Goals.{in-OfTwo+in_ok-b-in-OfTwo+in_ok-put-in-OfTwo}

@@ -1,10 +1,9 @@
 use Rattle.std.proofs.Common.{◌≡◌, ◌∙◌, ◌/◌, ◌<◌, ◌^◌, subst, sym, arith}
 use Rattle.purecap_abi.proofs.Ranges.{on_ok}
 use Rattle.rv_select.specs.Choosing.{chosen}
-use Rattle.rv_select.specs.Growing.{Puts}
-use Rattle.rv_select.specs.Noting.{Twice}
-use Rattle.rv_select.specs.Objects.{RoundWords}
-use Rattle.rv_select.proofs.Called.{on_both}
+use Rattle.rv_emit.specs.Growing.{Puts}
+use Rattle.rv_idioms.specs.Copies.{Twice, RoundWords}
+use Rattle.rv_emit.proofs.Appended.{on_both}
 use Rattle.rv_select.proofs.Units.{copied_nothing, copied_one, copied_round}
 use Rattle.rv_select.proofs.memory.copy_units.Goals as goal
 

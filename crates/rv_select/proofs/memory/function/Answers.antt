@@ -2,7 +2,7 @@ use Rattle.std.proofs.Common.{◌≡◌, ◌+◌, ◌*◌, ◌<◌, subst, arith
 use Rattle.purecap_abi.proofs.Ranges.{on_ok}
 use Rattle.select_words.specs.Capabilities.{EntryWords}
 use Rattle.rv_select.specs.Choosing.{chosen}
-use Rattle.rv_select.specs.Growing.{Puts, reach}
+use Rattle.rv_emit.specs.Growing.{Puts, reach}
 use Rattle.rv_select.proofs.memory.function.Goals as goal
 
 pub returns-clause-words : goal.returns-clause-words

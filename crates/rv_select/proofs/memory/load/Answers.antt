@@ -1,5 +1,4 @@
-use Rattle.std.proofs.Common.{refl}
-use Rattle.rv_select.proofs.Called.{on_both}
+use Rattle.rv_emit.proofs.Appended.{on_both}
 use Rattle.rv_select.specs.Choosing.{chosen}
 use Rattle.rv_select.proofs.Accessed.{load_selected}
 use Rattle.rv_select.proofs.memory.load.Goals as goal

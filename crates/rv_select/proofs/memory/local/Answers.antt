@@ -5,7 +5,8 @@ use Rattle.rv_instr.specs.declared.instr.Instr.{Instr}
 use Rattle.rv_instr.specs.declared.instr.Instr.TheVariants.{CapReg}
 use Rattle.rv_instr.specs.declared.ops.CapRegOp.TheVariants.{Csetboundsexact}
 use Rattle.purecap_abi.proofs.Ranges.{on_ok}
-use Rattle.rv_select.proofs.Zeroed.{number_put, local_of}
+use Rattle.rv_idioms.proofs.Zeroes.{number_put}
+use Rattle.rv_select.proofs.Zeroed.{local_of}
 use Rattle.rv_select.proofs.memory.local.Goals as goal
 
 pub returns-clause-words : goal.returns-clause-words

@@ -5,7 +5,8 @@ use Rattle.purecap_abi.proofs.Ranges.{on_ok}
 use Rattle.select_words.specs.Capabilities.{OneOfTwo}
 use Rattle.select_words.specs.Forms.{Amounts}
 use Rattle.rv_select.specs.Choosing.{chosen}
-use Rattle.rv_select.proofs.Formed.{puts_one, of_two}
+use Rattle.rv_emit.proofs.Appended.{puts_one}
+use Rattle.rv_select.proofs.Formed.{of_two}
 use Rattle.rv_select.proofs.memory.offset_far.Goals as goal
 
 pub returns-clause-words : goal.returns-clause-words

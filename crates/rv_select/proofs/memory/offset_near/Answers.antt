@@ -6,7 +6,8 @@ use Rattle.rv_instr.specs.declared.ops.CapImmOp.TheVariants.{Cincoffsetimm}
 use Rattle.purecap_abi.proofs.Ranges.{on_ok}
 use Rattle.select_words.specs.Capabilities.{Advance}
 use Rattle.rv_select.specs.Choosing.{chosen}
-use Rattle.rv_select.proofs.Formed.{puts_one, of_one}
+use Rattle.rv_emit.proofs.Appended.{puts_one}
+use Rattle.rv_select.proofs.Formed.{of_one}
 use Rattle.rv_select.proofs.memory.offset_near.Goals as goal
 
 pub returns-clause-words : goal.returns-clause-words

@@ -4,7 +4,7 @@ use Rattle.std.proofs.lemmas.Int.{to_z-of_z}
 use Rattle.tac_ir.specs.declared.code.Amount.{Amount}
 use Rattle.rv_select.specs.Choosing.{chosen}
 use Rattle.rv_select.specs.Work.{IsAmount}
-use Rattle.rv_select.proofs.WordNumbers.{number_bits}
+use Rattle.rv_emit.proofs.WordNumbers.{number_bits}
 use Rattle.rv_select.proofs.memory.short_amount.Goals as goal
 
 pub returns-in-Ok-clause-is : goal.returns-in-Ok-clause-is

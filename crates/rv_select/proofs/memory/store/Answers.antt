@@ -1,9 +1,9 @@
-use Rattle.std.proofs.Common.{ap, refl, pos, ◌++◌, ◌∷◌, [], ◌∙◌}
+use Rattle.std.proofs.Common.{ap, pos, ◌++◌, ◌∷◌, [], ◌∙◌}
 use Rattle.rv_instr.specs.declared.instr.Instr.{Instr}
 use Rattle.rv_instr.specs.declared.instr.Instr.TheVariants.{Store}
 use Rattle.rv_instr.specs.declared.ops.StoreOp.{StoreOp}
 use Rattle.rv_select.specs.Choosing.{chosen}
-use Rattle.rv_select.proofs.Called.{on_both}
+use Rattle.rv_emit.proofs.Appended.{on_both}
 use Rattle.rv_select.proofs.Accessed.{store_selected}
 use Rattle.rv_select.proofs.memory.store.Goals as goal
 

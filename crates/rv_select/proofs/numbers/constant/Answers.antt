@@ -4,7 +4,7 @@ use Rattle.std.specs.Prelude.{Result, Ok, Err, IfSome}
 use Rattle.std.specs.Result.{OkIff, result_ok}
 use Rattle.cap_machine.specs.Integers.{extended}
 use Rattle.rv_select.specs.Written.{IsConstant}
-use Rattle.rv_select.proofs.WordNumbers.{number_bits}
+use Rattle.rv_emit.proofs.WordNumbers.{number_bits}
 use Rattle.rv_select.proofs.numbers.constant.Goals as goal
 
 if_narrow : {E : Type 0} (r : Result ℤ E) (value : ℕ) (z : ℤ) → value < 2 ^ 64 → z ≡ to_z w64 value

@@ -5,7 +5,7 @@ use Rattle.purecap_abi.proofs.Ranges.{on_ok}
 use Rattle.rv_instr.specs.Range.{count_bits}
 use Rattle.rv_instr.specs.declared.instr.Instr.TheVariants as word
 use Rattle.rv_select.specs.Choosing.{chosen}
-use Rattle.rv_select.specs.Growing.{Puts}
+use Rattle.rv_emit.specs.Growing.{Puts}
 use Rattle.rv_select.specs.Planning.{ChoosesWork, WorkWord}
 use Rattle.rv_select.specs.declared.operations.Work.{Work}
 use Rattle.rv_select.proofs.Planned.{one_word, two_word}

@@ -3,7 +3,7 @@ use Rattle.purecap_abi.proofs.Ranges.{on_ok}
 use Rattle.select_words.specs.Operations.{finish_code, IntegerWords}
 use Rattle.rv_select.specs.Choosing.{chosen}
 use Rattle.rv_select.specs.Planning.{by_number, WorkWords}
-use Rattle.rv_select.proofs.Choices.{puts_map}
+use Rattle.rv_emit.proofs.Appended.{puts_map}
 use Rattle.rv_select.proofs.Planned.{worked, planned, chosen_work}
 use Rattle.rv_select.proofs.operations.integer.Goals as goal
 

@@ -2,7 +2,7 @@ use Rattle.std.proofs.Common.{[], ◌∷◌, pos, ◌∙◌}
 use Rattle.rv_instr.specs.declared.instr.Instr.TheVariants.{Cjal}
 use Rattle.select_words.specs.Services.{ask}
 use Rattle.purecap_abi.proofs.Ranges.{on_ok}
-use Rattle.rv_select.proofs.Skips.{more}
+use Rattle.rv_emit.proofs.Appended.{more}
 use Rattle.rv_select.proofs.selection.begin.Goals as goal
 
 pub returns-clause-text : goal.returns-clause-text

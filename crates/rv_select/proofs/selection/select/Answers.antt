@@ -1,7 +1,7 @@
 use Rattle.std.proofs.Common.{◌≡◌, ◌+◌, ◌≤◌, length, sym, ap, ◌∙◌, arith, subst}
 use Rattle.std.specs.List.{sum_by}
 use Rattle.tac_ir.specs.Costs.{function_cost}
-use Rattle.rv_select.specs.Growing.{Size, AreEntries}
+use Rattle.rv_emit.specs.Growing.{Size, AreEntries}
 use Rattle.rv_select.specs.Selectable.{before, table_of}
 use Rattle.rv_select.proofs.Together.{program_is_selected}
 use Rattle.rv_select.proofs.selection.select.Goals as goal

@@ -4,7 +4,7 @@ use Rattle.tac_lower.proofs.Assigned.{steps_variable, steps_variable_old}
 use Rattle.tac_lower.proofs.Keeping.{maybe_kept, maybe_same, node_at}
 use Rattle.tac_lower.proofs.Spending.{nothing, plainly, and, extra_small, owned, last_and}
 use Rattle.tac_lower.proofs.Steps.{start, grew, tail_grew, still}
-use Rattle.tac_lower.proofs.Wells.{kept, as_same}
+use Rattle.tac_emit.proofs.Wells.{kept, as_same}
 use Rattle.tac_lower.proofs.expressions.variable_step.Goals as goal
 
 pub give-requires : goal.give-requires

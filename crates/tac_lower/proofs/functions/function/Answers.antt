@@ -12,7 +12,7 @@ use Rattle.tac_lower.proofs.Zeroing.{objects_once, empty_zeroing, empty_lone, fi
 use Rattle.tac_lower.proofs.Shortness.{short_code}
 use Rattle.tac_lower.specs.Programs.{AreHomes}
 use Rattle.tac_lower.proofs.Homes.{parameters_there}
-use Rattle.tac_lower.proofs.Wells.{keeps_then}
+use Rattle.tac_emit.proofs.Wells.{keeps_then}
 use Rattle.tac_lower.proofs.Whole.{function_is, code_none}
 use Rattle.tac_lower.proofs.functions.function.Goals as goal
 

@@ -1,7 +1,7 @@
 use Rattle.std.proofs.Common.{◌+◌, length, refl, ap, sym, subst, arith}
 use Rattle.tac_lower.proofs.Homes.{HomesTo, variable_at, object_among, objects_at, homes_none, homes_at, homes_all}
 use Rattle.tac_lower.proofs.Homes.{homes_add, parameters_kept, parameters_there, taken_few}
-use Rattle.tac_lower.proofs.Spending.{spent_within}
+use Rattle.tac_emit.proofs.Spending.{spent_within}
 use Rattle.tac_lower.proofs.Zeroing.{Apart, apart_none, apart_more}
 use Rattle.tac_lower.proofs.functions.homes.Goals as goal
 

@@ -3,7 +3,7 @@ use Rattle.std.proofs.Common.{length, get_or, ap, ◌∙◌, arith}
 use Rattle.c_tree.specs.WellTyped.{type_in}
 use Rattle.tac_lower.specs.Nodes.{kept_as, or_int}
 use Rattle.tac_lower.proofs.Homes.{number_of, parameters_none, parameters_more, parameters_all, parameters_add}
-use Rattle.tac_lower.proofs.Spending.{spent_within}
+use Rattle.tac_emit.proofs.Spending.{spent_within}
 use Rattle.tac_lower.proofs.functions.parameter_temps.Goals as goal
 
 pub loop-x-init : goal.loop-x-init

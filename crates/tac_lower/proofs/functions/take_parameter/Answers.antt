@@ -1,5 +1,5 @@
 use Rattle.std.proofs.Common.{Some, ap, sym, ◌∙◌, arith}
-use Rattle.tac_lower.proofs.Spending.{spent_same, taken_enters, enters_within}
+use Rattle.tac_emit.proofs.Spending.{spent_same, taken_enters, enters_within}
 use Rattle.tac_lower.proofs.Steps.{start}
 use Rattle.tac_lower.proofs.functions.take_parameter.Goals as goal
 

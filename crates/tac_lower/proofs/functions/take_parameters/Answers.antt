@@ -1,14 +1,14 @@
 use Rattle.std.proofs.lemmas.Result.{IfOk-from_err as fails}
 use Rattle.std.proofs.Common.{get_or, length, ap, sym, subst, refl, arith}
-use Rattle.tac_lower.specs.Emitted.{HasKind}
+use Rattle.tac_emit.specs.Emitted.{HasKind}
 use Rattle.tac_lower.specs.Signed.{kept_parameter}
 use Rattle.std.proofs.lemmas.List.{take_all}
 use Rattle.tac_lower.specs.Programs.{taking}
-use Rattle.tac_lower.specs.Shown.{Emits}
-use Rattle.tac_lower.proofs.Emitting.{none_emits}
+use Rattle.tac_emit.specs.Adding.{Emits}
+use Rattle.tac_emit.proofs.Emitting.{none_emits}
 use Rattle.tac_lower.proofs.Taking.{takes_more}
 use Rattle.tac_lower.proofs.Homes.{number_of}
-use Rattle.tac_lower.proofs.Spending.{spent_same, taken_enters, enters_then, enters_within}
+use Rattle.tac_emit.proofs.Spending.{spent_same, taken_enters, enters_then, enters_within}
 use Rattle.tac_lower.specs.Zeroed.{is_taken}
 use Rattle.tac_lower.proofs.Steps.{start, both, at_most, still}
 use Rattle.tac_lower.proofs.Zeroing.{taken_next, taken_some}

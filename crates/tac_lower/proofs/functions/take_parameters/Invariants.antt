@@ -1,9 +1,9 @@
 use Rattle.std.proofs.Common.{◌≡◌, ◌*◌, take}
 use Rattle.tac_lower.specs.Scenes.{Lowered}
 use Rattle.tac_lower.specs.Programs.{taking}
-use Rattle.tac_lower.specs.Shown.{Emits}
+use Rattle.tac_emit.specs.Adding.{Emits}
 use Rattle.tac_lower.specs.Signed.{kept_parameter}
-use Rattle.tac_lower.specs.Spent.{Enters}
+use Rattle.tac_emit.specs.Spent.{Enters}
 use Rattle.tac_lower.specs.Zeroed.{taken}
 use Rattle.tac_lower.proofs.functions.take_parameters.Given as goal
 

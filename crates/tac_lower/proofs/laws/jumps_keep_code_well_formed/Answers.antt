@@ -1,4 +1,4 @@
-use Rattle.tac_lower.proofs.Labels.{jump_grown, branch_grown, back_grown}
+use Rattle.tac_emit.proofs.Labels.{jump_grown, branch_grown, back_grown}
 use Rattle.tac_lower.proofs.laws.jumps_keep_code_well_formed.Goals as goal
 
 pub returns : goal.returns

@@ -1,9 +1,9 @@
-use Rattle.tac_lower.proofs.Spending.{spent_then, spent_within}
+use Rattle.tac_emit.proofs.Spending.{spent_then, spent_within}
 use Rattle.std.proofs.Common.{◌≡◌, ◌∙◌, sym, subst, arith}
 use Rattle.std.proofs.lemmas.Result.{IfOk-weaker, IfOk-from_err as fails}
 use Rattle.tac_ir.specs.declared.code.TacKind.TheVariants as kinds
-use Rattle.tac_lower.specs.Emitted.{HasKind}
-use Rattle.tac_lower.proofs.Wells.{grown_then, kept, adds_then, adds_within}
+use Rattle.tac_emit.specs.Emitted.{HasKind}
+use Rattle.tac_emit.proofs.Wells.{grown_then, adds_then, adds_within, kept}
 use Rattle.tac_lower.proofs.Constants.{kept_count, kinds_agree}
 use Rattle.tac_lower.proofs.Operating.{changed_alike_emits, changed_apart_emits}
 use Rattle.tac_lower.proofs.operations.changed_whole.Goals as goal

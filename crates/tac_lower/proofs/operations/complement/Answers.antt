@@ -1,6 +1,6 @@
-use Rattle.tac_lower.proofs.Spending.{spent_then}
+use Rattle.tac_emit.proofs.Spending.{spent_then}
 use Rattle.std.proofs.lemmas.Result.{IfOk-weaker, IfOk-from_err as fails}
-use Rattle.tac_lower.proofs.Wells.{grown_then, kept, adds_then}
+use Rattle.tac_emit.proofs.Wells.{grown_then, adds_then, kept}
 use Rattle.tac_lower.proofs.Operating.{complement_emits}
 use Rattle.tac_lower.proofs.operations.complement.Goals as goal
 

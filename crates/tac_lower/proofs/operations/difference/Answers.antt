@@ -1,7 +1,7 @@
-use Rattle.tac_lower.proofs.Spending.{spent_then, spent_within}
+use Rattle.tac_emit.proofs.Spending.{spent_then, spent_within}
 use Rattle.std.proofs.Common.{arith}
 use Rattle.std.proofs.lemmas.Result.{IfOk-weaker, IfOk-from_err as fails}
-use Rattle.tac_lower.proofs.Wells.{grown_then, kept, adds_then}
+use Rattle.tac_emit.proofs.Wells.{grown_then, adds_then, kept}
 use Rattle.ck_int.specs.declared.kinds.IntKind.TheVariants as int
 use Rattle.tac_lower.proofs.Constants.{wide_fits}
 use Rattle.tac_lower.proofs.Operating.{one_apart_emits, apart_emits}

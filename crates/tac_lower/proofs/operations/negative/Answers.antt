@@ -1,7 +1,7 @@
 use Rattle.std.proofs.Common.{refl}
-use Rattle.tac_lower.proofs.Spending.{spent_then}
+use Rattle.tac_emit.proofs.Spending.{spent_then}
 use Rattle.std.proofs.lemmas.Result.{IfOk-weaker, IfOk-from_err as fails}
-use Rattle.tac_lower.proofs.Wells.{grown_then, kept, adds_then}
+use Rattle.tac_emit.proofs.Wells.{grown_then, adds_then, kept}
 use Rattle.tac_ir.specs.declared.code.TacKind.TheVariants as kinds
 use Rattle.tac_lower.proofs.Constants.{zero_fits}
 use Rattle.tac_lower.proofs.Operating.{negative_emits}

@@ -1,9 +1,9 @@
 use Rattle.std.proofs.lemmas.Result.{IfOk-from_err as fails}
-use Rattle.tac_lower.proofs.Spending.{spent_then, spent_within}
+use Rattle.tac_emit.proofs.Spending.{spent_then, spent_within}
 use Rattle.std.proofs.Common.{arith, subst, sym, refl}
 use Rattle.tac_ir.specs.declared.code.TacKind.TheVariants as kinds
-use Rattle.tac_lower.specs.Emitted.{IsWide}
-use Rattle.tac_lower.proofs.Wells.{grown_then, kept, adds_then}
+use Rattle.tac_emit.specs.Emitted.{IsWide}
+use Rattle.tac_emit.proofs.Wells.{grown_then, adds_then, kept}
 use Rattle.tac_lower.proofs.Constants.{wide_fits, wide_is}
 use Rattle.tac_lower.proofs.Operating.{scaled_wide_emits, scaled_emits}
 use Rattle.std.proofs.Common.{◌∙◌}

@@ -1,7 +1,7 @@
 use Rattle.std.proofs.Common.{refl}
-use Rattle.tac_lower.proofs.Spending.{spent_then}
+use Rattle.tac_emit.proofs.Spending.{spent_then}
 use Rattle.std.proofs.lemmas.Result.{IfOk-weaker, IfOk-from_err as fails}
-use Rattle.tac_lower.proofs.Wells.{grown_then, adds_then}
+use Rattle.tac_emit.proofs.Wells.{grown_then, adds_then}
 use Rattle.tac_lower.proofs.Operating.{signed_emits}
 use Rattle.tac_lower.proofs.operations.signed_capability.Goals as goal
 

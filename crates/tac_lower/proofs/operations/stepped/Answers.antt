@@ -1,8 +1,8 @@
-use Rattle.tac_lower.specs.Emitted.{HasKind}
+use Rattle.tac_emit.specs.Emitted.{HasKind}
 use Rattle.std.proofs.Common.{refl, subst}
-use Rattle.tac_lower.proofs.Spending.{spent_then}
+use Rattle.tac_emit.proofs.Spending.{spent_then}
 use Rattle.std.proofs.lemmas.Result.{IfOk-weaker, IfOk-from_err as fails}
-use Rattle.tac_lower.proofs.Wells.{grown_then, kept, adds_then}
+use Rattle.tac_emit.proofs.Wells.{grown_then, adds_then, kept}
 use Rattle.tac_lower.proofs.Constants.{one_fits}
 use Rattle.tac_lower.proofs.Operating.{stepped_emits}
 use Rattle.tac_lower.proofs.operations.stepped.Goals as goal

@@ -1,7 +1,7 @@
 use Rattle.std.proofs.lemmas.Result.{IfOk-from_err as fails}
-use Rattle.tac_lower.specs.Emitted.{HasKind, CountFits}
+use Rattle.tac_emit.specs.Emitted.{HasKind, CountFits}
 use Rattle.std.proofs.Common.{subst, sym}
-use Rattle.tac_lower.proofs.Wells.{kept, grown_then}
+use Rattle.tac_emit.proofs.Wells.{kept, grown_then}
 use Rattle.tac_lower.proofs.Constants.{one_fits}
 use Rattle.tac_lower.proofs.operations.stepped_apart.Goals as goal
 

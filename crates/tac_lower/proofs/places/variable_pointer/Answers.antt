@@ -1,7 +1,7 @@
 use Rattle.std.proofs.Common.{refl, arith}
 use Rattle.std.proofs.lemmas.Result.{IfOk-weaker}
 use Rattle.tac_lower.proofs.Keeping.{two_values}
-use Rattle.tac_lower.proofs.Spending.{spent_within}
+use Rattle.tac_emit.proofs.Spending.{spent_within}
 use Rattle.tac_lower.proofs.Steps.{start, tail_grew}
 use Rattle.tac_lower.proofs.Pointing.{place_object, place_missing}
 use Rattle.tac_lower.proofs.places.variable_pointer.Goals as goal

@@ -1,6 +1,6 @@
 use Rattle.std.proofs.lemmas.Result.{IfOk-from_err as fails}
 use Rattle.tac_lower.proofs.Keeping.{two_pointers}
-use Rattle.tac_lower.proofs.Wells.{grown_then, kept}
+use Rattle.tac_emit.proofs.Wells.{grown_then, kept}
 use Rattle.tac_lower.proofs.places.within.Goals as goal
 
 pub offset-requires-clause-same : goal.offset-requires-clause-same

@@ -19,8 +19,8 @@ use Rattle.tac_lower.proofs.Entering.{all_entered_next, all_entered_taken, hefty
 use Rattle.tac_lower.proofs.Zeroing.{all_zeroed_next, all_zeroed_taken}
 use Rattle.tac_lower.proofs.Scening.{opened_none}
 use Rattle.tac_lower.proofs.Spending.{nothing, of_code, of_entry, of_expression, parts_after, parts_within, parts_last}
-use Rattle.tac_lower.proofs.Spending.{parts_last_of, parts_last_and, parts_last_pushed, begun_spent, forked_spent}
-use Rattle.tac_lower.proofs.Spending.{labelled_spent}
+use Rattle.tac_lower.proofs.Spending.{parts_last_of, parts_last_and, parts_last_pushed, begun_spent}
+use Rattle.tac_emit.proofs.Spending.{forked_spent, labelled_spent}
 use Rattle.tac_lower.proofs.Steps.{heavy, start, both, at_most, still, as_kind, room, less_room, tail, tail_grew}
 use Rattle.tac_lower.proofs.Steps.{tail_stands, fork, label, opened, turned, first_open, second_open, opened_has}
 use Rattle.tac_lower.proofs.Steps.{opened_room}

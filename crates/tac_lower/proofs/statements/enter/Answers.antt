@@ -4,7 +4,7 @@ use Rattle.std.proofs.Common.{arith}
 use Rattle.std.proofs.lemmas.List.{take_more, take_all}
 use Rattle.tac_lower.proofs.Sites.{entered_none, entered_same, entered_more}
 use Rattle.tac_lower.proofs.Entering.{entered_next, entered_taken}
-use Rattle.tac_lower.proofs.Spending.{spent_same, taken_enters, enters_then, enters_within}
+use Rattle.tac_emit.proofs.Spending.{spent_same, taken_enters, enters_then, enters_within}
 use Rattle.tac_lower.proofs.Steps.{start, both, at_most}
 use Rattle.tac_lower.proofs.Zeroing.{zeroed_next, zeroed_some}
 use Rattle.tac_lower.proofs.statements.enter.Goals as goal

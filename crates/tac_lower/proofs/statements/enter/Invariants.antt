@@ -1,7 +1,7 @@
 use Rattle.std.proofs.Common.{◌*◌, take}
 use Rattle.tac_lower.specs.Parts.{entered}
 use Rattle.tac_lower.specs.Scenes.{Lowered}
-use Rattle.tac_lower.specs.Spent.{Enters}
+use Rattle.tac_emit.specs.Spent.{Enters}
 use Rattle.tac_lower.specs.Zeroed.{zeroed}
 use Rattle.tac_lower.specs.Stating.{ShowsEntered, routine}
 use Rattle.tac_lower.proofs.statements.enter.Given as goal

@@ -4,7 +4,7 @@ use Rattle.tac_lower.proofs.Bodies.{temp_at, tail_entered}
 use Rattle.tac_lower.proofs.Constants.{zero_fits}
 use Rattle.tac_lower.proofs.Steps.{start, tail_grew}
 use Rattle.tac_lower.proofs.Entering.{entered_one}
-use Rattle.tac_lower.proofs.Spending.{spent_same, taken_enters, enters_within}
+use Rattle.tac_emit.proofs.Spending.{spent_same, taken_enters, enters_within}
 use Rattle.tac_lower.proofs.Zeroing.{zeroed_one}
 use Rattle.tac_lower.proofs.Sites.{entered_parameter, entered_value, entered_object, no_home}
 use Rattle.tac_lower.proofs.statements.enter_variable.Goals as goal

@@ -11,7 +11,7 @@ use Rattle.c_tree.specs.Counts.{parts}
 use Rattle.tac_lower.specs.Nodes.{expression}
 use Rattle.tac_lower.proofs.Spending.{nothing, and, last, last_and}
 use Rattle.tac_lower.proofs.Steps.{heavy, grew, still, as_kind, room, less_room, tail_grew}
-use Rattle.tac_lower.proofs.Wells.{kept, as_capability}
+use Rattle.tac_emit.proofs.Wells.{kept, as_capability}
 use Rattle.tac_lower.proofs.statements.initialise_object.Goals as goal
 
 pub struct_copy-requires-clause-destination : goal.struct_copy-requires-clause-destination

@@ -1,6 +1,6 @@
-use Rattle.tac_lower.proofs.Spending.{spent_then}
+use Rattle.tac_emit.proofs.Spending.{spent_then}
 use Rattle.std.proofs.lemmas.Result.{IfOk-weaker, IfOk-from_err as fails}
-use Rattle.tac_lower.proofs.Wells.{grown_then, kept, adds_then, as_temp}
+use Rattle.tac_emit.proofs.Wells.{grown_then, adds_then, as_temp, kept}
 use Rattle.tac_lower.proofs.Cases.{compare_emits}
 use Rattle.tac_lower.proofs.switches.compare.Goals as goal
 

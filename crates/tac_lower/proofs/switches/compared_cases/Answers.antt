@@ -7,14 +7,14 @@ use Rattle.std.proofs.lemmas.List.Sorted.{IsNonDecreasingBy-from_sort_by_key, an
 use Rattle.tac_lower.specs.Cases.{Compared, labels_as}
 use Rattle.tac_lower.proofs.Cases.{labels_both, compared_more, shows_cases}
 use Rattle.tac_lower.specs.declared.switches.Case.{Case}
-use Rattle.tac_lower.specs.Emitted.{IsOpen}
+use Rattle.tac_emit.specs.Emitted.{IsOpen}
 use Rattle.tac_lower.specs.Scenes.{Opened}
 use Rattle.tac_lower.specs.Statements.{labels_of}
 use Rattle.tac_lower.proofs.Scening.{opened_none, opened_then, grown_lowered}
-use Rattle.tac_lower.proofs.Spending.{spent_then, spent_within, labelled_spent}
+use Rattle.tac_emit.proofs.Spending.{spent_then, spent_within, labelled_spent}
 use Rattle.tac_lower.proofs.Switching.{opened_permuted, opened_at_most, opened_grown, opened_label, open_beside}
 use Rattle.tac_lower.proofs.Switching.{open_here, open_grown, labels_pushed, switched_kept}
-use Rattle.tac_lower.proofs.Wells.{keeps_same, keeps_then}
+use Rattle.tac_emit.proofs.Wells.{keeps_same, keeps_then}
 use Rattle.tac_lower.proofs.switches.compared_cases.Goals as goal
 use Rattle.tac_lower.proofs.switches.compared_cases.Goals.{then-is_none, else-is_none}
 

@@ -1,8 +1,8 @@
 use Rattle.std.proofs.Common.{◌+◌, ◌*◌, take}
 use Rattle.tac_lower.specs.Cases.{Compared, labels_as}
-use Rattle.tac_lower.specs.Emitted.{IsOpen}
+use Rattle.tac_emit.specs.Emitted.{IsOpen}
 use Rattle.tac_lower.specs.Scenes.{Opened}
-use Rattle.tac_lower.specs.Spent.{Spent}
+use Rattle.tac_emit.specs.Spent.{Spent}
 use Rattle.tac_lower.specs.Statements.{labels_of, IsSwitched}
 use Rattle.tac_lower.proofs.switches.compared_cases.Given as goal
 

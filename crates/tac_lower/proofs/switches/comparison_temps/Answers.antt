@@ -1,6 +1,6 @@
 use Rattle.std.proofs.lemmas.Result.{IfOk-from_err as fails}
-use Rattle.tac_lower.proofs.Spending.{spent_then}
-use Rattle.tac_lower.proofs.Wells.{kept, grown_then, adds_then}
+use Rattle.tac_emit.proofs.Spending.{spent_then}
+use Rattle.tac_emit.proofs.Wells.{kept, grown_then, adds_then}
 use Rattle.tac_lower.proofs.Cases.{compared_none}
 use Rattle.tac_lower.proofs.switches.comparison_temps.Goals as goal
 

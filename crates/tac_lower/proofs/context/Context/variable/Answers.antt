@@ -1,6 +1,6 @@
 use Rattle.std.proofs.Common.{subst, sym}
 use Rattle.std.proofs.lemmas.Option.{IfSome_then}
-use Rattle.tac_lower.specs.Emitted.{HasKind}
+use Rattle.tac_emit.specs.Emitted.{HasKind}
 use Rattle.tac_lower.specs.Nodes.{or_int}
 use Rattle.tac_lower.specs.Scenes.{frame_of}
 use Rattle.tac_lower.proofs.Nodes.{var_node}

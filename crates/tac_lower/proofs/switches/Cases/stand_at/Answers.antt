@@ -1,5 +1,5 @@
 use Rattle.std.proofs.lemmas.Result.{IfOk-from_err as fails}
-use Rattle.tac_lower.proofs.Spending.{spent_same, spent_then}
+use Rattle.tac_emit.proofs.Spending.{spent_same, spent_then}
 use Rattle.tac_lower.proofs.Switching.{stand_more, stand_none}
 use Rattle.std.proofs.Common.{refl, arith, sym, ◌∙◌}
 use Rattle.tac_lower.proofs.Cases as cases

@@ -1,6 +1,6 @@
 use Rattle.std.proofs.Common.{◌≡◌, ◌-◌, drop, length}
 use Rattle.tac_lower.specs.Cases.{StandSo, up_to, past}
-use Rattle.tac_lower.specs.Spent.{Spent}
+use Rattle.tac_emit.specs.Spent.{Spent}
 use Rattle.tac_lower.specs.Statements.{labels_of, StandUpTo}
 use Rattle.tac_lower.proofs.switches.Cases.stand_at.Given as goal
 

@@ -1,0 +1,9 @@
+pub mod Appended
+pub mod Contained
+pub mod Entries
+pub mod Grown
+pub mod Landed
+pub mod Led
+pub mod MadeNumbers
+pub mod Texts
+pub mod WordNumbers

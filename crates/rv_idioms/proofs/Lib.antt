@@ -1,0 +1,4 @@
+pub mod Allocated
+pub mod Copied
+pub mod Moved
+pub mod Zeroes

@@ -1,0 +1,4 @@
+pub mod Copies
+pub mod Heap
+pub mod Moves
+pub mod Operations

@@ -1,8 +1,0 @@
-use Rattle.rv_select.proofs.Grown.{growing_all}
-use Rattle.rv_select.proofs.emit.Code.put_all.Goals as goal
-
-pub invariant_of-self : goal.invariant_of-self
-invariant_of-self c = rw c.in_err-extend_from_slice.ensures.items c.self.invariant
-
-pub invariant_of-self-2 : goal.invariant_of-self-2
-invariant_of-self-2 c = growing_all _ _ _ _ _ _ _ c.in_ok-extend_from_slice.ensures.items c.self.invariant c.requires

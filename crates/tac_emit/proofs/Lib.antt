@@ -1,0 +1,5 @@
+pub mod Emitting
+pub mod Instructions
+pub mod Labels
+pub mod Spending
+pub mod Wells

@@ -1,0 +1,39 @@
+use Rattle.std.proofs.lemmas.Result.{IfOk-from_err as fails}
+use Rattle.tac_emit.proofs.Emitting.{emits_then}
+use Rattle.tac_emit.proofs.Wells.{grown_then, kept}
+use Rattle.tac_emit.proofs.emitter.Emitter.fresh_constant.Goals as goal
+
+pub returns-clause-has : goal.returns-clause-has
+returns-clause-has c = kept _ _ _ _ c.in_ok-t.ensures.has c.in_ok-constant.ensures.grown
+
+pub returns-clause-grown : goal.returns-clause-grown
+returns-clause-grown c = grown_then _ _ _ c.in_ok-t.ensures.grown c.in_ok-constant.ensures.grown
+
+pub returns-clause-emits : goal.returns-clause-emits
+returns-clause-emits c = emits_then c.in_ok-t.ensures.emits c.in_ok-constant.ensures.emits
+
+pub returns-in_err-t : goal.returns-in_err-t
+returns-in_err-t c =
+    let e = c.from_residual.ensures.0 in
+    record {
+      adds = fails _ _ e;
+      emits = fails _ _ e;
+      grown = fails _ _ e;
+      has = fails _ _ e;
+      next = fails _ _ e;
+      short = λ q. fails _ _ e;
+      spent = fails _ _ e;
+    }
+
+pub returns-in_err-constant : goal.returns-in_err-constant
+returns-in_err-constant c =
+    let e = c.from_residual-in_err-constant.ensures.0 in
+    record {
+      adds = fails _ _ e;
+      emits = fails _ _ e;
+      grown = fails _ _ e;
+      has = fails _ _ e;
+      next = fails _ _ e;
+      short = λ q. fails _ _ e;
+      spent = fails _ _ e;
+    }

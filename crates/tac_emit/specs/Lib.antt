@@ -1,0 +1,4 @@
+pub mod Adding
+pub mod Emitted
+pub mod Lone
+pub mod Spent
