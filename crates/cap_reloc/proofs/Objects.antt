@@ -2,7 +2,7 @@
 use Rattle.std.proofs.Common.{◌≡◌, ℕ, zero, suc, ◌+◌, ◌-◌, ◌<◌, ◌≤◌, min, max, List, [], ◌∷◌, length, get_or, map, Some}
 use Rattle.std.proofs.Common.{refl, sym, ap, ◌∙◌, subst, arith, inl, inr}
 use Rattle.std.specs.Prelude.{◌⊎◌, slice_get, slice_index}
-use Rattle.std.specs.List.{zip}
+use Rattle.std.specs.List.{All, zip}
 use Rattle.std.proofs.lemmas.Bool.{cases_lt}
 use Rattle.std.proofs.lemmas.Bool.Decides.{nat_tests}
 use Rattle.std.proofs.lemmas.List.{length-map, length-append, get_or_past, get_or_append_left, get_or-append-add}
@@ -17,7 +17,8 @@ use Rattle.obj_mem.specs.Needs.{global_need, literal_need, Legal}
 use Rattle.obj_mem.proofs.Pairs.{join_both}
 use Rattle.cap_reloc.specs.Begins.{asked_by}
 use Rattle.cap_reloc.specs.Initial.{Content, byte_in, byte_of, global_content, literal_content, global_contents}
-use Rattle.cap_reloc.specs.Initial.{literal_contents, contents, lowest, highest, AreInitial, BeginsAs, ObjectsBegin}
+use Rattle.cap_reloc.specs.Initial.{literal_contents, contents, lowest, highest, AreInitial, BeginsAs, IsOff}
+use Rattle.cap_reloc.specs.Initial.{ObjectsBegin}
 use Rattle.cap_reloc.proofs.Contents.{lowest_least, highest_most}
 use Rattle.cap_reloc.proofs.Pairs.{pairs_length, pair_at}
 use Rattle.cap_reloc.proofs.Under.{globals_length, literals_length, owned_least, bytes_fit}
@@ -58,6 +59,21 @@ none_hit under e [] (c ∷ cs) a h l from to = absurd l
 none_hit under e (f ∷ es) [] a h l from to = absurd l
 none_hit under e (f ∷ es) (c ∷ cs) a h l from to =
     ap (λ v. byte_of v cs a) (apart_misses under e f c a h.0 l.0 from to) ∙ none_hit under e es cs a h.1 l.1 from to
+
+-- an address of no extent is none of what lies in these
+off_hit : (under : ℕ) (es : List (ℕ × ℕ)) (cs : List Content) (a : ℕ) → All (IsOff a) es → Paired LiesAt es cs →
+    byte_of under cs a ≡ under
+unfolding byte_of
+off_hit under [] [] a h l = refl
+off_hit under [] (c ∷ cs) a h l = absurd l
+off_hit under (f ∷ es) [] a h l = absurd l
+off_hit under (f ∷ es) (c ∷ cs) a h l =
+    ap (λ v. byte_of v cs a) (off_misses (h 0 f (omega arith)))
+    ∙ off_hit under es cs a (λ k d b. h (suc k) d (omega (arith, b))) l.1
+  where
+    off_misses : IsOff a f → byte_in under c a ≡ under
+    off_misses (inl h) = let b = l.0.base in misses under c a (inl (omega arith))
+    off_misses (inr h) = let b = l.0.base in let m = l.0.most in misses under c a (inr (omega arith))
 
 apart_at : (e : ℕ × ℕ) (es : List (ℕ × ℕ)) (k : ℕ) (d : ℕ × ℕ) → k < length es → IsApartFrom e es →
     AreApart e (get_or es k d)
@@ -174,6 +190,10 @@ module _ (p : Typed) (m : Map) (legal : Legal p m) (w : WellTyped p) (from : ℕ
       let n = length-append (placed_at (map (global_need p.types) p.globals) m.globals)
       (placed_at (map literal_need p.literals) m.literals) in
       record {
+        from = initial.from;
+        to = initial.to;
+        between = λ k l off. initial.each k l ∙ off_hit 0 extents (contents p m) (from + k)
+            (λ j d b. off (suc j) d (omega (arith, b))) all_lie;
         globals = λ k g e.
             let h = slice_get_within p.globals k g e in
             let b = get_or m.globals k 0 in

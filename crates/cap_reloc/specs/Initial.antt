@@ -1,7 +1,7 @@
 -- The bytes with which the table, the globals and the literals of a program begin.
 use Rattle.std.specs.Prelude.{ℕ, ◌≡◌, ◌+◌, ◌-◌, ◌<◌, ◌≤◌, ◌&&◌, nat_le, nat_lt, min, max, List, [], ◌∷◌, ◌++◌, length}
-use Rattle.std.specs.Prelude.{map, Some, slice_get, slice_index, if◌then◌else◌}
-use Rattle.std.specs.List.{zip}
+use Rattle.std.specs.Prelude.{◌⊎◌, map, Some, slice_get, slice_index, if◌then◌else◌}
+use Rattle.std.specs.List.{All, zip}
 use Rattle.cap_concentrate.specs.Rounding.{rounded_up}
 use Rattle.c_tree.specs.declared.typed.Typed.{Typed}
 use Rattle.c_tree.specs.declared.typed.GlobalDef.{GlobalDef}
@@ -68,10 +68,22 @@ pub record BeginsAs (from : ℕ) (all : List ℕ) (base owns : ℕ) (bytes : Lis
   pub below : base + owns ≤ from + length all
   pub each : (i : ℕ) → i < owns → slice_index all (base + i - from) ≡ slice_index bytes i
 
--- each global and each literal begins so, and the table begins with zeros, to which its relocations come
-pub record ObjectsBegin (p : Typed) (m : Map) (from : ℕ) (all : List ℕ) : Type 0 where
+-- an address is none of an extent's
+abbrev pub IsOff : ℕ → ℕ × ℕ → Type 0
+IsOff a e = (a < e.0) ⊎ (e.0 + e.1 ≤ a)
+
+-- With these bytes from a base on the objects of a program begin. They reach from the lowest base of the table, the
+-- globals and the literals to their highest end, filled to whole granules
+pub record ObjectsBegin (p : Typed) (m : Map) (base : ℕ) (all : List ℕ) : Type 0 where
+  pub from : base ≡ lowest m.table.0 (objects_of (asked_by p) m)
+  pub to : base + length all ≡ rounded_up (highest (m.table.0 + m.table.1) (objects_of (asked_by p) m)) 16
+  -- each global and each literal begins with its bytes
   pub globals : (k : ℕ) (g : GlobalDef) → slice_get p.globals k ≡ Some g →
-      BeginsAs from all (slice_index m.globals k) (owned_of (global_need p.types g)) g.bytes
+      BeginsAs base all (slice_index m.globals k) (owned_of (global_need p.types g)) g.bytes
   pub literals : (k : ℕ) (l : Literal) → slice_get p.literals k ≡ Some l →
-      BeginsAs from all (slice_index m.literals k) (owned_of (literal_need l)) l.bytes
-  pub table : BeginsAs from all m.table.0 m.table.1 []
+      BeginsAs base all (slice_index m.literals k) (owned_of (literal_need l)) l.bytes
+  -- the table begins with zeros, to which its relocations come
+  pub table : BeginsAs base all m.table.0 m.table.1 []
+  -- and what belongs to none of them is zero
+  pub between : (k : ℕ) → k < length all → All (IsOff (base + k)) (m.table ∷ objects_of (asked_by p) m) →
+      slice_index all k ≡ 0

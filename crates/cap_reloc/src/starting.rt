@@ -38,7 +38,7 @@ pub fn table(alloc: Global, m: &Map, p: &Typed) -> Result<Table, NoMemory>
     ensures pointers { IfOk result (λ t. All (IsPointer m.now) t.relocs.items) }
     ensures bytes { IfOk result (λ t. AreInitial p.now m.now t.base t.bytes.items) }
 
-    // The bytes of each object, and of the table, are in particular these.
+    // Each object and the table begin so, and what is none of theirs is zero.
     ensures objects { IfOk result (λ t. ObjectsBegin p.now m.now t.base t.bytes.items) }
 {
     let mut pointers = object_pointers(alloc, m, p)?;

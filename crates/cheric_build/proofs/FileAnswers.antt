@@ -10,7 +10,7 @@ use Rattle.c_tree.specs.File as files
 use Rattle.c_tree.specs.Typing.{Sound}
 use Rattle.c_tree.specs.Weight.{weight}
 use Rattle.obj_mem.specs.declared.map.Map.{Map}
-use Rattle.c_facts.proofs.Sound.{well_typed}
+use Rattle.typing_laws.proofs.Sound.{well_typed}
 use Rattle.cheric_build.specs.Front.{IsTyped, IsBroken}
 use Rattle.typed_build.specs.Built.{start, IsBuilt, IsRefusal, ExceedsBy}
 use Rattle.typed_build.specs.declared.building.Built.{Built}

@@ -1,8 +1,6 @@
 -- What the reading of a file and the elaboration of its tree give together.
-use Rattle.std.proofs.Common.{ℕ, ◌<◌, ◌≤◌, List, length, Result, Ok, Err, Fits, w8, subst}
-use Rattle.std.specs.Prelude.{IfOk, IfErr, slice_index_or}
-use Rattle.std.proofs.Math.Facts.{Fits-lt-pow}
-use Rattle.std.proofs.lemmas.Option.{get_or_from_slice_get}
+use Rattle.std.proofs.Common.{ℕ, ◌≤◌, List, length, Result, Ok, Err}
+use Rattle.std.specs.Prelude.{IfOk, IfErr}
 use Rattle.ck_base.specs.declared.positions.Pos.{Pos}
 use Rattle.ck_base.specs.declared.refusal.Refusal.{Refusal}
 use Rattle.ck_base.specs.declared.refusal.Refusal.TheVariants.{Code, NoMemory}
@@ -16,11 +14,6 @@ use Rattle.c_parse.specs.Parsed as parsed
 use Rattle.c_elab.specs.Elaborated.{Elaborated}
 use Rattle.c_elab.proofs.Reading.{reads_of}
 use Rattle.cheric_build.specs.Front.{IsTyped, IsBeforeLimits, IsBroken}
-
--- ---- the bytes of a file
-
-pub are_bytes : (file : List ℕ) → ((i : ℕ) → Fits w8 (slice_index_or file i 0)) → AreBytes file
-are_bytes file h k b e = subst (λ n. n < 256) (get_or_from_slice_get file k b 0 e) (Fits-lt-pow (h k))
 
 -- ---- the parser's refusals
 

@@ -1,7 +1,7 @@
 -- A file is one program or has one refusal.
 use Rattle.std.proofs.Common.{ℕ, List}
 use Rattle.c_lex.proofs.OneReading.{one_lexing, one_refusal, lexing_no_refusal}
-use Rattle.c_parse.proofs.StatementsComplete.{one_tree}
+use Rattle.c_externals.proofs.StatementsComplete.{one_tree}
 use Rattle.c_tree.specs.File.{OneFile}
 use Rattle.c_tree.proofs.OneFile as files
 

@@ -9,7 +9,7 @@ use Rattle.std.proofs.lemmas.Option.{slice_get_within, slice_get-get_or}
 use Rattle.std.proofs.Math.Pow.{pow-lt}
 use Rattle.cap_concentrate.specs.Rounding.{alignment}
 use Rattle.cap_ops.specs.Permissions.{data_permissions, const_permissions}
-use Rattle.c_facts.proofs.Sound.{well_typed}
+use Rattle.typing_laws.proofs.Sound.{well_typed}
 use Rattle.c_tree.specs.Layout.{Extent, extent, size_limit}
 use Rattle.c_tree.specs.Typing.{Sound}
 use Rattle.c_tree.specs.WellTyped.{WellTyped}

@@ -17,7 +17,7 @@ use Rattle.cap_machine.specs.declared.machine.Machine.{Machine}
 use Rattle.elf_file.specs.declared.image.Image.{Image}
 use Rattle.image_load.specs.Judging.{end_of}
 use Rattle.image_load.specs.State.{relocated, memory_of, machine_of}
-use Rattle.c_facts.proofs.Sound.{well_typed}
+use Rattle.typing_laws.proofs.Sound.{well_typed}
 use Rattle.c_tree.specs.declared.typed.Typed.{Typed}
 use Rattle.rv_instr.specs.declared.instr.Instr.{Instr}
 use Rattle.obj_mem.specs.Legal.{Needs}

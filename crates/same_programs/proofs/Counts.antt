@@ -17,9 +17,9 @@ use Rattle.c_tree.specs.declared.typed.StmtKind.{StmtKind}
 use Rattle.c_tree.specs.declared.typed.StmtKind.TheVariants as stmts
 use Rattle.c_tree.specs.declared.typed.Typed.{Typed}
 use Rattle.c_tree.specs.declared.typed.VarDef.{VarDef}
-use Rattle.c_tree.specs.Counts.{parts, size_of, var_granules, fun_granules, granules, copied, kind_copies, expr_copies}
+use Rattle.c_tree.specs.Counts.{parts, var_granules, fun_granules, granules, copied, kind_copies, expr_copies}
 use Rattle.c_tree.specs.Counts.{value_copies, init_copies, stmt_copies, copies, is_record}
-use Rattle.c_tree.specs.Layout.{bare, extent}
+use Rattle.c_tree.specs.Layout.{bare, extent, size_of}
 use Rattle.c_tree.specs.Types.{Ty}
 use Rattle.c_tree.specs.Terms.{Term, type_of, Action, Program}
 use Rattle.c_tree.specs.Views.{types_of, type_at, kind_term, terms_of, term_at, kind_action, actions_of}

@@ -7,7 +7,7 @@ use Rattle.c_tree.specs.WellTyped.{WellTyped}
 use Rattle.c_tree.proofs.Weighed.{weight_of_program}
 use Rattle.same_programs.specs.Alike.{IsSame}
 use Rattle.same_programs.proofs.Counts.{count_same}
-use Rattle.same_programs.proofs.Needs.{needs_same, beginning_same, initial_same}
+use Rattle.same_programs.proofs.Needs.{needs_same, beginning_same, begin_same}
 use Rattle.same_programs.proofs.Points.{program_points}
 use Rattle.same_programs.proofs.Programs.{tree_same}
 
@@ -18,7 +18,7 @@ alike_law p r q w u s t =
       tree = tree_same p r q o u s t (program_points p q w s);
       needs = needs_same p r o u q s t;
       pointers = beginning_same p r o u q s t;
-      bytes = initial_same p r o u q s t;
+      bytes = begin_same p r o u q s t;
       weight = weight_of_program p q o s ∙ sym (weight_of_program r q u t);
       count = count_same p r q o u s t;
     }

@@ -1,8 +1,9 @@
 -- Programs that stand for one program ask the same of their map, and begin with the same pointers and bytes.
 use Rattle.std.proofs.Common.{◌≡◌, ℕ, suc, ◌+◌, ◌<◌, ◌≤◌, Bool, true, false, List, [], ◌∷◌, ◌++◌, length, map}
-use Rattle.std.proofs.Common.{Some, refl, sym, ap, subst, ◌∙◌, arith}
-use Rattle.std.specs.Prelude.{slice_get}
-use Rattle.std.specs.List.{filter, zip, flat_map}
+use Rattle.std.proofs.Common.{Option, Some, None, refl, sym, ap, subst, ◌∙◌, arith}
+use Rattle.std.specs.Prelude.{slice_get, slice_index, option_map}
+use Rattle.std.specs.List.{All, filter, zip, flat_map}
+use Rattle.std.proofs.lemmas.Option.{none-some, same_Some, slice_get-map}
 use Rattle.cap_ops.specs.Permissions.{data_permissions}
 use Rattle.c_tree.specs.declared.typed.FunDef.{FunDef}
 use Rattle.c_tree.specs.declared.typed.GlobalDef.{GlobalDef}
@@ -13,7 +14,7 @@ use Rattle.c_tree.specs.declared.typed.Target.TheVariants as targets
 use Rattle.c_tree.specs.declared.typed.Typed.{Typed}
 use Rattle.c_tree.specs.declared.typed.VarDef.{VarDef}
 use Rattle.c_tree.specs.Types.{Ty}
-use Rattle.c_tree.specs.Terms.{Routine, Program}
+use Rattle.c_tree.specs.Terms.{Object, Text, Routine, Program}
 use Rattle.c_tree.specs.TreeWeight.{function_weight, routine_weight}
 use Rattle.c_tree.specs.Views.{types_of, actions_of, aim_of, pointing_of, object_of, text_of, variable_of}
 use Rattle.c_tree.specs.Views.{routine_of, Shows, IsOrdered}
@@ -23,13 +24,11 @@ use Rattle.obj_mem.specs.Needs.{need_by, global_need, literal_need, local_need, 
 use Rattle.obj_mem.specs.Needs.{weight_in, weight_by}
 use Rattle.obj_mem.specs.Table.{start_at, table_starts}
 use Rattle.cap_reloc.specs.Begins.{asked_by, entries_from, link_begun, links_begun, beginning}
-use Rattle.cap_reloc.specs.Initial.{global_content, literal_content, contents, AreInitial, lowest, highest}
-use Rattle.cap_reloc.specs.Initial.{byte_of}
+use Rattle.cap_reloc.specs.Initial.{lowest, highest, BeginsAs, IsOff, ObjectsBegin}
 use Rattle.cap_concentrate.specs.Rounding.{rounded_up}
-use Rattle.obj_mem.specs.Legal.{objects_of}
+use Rattle.obj_mem.specs.Legal.{objects_of, owned_of}
 use Rattle.same_programs.specs.Needs.{tree_global, tree_local, tree_literal, is_tree_object, routine_need}
 use Rattle.same_programs.specs.Needs.{tree_needs, tree_start, pointing_begun, pointings_begun, tree_beginning}
-use Rattle.same_programs.specs.Needs.{object_content, text_content, tree_contents}
 use Rattle.same_programs.proofs.Types.{extent_same}
 use Rattle.same_programs.proofs.Offsets.{const_is}
 
@@ -141,27 +140,6 @@ module _ (p : Typed) (o : IsOrdered p) (q : Program) (s : Shows p q) (d : ℕ) (
       (begun_same (tree_needs d q) p.globals m.globals
       ∙ ap (λ gs. flat_map (pointings_begun (tree_needs d q)) (zip gs m.globals)) s.objects)
 
-  -- ---- bytes
-
-  globals_content : (gs : List GlobalDef) (bases : List ℕ) →
-      map global_content (zip gs bases) ≡ map object_content (zip (map (object_of ts) gs) bases)
-  globals_content [] bases = refl
-  globals_content (g ∷ gs) [] = refl
-  globals_content (g ∷ gs) (b ∷ bases) = ap (λ cs. (b, g.bytes) ∷ cs) (globals_content gs bases)
-
-  literals_content : (ls : List Literal) (bases : List ℕ) →
-      map literal_content (zip ls bases) ≡ map text_content (zip (map text_of ls) bases)
-  literals_content [] bases = refl
-  literals_content (l ∷ ls) [] = refl
-  literals_content (l ∷ ls) (b ∷ bases) = ap (λ cs. (b, l.bytes) ∷ cs) (literals_content ls bases)
-
-  pub contents_are : (m : Map) → contents p m ≡ tree_contents q m
-  contents_are m =
-      ap (λ cs. cs ++ map literal_content (zip p.literals m.literals)) (globals_content p.globals m.globals
-      ∙ ap (λ gs. map object_content (zip gs m.globals)) s.objects)
-      ∙ ap (λ cs. map object_content (zip q.objects m.globals) ++ cs) (literals_content p.literals m.literals
-      ∙ ap (λ ls. map text_content (zip ls m.literals)) s.texts)
-
 -- ---- two programs
 
 module _ (p p' : Typed) (o : IsOrdered p) (o' : IsOrdered p') (q : Program) (s : Shows p q) (s' : Shows p' q) where
@@ -180,13 +158,68 @@ module _ (p p' : Typed) (o : IsOrdered p) (o' : IsOrdered p') (q : Program) (s :
   pub beginning_same : (m : Map) → beginning p m ≡ beginning p' m
   beginning_same m = beginning_is p o q s both first m ∙ sym (beginning_is p' o' q s' both second m)
 
-  contents_same : (m : Map) → contents p m ≡ contents p' m
-  contents_same m = contents_are p o q s both first m ∙ sym (contents_are p' o' q s' both second m)
+  -- a global of the one is one of the other's, which asks for the same and has the same bytes
+  record IsGlobal (k : ℕ) (g : GlobalDef) : Type 0 where
+    other : GlobalDef
+    there : slice_get p.globals k ≡ Some other
+    need : global_need p.types other ≡ global_need p'.types g
+    bytes : other.bytes ≡ g.bytes
 
-  pub initial_same : (m : Map) (base : ℕ) (bytes : List ℕ) → AreInitial p m base bytes → AreInitial p' m base bytes
-  initial_same m base bytes h = record {
+  global_there : (k : ℕ) (g : GlobalDef) → slice_get p'.globals k ≡ Some g → IsGlobal k g
+  global_there k g e = by (slice_get p.globals k) refl
+    where
+      seen : option_map (object_of (types_of p.types)) (slice_get p.globals k) ≡ Some (object_of (types_of p'.types) g)
+      seen = sym (slice_get-map (object_of (types_of p.types)) p.globals k)
+          ∙ ap (λ xs. slice_get xs k) (s.objects ∙ sym s'.objects)
+          ∙ slice_get-map (object_of (types_of p'.types)) p'.globals k
+          ∙ ap (option_map (object_of (types_of p'.types))) e
+
+      by : (r : Option GlobalDef) → slice_get p.globals k ≡ r → IsGlobal k g
+      by None h = absurd (none-some _ (sym (ap (option_map (object_of (types_of p.types))) h) ∙ seen))
+      by (Some x) h =
+          let same : object_of (types_of p.types) x ≡ object_of (types_of p'.types) g =
+          same_Some _ _ (sym (ap (option_map (object_of (types_of p.types))) h) ∙ seen) in
+          record {
+            other = x;
+            there = h;
+            need = global_same p o q s both first x (o.globals k x h) ∙ ap (tree_global both q.tags) same
+                ∙ sym (global_same p' o' q s' both second g (o'.globals k g e));
+            bytes = ap (λ (v : Object). v.bytes) same;
+          }
+
+  record IsText (k : ℕ) (l : Literal) : Type 0 where
+    other : Literal
+    there : slice_get p.literals k ≡ Some other
+    bytes : other.bytes ≡ l.bytes
+
+  text_there : (k : ℕ) (l : Literal) → slice_get p'.literals k ≡ Some l → IsText k l
+  text_there k l e = by (slice_get p.literals k) refl
+    where
+      seen : option_map text_of (slice_get p.literals k) ≡ Some (text_of l)
+      seen = sym (slice_get-map text_of p.literals k) ∙ ap (λ xs. slice_get xs k) (s.texts ∙ sym s'.texts)
+          ∙ slice_get-map text_of p'.literals k ∙ ap (option_map text_of) e
+
+      by : (r : Option Literal) → slice_get p.literals k ≡ r → IsText k l
+      by None h = absurd (none-some _ (sym (ap (option_map text_of) h) ∙ seen))
+      by (Some x) h =
+          let same : text_of x ≡ text_of l = same_Some _ _ (sym (ap (option_map text_of) h) ∙ seen) in
+          record { other = x; there = h; bytes = ap (λ (v : Text). v.bytes) same }
+
+  pub begin_same : (m : Map) (base : ℕ) (all : List ℕ) → ObjectsBegin p m base all → ObjectsBegin p' m base all
+  begin_same m base all h = record {
     from = subst (λ n. base ≡ lowest m.table.0 (objects_of n m)) needs_same h.from;
-    to = subst (λ n. base + length bytes ≡ rounded_up (highest (m.table.0 + m.table.1) (objects_of n m)) 16)
+    to = subst (λ n. base + length all ≡ rounded_up (highest (m.table.0 + m.table.1) (objects_of n m)) 16)
         needs_same h.to;
-    each = λ k lt. h.each k lt ∙ ap (λ cs. byte_of 0 cs (base + k)) (contents_same m);
+    globals = λ k g e.
+        let x = global_there k g e in
+        subst (λ n. BeginsAs base all (slice_index m.globals k) (owned_of n) g.bytes) x.need
+        (subst (BeginsAs base all (slice_index m.globals k) (owned_of (global_need p.types x.other))) x.bytes
+        (h.globals k x.other x.there));
+    literals = λ k l e.
+        let x = text_there k l e in
+        subst (λ b. BeginsAs base all (slice_index m.literals k) (owned_of (literal_need (record l { bytes = b }))) b)
+        x.bytes (h.literals k x.other x.there);
+    table = h.table;
+    between = λ k lt off.
+        h.between k lt (subst (λ n. All (IsOff (base + k)) (m.table ∷ objects_of n m)) (sym needs_same) off);
   }

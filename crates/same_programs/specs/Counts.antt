@@ -2,7 +2,8 @@
 -- levels deep in one another.
 use Rattle.std.specs.Prelude.{ℕ, List, sum_by, if◌then◌else◌}
 use Rattle.cap_concentrate.specs.Rounding.{owned}
-use Rattle.c_tree.specs.Counts.{parts, size_of}
+use Rattle.c_tree.specs.Counts.{parts}
+use Rattle.c_tree.specs.Layout.{size_of}
 use Rattle.c_tree.specs.Types.{Ty}
 use Rattle.c_tree.specs.Terms as tree
 use Rattle.c_tree.specs.Terms.{Tag, Shape, Term, term, Terms, no_terms, with_term, type_of, Form, Action, action}

@@ -16,7 +16,6 @@ use Rattle.obj_mem.specs.Needs.{need_by}
 use Rattle.obj_mem.specs.Table.{Start, Holds, table_starts, permissions_of}
 use Rattle.obj_mem.specs.Values.{Live, Fun}
 use Rattle.cap_reloc.specs.Begins.{Begun, entries_from}
-use Rattle.cap_reloc.specs.Initial.{Content}
 
 module _ (d : ℕ) (tags : List Tag) where
   abbrev pub tree_need : Ty → ℕ → ObjectNeed
@@ -66,14 +65,3 @@ pointings_begun n g = map (pointing_begun n g.1) g.0.links
 abbrev pub tree_beginning : ℕ → Program → Map → List Begun
 tree_beginning d q m = entries_from m.table.0 (table_starts (tree_needs d q))
     ++ flat_map (pointings_begun (tree_needs d q)) (zip q.objects m.globals)
-
--- ---- the bytes with which its objects begin
-
-abbrev pub object_content : Object × ℕ → Content
-object_content g = (g.1, g.0.bytes)
-
-abbrev pub text_content : Text × ℕ → Content
-text_content t = (t.1, t.0.bytes)
-
-abbrev pub tree_contents : Program → Map → List Content
-tree_contents q m = map object_content (zip q.objects m.globals) ++ map text_content (zip q.texts m.literals)

@@ -14,7 +14,7 @@ use Rattle.elf_file.specs.declared.image.Line.{Line}
 use Rattle.elf_file.proofs.Lines.{rules_from_test}
 use Rattle.rv_instr.specs.Range.{InRange}
 use Rattle.rv_instr.specs.declared.instr.Instr.{Instr}
-use Rattle.rv_select.specs.Growing.{IsText, AreEntries}
+use Rattle.rv_emit.specs.Growing.{IsText, AreEntries}
 use Rattle.typed_build.specs.Coded.{IsCoded}
 
 pub all_get : {A : Type 0} (P : A → Type 0) (xs : List A) → All P xs → (k : ℕ) (x : A) → slice_get xs k ≡ Some x → P x

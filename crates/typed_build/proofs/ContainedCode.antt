@@ -21,7 +21,7 @@ use Rattle.image_load.specs.Contained.{executes, entries_of}
 use Rattle.image_load.specs.Judging.{address_of}
 use Rattle.select_words.specs.ContainedCode.{offset_of, AreContained, IsTarget, IsEntry, EndsInPlainJump}
 use Rattle.select_words.specs.ContainedCode.{IsContainedCode}
-use Rattle.rv_select.proofs.Contained.{get_right, contained_still, contained_append, no_first, target_left}
+use Rattle.rv_emit.proofs.Contained.{get_right, contained_still, contained_append, no_first, target_left}
 use Rattle.tag_mem.specs.Numbers.{word_in}
 use Rattle.typed_build.specs.Text.{code_bytes, filler, missing, text_of}
 use Rattle.typed_build.proofs.Texts.{length-code_bytes, decodes, filled, text_is, front_get, filled_in_range, there}

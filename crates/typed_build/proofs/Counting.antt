@@ -2,13 +2,13 @@
 use Rattle.std.proofs.Common.{◌≡◌, ℕ, ◌+◌, ◌*◌, ◌≤◌, Bool, true, false, List, [], ◌∷◌, length, Option, Some, None}
 use Rattle.std.proofs.Common.{ap, arith}
 use Rattle.std.specs.Prelude.{slice_get, sum_by, if◌then◌else◌}
-use Rattle.std.proofs.lemmas.Bool.Decides.{nat_tests}
 use Rattle.std.proofs.lemmas.List.Sums.{sum_by-cons}
 use Rattle.cap_concentrate.specs.Rounding.{owned}
 use Rattle.cap_concentrate.proofs.Owned.{owned_small}
 use Rattle.c_tree.specs.Counts.{var_granules, fun_granules, granules, copied, expr_copies, kind_copies, value_copies}
-use Rattle.c_tree.specs.Counts.{init_copies, stmt_copies, copies, is_record, parts, size_of}
-use Rattle.c_tree.specs.Layout.{Extent, extent, bare, size_limit}
+use Rattle.c_tree.specs.Counts.{init_copies, stmt_copies, copies, is_record, parts}
+use Rattle.c_tree.specs.Layout.{extent, bare, size_of}
+use Rattle.c_tree.proofs.Sizes.{size_most}
 use Rattle.c_tree.specs.Weight.{kind_weight, expr_weight, stmt_weight, fun_weight, weight}
 use Rattle.c_tree.specs.declared.typed.CType.{CType}
 use Rattle.c_tree.specs.declared.typed.Expr.{Expr}
@@ -32,10 +32,6 @@ sum_weighed f g most (x ∷ xs) h =
     let e : most * (g x + sum_by g xs) ≡ most * g x + most * sum_by g xs = omega arith in
     let s = ap (λ v. most * v) (sum_by-cons g x xs) in
     omega (arith, sum_by-cons f x xs, h x, sum_weighed f g most xs h)
-
-size_most : (o : Option Extent) → size_of o ≤ size_limit
-size_most None = omega arith
-size_most (Some x) = grind (arith, nat_tests)
 
 either_most : (b : Bool) (n most : ℕ) → n ≤ most → (if b then n else 0) ≤ most
 either_most true n most h = h

@@ -5,7 +5,7 @@ use Rattle.std.specs.Prelude.{slice_get}
 use Rattle.std.specs.List.{filter}
 use Rattle.std.proofs.lemmas.List.{length-map}
 use Rattle.cap_ops.specs.Permissions.{data_permissions}
-use Rattle.c_facts.proofs.Sound.{well_typed}
+use Rattle.typing_laws.proofs.Sound.{well_typed}
 use Rattle.c_tree.specs.Layout.{extent}
 use Rattle.c_tree.specs.Typing.{Sound}
 use Rattle.c_tree.specs.declared.typed.FunDef.{FunDef}

@@ -22,7 +22,7 @@ use Rattle.c_tree.specs.Typing.{Sound}
 use Rattle.c_tree.specs.Views.{Shows, IsOrdered}
 use Rattle.c_tree.specs.WellTyped.{WellTyped, IsComplete, type_in}
 use Rattle.c_tree.proofs.ViewLayout.{extent_is}
-use Rattle.c_facts.proofs.Sound.{well_typed}
+use Rattle.typing_laws.proofs.Sound.{well_typed}
 use Rattle.obj_mem.specs.Legal.{owned_of, alignment_of, room_of}
 use Rattle.obj_mem.specs.Needs.{need_by, is_const, global_need, literal_need, local_need, local_needs, is_object}
 use Rattle.bounds_place.specs.Placing.{locals_exceed, data_room, exceeds, IsRefusal as ExceedsLimit}

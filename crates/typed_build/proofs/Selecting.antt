@@ -8,7 +8,7 @@ use Rattle.std.proofs.lemmas.Option.{slice_get_within, slice_get-get_or}
 use Rattle.ck_int.specs.declared.kinds.IntKind.{IntKind}
 use Rattle.ck_int.specs.declared.kinds.IntOp.{IntOp}
 use Rattle.ck_int.specs.declared.kinds.IntOp.TheVariants as op
-use Rattle.c_facts.proofs.Sound.{well_typed}
+use Rattle.typing_laws.proofs.Sound.{well_typed}
 use Rattle.c_tree.specs.Typing.{Sound}
 use Rattle.c_tree.specs.Weight.{weight}
 use Rattle.c_tree.specs.declared.typed.FunDef.{FunDef}
@@ -26,7 +26,7 @@ use Rattle.tac_ir.specs.declared.code.TacFun.{TacFun}
 use Rattle.tac_ir.specs.declared.code.TacInstr.{TacInstr}
 use Rattle.tac_ir.specs.declared.code.TacInstr.TheVariants as instr
 use Rattle.select_words.specs.Operations.{AtKind}
-use Rattle.rv_select.specs.Growing.{reach}
+use Rattle.rv_emit.specs.Growing.{reach}
 use Rattle.rv_select.specs.Objects.{HasObject}
 use Rattle.rv_select.specs.Selectable.{AreSelectable, IsFormed, before}
 use Rattle.rv_select.specs.Selected.{Before}

@@ -41,7 +41,8 @@ is_text p sound t places s given contained has sizes chosen m file w =
       entries = s.entries.items;
       frames = subst (λ fs. FramesFit p t.funs places fs) (sym frames) has.frames;
       selected =
-          subst (λ fs. IsSelected t.funs places fs (before p) p.main s.code.items i.0.loaded.image.lines s.entries.items)
+          subst (λ fs. IsSelected t.funs places fs
+          (before p) p.main s.code.items i.0.loaded.image.lines s.entries.items)
           (sym frames)
           (subst (λ ls. IsSelected t.funs places s.frames.items (before p) p.main s.code.items ls s.entries.items)
           (sym lines) has.selected);

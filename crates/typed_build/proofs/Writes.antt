@@ -170,7 +170,7 @@ module _ (p : Typed) (s : Selected) (given : Selects p s) where
         filled = record { code = code_of s; is = refl; size = given.coded.size };
         words = all_decode (code_of s) given.coded.in_range;
         relocates = w.begins.relocates;
-        begins = w.begins.initial;
+        begins = w.begins.objects;
       },
       refl,
     )

@@ -32,7 +32,7 @@ use Rattle.image_load.specs.Contained.{Contained, executes}
 use Rattle.image_load.specs.Judging.{address_of, text_of}
 use Rattle.image_load.specs.Loading.{Loaded, loading}
 use Rattle.cap_reloc.specs.Begins.{asked_by, beginning, IsRelocation}
-use Rattle.cap_reloc.specs.Initial.{AreInitial}
+use Rattle.cap_reloc.specs.Initial.{ObjectsBegin}
 use Rattle.obj_mem.specs.Counted.{count_of}
 use Rattle.obj_mem.specs.Endings.{is_turns, is_outside}
 use Rattle.c_tree.specs.File.{HasRoom, weight_limit}
@@ -104,8 +104,8 @@ pub record IsImage (p : Typed) (file : List ℕ) (map : Map) : Type 0 where
       (i : Instr) × (decode_of (word_in loaded.image.text k) ≡ Some i)
   -- its relocations store the capabilities with which the program's pointers begin
   pub relocates : Paired (IsRelocation map) (beginning p map) loaded.image.relocs
-  -- and its other bytes begin as the program's objects do
-  pub begins : AreInitial p map loaded.image.initial_base loaded.image.initial
+  -- and its other bytes are those with which the program's objects begin, and zeros
+  pub begins : ObjectsBegin p map loaded.image.initial_base loaded.image.initial
 
 -- In each world that gives bytes the machine does what the program means, and all of it within the count for each turn
 abbrev pub RunsAsMeant : Typed → Map → Loaded → (count : ℕ) → Type 0

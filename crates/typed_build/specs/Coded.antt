@@ -10,7 +10,7 @@ use Rattle.obj_mem.specs.Needs.{weight_in, function_needs}
 use Rattle.rv_instr.specs.Range.{InRange}
 use Rattle.rv_instr.specs.declared.instr.Instr.{Instr}
 use Rattle.select_words.specs.ContainedCode.{IsContainedCode}
-use Rattle.rv_select.specs.Growing.{AreEntries}
+use Rattle.rv_emit.specs.Growing.{AreEntries}
 use Rattle.tac_ir.specs.WellFormed.{is_well_formed}
 use Rattle.tac_ir.specs.Within.{Within}
 use Rattle.tac_ir.specs.declared.code.Tac.{Tac}

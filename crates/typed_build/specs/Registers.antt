@@ -62,8 +62,8 @@ pub record IsTextOf (p : Typed) (t : Tac) (places : List Places) (file : List �
 
 -- ---- the code, the homes and the text
 
--- The code is well formed for the program, no larger than this allows, and does what it means under each legal map; each
--- function has its homes; and of these the text is made
+-- The code is well formed for the program, no larger than this allows, and does what it means under each legal map;
+-- each function has its homes; and of these the text is made
 pub record UsesRegisters (p : Typed) (t : Tac) (places : List Places) (file : List ℕ) (m : Map) : Type 0 where
   pub formed : is_well_formed t p ≡ true
   pub within : Within t p

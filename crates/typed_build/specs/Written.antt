@@ -8,7 +8,7 @@ use Rattle.obj_mem.specs.declared.map.Map.{Map}
 use Rattle.bounds_place.specs.Placing.{IsPlacing}
 use Rattle.bounds_place.specs.declared.sizes.Sizes.{Sizes}
 use Rattle.cap_reloc.specs.Begins.{beginning, IsRelocation, IsInside}
-use Rattle.cap_reloc.specs.Initial.{AreInitial}
+use Rattle.cap_reloc.specs.Initial.{AreInitial, ObjectsBegin}
 use Rattle.cap_reloc.specs.Stored.{IsPointer}
 use Rattle.elf_file.specs.declared.image.Image.{Image}
 use Rattle.elf_file.specs.declared.image.Reloc.{Reloc}
@@ -25,6 +25,7 @@ pub record Begins (p : Typed) (m : Map) (base : ℕ) (bytes : List ℕ) (relocs 
   pub inside : All (IsInside base (length bytes)) relocs
   pub pointers : All (IsPointer m) relocs
   pub initial : AreInitial p m base bytes
+  pub objects : ObjectsBegin p m base bytes
   pub small : All (λ b. b < 256) bytes
 
 abbrev pub image_with : Typed → Selected → Map → ℕ → List ℕ → List Reloc → Image

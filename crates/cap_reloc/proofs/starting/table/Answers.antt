@@ -7,7 +7,7 @@ use Rattle.obj_mem.specs.Agreement.{Paired}
 use Rattle.cap_reloc.specs.declared.pointers.Pointer.{Pointer}
 use Rattle.cap_reloc.specs.Begins.{beginning, IsRelocation, IsInside}
 use Rattle.c_tree.specs.declared.typed.Typed.{Typed}
-use Rattle.c_facts.proofs.Sound.{well_typed}
+use Rattle.typing_laws.proofs.Sound.{well_typed}
 use Rattle.obj_mem.specs.declared.map.Map.{Map}
 use Rattle.obj_mem.specs.Needs.{Legal}
 use Rattle.cap_reloc.specs.Initial.{contents, byte_of, lowest, highest, AreInitial}
@@ -96,7 +96,8 @@ returns-clause-bytes c =
 pub returns-clause-objects : goal.returns-clause-objects
 returns-clause-objects c =
     let e = c.deref.ensures.value ∙ c.in_ok-pointers.ensures in
-    let i = initial c.args.p.now c.args.m.now c.requires.legal c.deref.result.now c.stretch_of-stretch.result.base c.stretch_of-stretch.result.length c.in_ok-bytes.bytes.items e
+    let i = initial c.args.p.now c.args.m.now c.requires.legal c.deref.result.now c.stretch_of-stretch.result.base
+    c.stretch_of-stretch.result.length c.in_ok-bytes.bytes.items e
     c.stretch_of-stretch.ensures.from c.stretch_of-stretch.ensures.to c.in_ok-bytes.ensures.length
     c.in_ok-bytes.ensures.each in
     objects_begin c.args.p.now c.args.m.now c.requires.legal

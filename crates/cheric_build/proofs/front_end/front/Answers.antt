@@ -1,6 +1,7 @@
 use Rattle.std.proofs.Common.{rules, arith}
 use Rattle.c_tree.specs.File as files
-use Rattle.cheric_build.proofs.Fronted.{are_bytes, is_broken, reads, typed, sound, refused}
+use Rattle.typing_laws.proofs.Literals.{are_bytes}
+use Rattle.cheric_build.proofs.Fronted.{is_broken, reads, typed, sound, refused}
 use Rattle.cheric_build.proofs.front_end.front.Goals as goal
 
 pub returns-then-file-gt-MOST_BYTES-clause-refused : goal.returns-then-file-gt-MOST_BYTES-clause-refused

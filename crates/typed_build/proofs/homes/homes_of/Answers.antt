@@ -37,7 +37,8 @@ pub allocate-requires : goal.allocate-requires
 allocate-requires c = omega (arith, c.in_ok-live.ensures.len, c.requires.temps, c.ranges.temps.fits)
 
 pub returns-clause-homes : goal.returns-clause-homes
-returns-clause-homes c = placed_homes c.args.f.now c.in_ok-live.live.items c.in_ok-calls.calls.items c.in_ok-live.ensures
+returns-clause-homes c = placed_homes c.args.f.now c.in_ok-live.live.items c.in_ok-calls.calls.items
+    c.in_ok-live.ensures
     c.in_ok-calls.ensures c.requires.countable.numbered c.allocate.result c.allocate.ensures.placed
     c.allocate.ensures.slots c.allocate.ensures.arguments
 

@@ -30,7 +30,8 @@ returns-clause-registers c =
       same = code.same;
       each = omega (arith, c.in_ok-places.ensures.len, places.ok);
       homes = c.in_ok-places.ensures.checked;
-      text = is_text c.args.p.now c.requires.sound c.in_ok-code.code places.items c.in_ok-selected.selected given.selects
+      text = is_text c.args.p.now c.requires.sound c.in_ok-code.code places.items c.in_ok-selected.selected
+          given.selects
           given.contained given.program c.args.sizes c.requires.sizes w.map w.elf.items c.in_ok-elf.ensures.written;
     }
 

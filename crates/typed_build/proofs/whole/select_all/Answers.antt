@@ -1,7 +1,7 @@
 use Rattle.std.proofs.Common.{◌≡◌, ◌+◌, ◌*◌, ◌≤◌, length, subst, arith}
-use Rattle.c_facts.proofs.Sound.{well_typed}
+use Rattle.typing_laws.proofs.Sound.{well_typed}
 use Rattle.c_tree.specs.Weight.{weight}
-use Rattle.rv_select.specs.Growing.{AreEntries}
+use Rattle.rv_emit.specs.Growing.{AreEntries}
 use Rattle.typed_build.proofs.Coding.{coded_of, some_word}
 use Rattle.lower_forms.proofs.Running.{code_has_form}
 use Rattle.typed_build.proofs.Framing.{are_frames, framed}

@@ -1,6 +1,6 @@
 use Rattle.std.proofs.Common.{◌≡◌, ◌%◌, length, Ok, sym, ap, ◌∙◌, subst, arith}
 use Rattle.bounds_place.specs.Placing.{AreOffsets, IsPlacing}
-use Rattle.c_facts.proofs.Sound.{well_typed}
+use Rattle.typing_laws.proofs.Sound.{well_typed}
 use Rattle.cap_concentrate.specs.Rounding.{owned}
 use Rattle.elf_file.specs.File.{file_of}
 use Rattle.elf_file.specs.Image.{KeepsRules}
@@ -85,6 +85,7 @@ returns-clause-written c =
       inside = given_data.places;
       pointers = given_data.pointers;
       initial = given_data.bytes;
+      objects = given_data.objects;
       small = c.image_of-image.ensures.small;
     } in
     let image : c.image_of-image.result ≡ image_with p s m base bytes relocs =
