@@ -25,7 +25,7 @@ use Rattle.c_tree.specs.declared.typed.Typed.{Typed}
 use Rattle.c_tree.specs.declared.typed.VarDef.{VarDef}
 use Rattle.c_tree.proofs.Aligned.{IsPower, extent_aligned}
 use Rattle.c_tree.proofs.Forest.{forest_reads}
-use Rattle.c_facts.proofs.Sound.{well_typed}
+use Rattle.typing_laws.proofs.Sound.{well_typed}
 use Rattle.cheri_c_sem.specs.Expressions as meant
 use Rattle.cheri_c_sem.specs.Expressions.{bare_type}
 use Rattle.cheri_c_sem.specs.Types.{align_in, align_of_extent, is_void, scalar_of, unit_of}

@@ -4,7 +4,7 @@ use Rattle.std.specs.Borrow.{Bor}
 use Rattle.std.specs.Prelude.{slice_index_or}
 use Rattle.c_tree.specs.Typing.{Sound}
 use Rattle.c_tree.specs.declared.typed.Typed.{Typed}
-use Rattle.c_facts.proofs.Sound.{well_typed}
+use Rattle.typing_laws.proofs.Sound.{well_typed}
 use Rattle.obj_mem.specs.declared.map.Map.{Map}
 use Rattle.obj_mem.specs.declared.map.Mode as known
 use Rattle.obj_mem.specs.declared.map.Mode.TheVariants as mode

@@ -14,7 +14,7 @@ use Rattle.c_tree.specs.declared.typed.Literal.{Literal}
 use Rattle.c_tree.specs.declared.typed.Target.{Target}
 use Rattle.c_tree.specs.declared.typed.Target.TheVariants as target
 use Rattle.c_tree.specs.declared.typed.Typed.{Typed}
-use Rattle.c_facts.proofs.Sound.{well_typed}
+use Rattle.typing_laws.proofs.Sound.{well_typed}
 use Rattle.cheri_c_sem.specs.Types.{size_in, size_of_extent}
 use Rattle.c_mean.specs.Starting.{IsSized, IsStartable}
 

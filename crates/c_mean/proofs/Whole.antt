@@ -6,7 +6,7 @@ use Rattle.stopped_runs.specs.Stopping.{StoppedShort}
 use Rattle.c_tree.specs.File.{HasRoom}
 use Rattle.c_tree.specs.Typing.{Sound}
 use Rattle.c_tree.specs.declared.typed.Typed.{Typed}
-use Rattle.c_facts.proofs.Sound.{well_typed}
+use Rattle.typing_laws.proofs.Sound.{well_typed}
 use Rattle.obj_mem.specs.declared.ending.Ending.{Ending}
 use Rattle.obj_mem.specs.declared.map.Mode as known
 use Rattle.obj_mem.specs.declared.map.Mode.TheVariants as mode

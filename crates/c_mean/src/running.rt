@@ -18,8 +18,8 @@ use obj_mem::{Ending, Mode};
 use std::alloc::Global;
 
 /// The placed run of a program under a map, or its strict run, with so many turns. `Turns` comes exactly where one more
-/// turn is needed. Calls in progress and unfinished expressions stand in vectors. Where memory is wanting, what was read
-/// and put is the beginning of the run.
+/// turn is needed. Calls in progress and unfinished expressions stand in vectors. Where memory is wanting, what was
+/// read and put is the beginning of the run.
 #[tactic(auto, using(stopped_runs::proofs::Shortened::not_begun))]
 pub fn mean<I: Input, O: Sink>(
     alloc: Global,

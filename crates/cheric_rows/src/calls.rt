@@ -1,42 +1,42 @@
 //! Calls of the command over files, an input and sinks in memory.
 
-ghost use Rattle.std.specs.Prelude.{◌≡◌, ◌<◌, ◌-◌, ◌^◌, length, IfOk};
+ghost use Rattle.std.specs.Prelude.{◌≡◌, ◌<◌, ◌-◌, ◌^◌, IfOk};
 
 use cheric_build::build;
 use cheric_top::cheric;
-use ck_base::{Files, MemFiles, MemSink, MemSource, NoMemory, SureFiles};
+use ck_base::{Files, MemFiles, MemSink, MemSource, NoMemory, Refusal, SureFiles};
 use std::alloc::Global;
 use std::process::Abort;
 
-fn one_name(alloc: Global, name: &str) -> Result<Vec<String>, NoMemory>
-    ensures { IfOk result (λ names. length names.items ≡ 1) }
-{
-    let mut names = Vec::new(alloc);
-    names.push(String::from_str(alloc, name)?)?;
-    Ok(names)
-}
+/// A status, and all that is put to the output and to the notes.
+pub type Answer<'a> = (u8, &'a str, &'a str);
 
-fn one_content(alloc: Global, bytes: &[u8]) -> Result<Vec<Vec<u8>>, NoMemory>
-    ensures { IfOk result (λ contents. length contents.items ≡ 1) }
-{
-    let mut contents = Vec::new(alloc);
-    contents.push(Vec::from_slice(alloc, bytes)?)?;
-    Ok(contents)
-}
+/// The numbers of the calls that fail (0: none) of the files, the input, the output and the notes.
+pub type Failing = [u64; 4];
+
+pub const SURE: Failing = [0; 4];
 
 /// One file of this name, and the number of the call of the files that fails (0: none).
 pub fn one_file(alloc: Global, name: &str, bytes: &[u8], failing: u64) -> Result<MemFiles, NoMemory>
     ensures { IfOk result (λ files. files.faults ≡ 0) }
 {
-    let names = one_name(alloc, name)?;
-    let contents = one_content(alloc, bytes)?;
-    Ok(MemFiles::new(names, contents, only(alloc, failing)?))
+    let names = vec![in alloc; String::from_str(alloc, name)?]?;
+    let contents = vec![in alloc; Vec::from_slice(alloc, bytes)?]?;
+    Ok(MemFiles::new(names, contents, vec![in alloc; failing]?))
 }
 
-/// One file of this name, in files that never fail.
-pub fn sure_file(alloc: Global, name: &str, bytes: &[u8]) -> Result<SureFiles, NoMemory> {
-    let names = one_name(alloc, name)?;
-    Ok(SureFiles::new(names, one_content(alloc, bytes)?))
+/// A C file `a.c`, and another file `a.c.elf`.
+fn two_files(alloc: Global, file: &[u8], elf: Vec<u8>) -> Result<SureFiles, NoMemory> {
+    let name = String::from_str(alloc, "a.c")?;
+    let names = vec![in alloc; name, String::from_str(alloc, "a.c.elf")?]?;
+    let contents = vec![in alloc; Vec::from_slice(alloc, file)?, elf]?;
+    Ok(SureFiles::new(names, contents))
+}
+
+/// A C file `a.c`, and what is built of it as `a.c.elf`.
+pub fn built(alloc: Global, file: &[u8]) -> Result<SureFiles, Refusal> {
+    let built = build(alloc, file)?;
+    Ok(two_files(alloc, file, built.elf)?)
 }
 
 pub fn words_of(alloc: Global, words: &str) -> Result<Vec<String>, NoMemory> {
@@ -47,151 +47,123 @@ pub fn words_of(alloc: Global, words: &str) -> Result<Vec<String>, NoMemory> {
     Ok(all)
 }
 
-/// The numbers of failing calls, where one call fails.
-fn only(alloc: Global, failing: u64) -> Result<Vec<u64>, NoMemory> {
-    let mut fails = Vec::new(alloc);
-    fails.push(failing)?;
-    Ok(fails)
-}
-
 /// An input of which the call with this number fails (0: none).
-fn source(alloc: Global, bytes: &[u8], failing: u64) -> Result<MemSource, NoMemory>
+fn source(alloc: Global, input: &str, failing: u64) -> Result<MemSource, NoMemory>
     ensures { IfOk result (λ source. source.faults ≡ 0) }
 {
-    let fails = only(alloc, failing)?;
-    Ok(MemSource::new(Vec::from_slice(alloc, bytes)?, fails))
+    let bytes = Vec::from_slice(alloc, input.as_bytes())?;
+    Ok(MemSource::new(bytes, vec![in alloc; failing]?))
 }
 
 /// An output of 65,536 bytes, of which the call with this number fails (0: none).
 fn sink(alloc: Global, failing: u64) -> Result<MemSink, NoMemory>
     ensures { IfOk result (λ sink. sink.faults ≡ 0) }
 {
-    let fails = only(alloc, failing)?;
-    MemSink::new(alloc, 65_536, fails)
+    MemSink::new(alloc, 65_536, vec![in alloc; failing]?)
 }
 
-/// What the command answers: its status, and all that it puts to the output and to the notes.
-#[derive(Clone, Copy)]
-pub struct Answer<'a> {
-    pub status: u8,
-    pub put: &'a str,
-    pub line: &'a str,
-}
-
-/// Whether the command answers these words so, without input, where the calls of the output and the notes with these
-/// numbers fail (0: none).
+/// Whether the command answers these words so on an input, where the calls with these numbers fail.
 pub fn answers<F: Files>(
     alloc: Global,
     files: &mut F,
     words: &str,
-    failing: [u64; 2],
+    input: &str,
+    failing: Failing,
     answer: Answer<'_>,
 ) -> Result<bool, NoMemory>
     requires { F.faults files.old < 2 ^ 64 - 1 }
 {
-    answers_input(alloc, files, words, (b"", 0), failing, answer)
-}
-
-/// Whether the command answers these words so on an input, where the calls of the input, the output and the notes with
-/// these numbers fail (0: none).
-pub fn answers_input<F: Files>(
-    alloc: Global,
-    files: &mut F,
-    words: &str,
-    input: (&[u8], u64),
-    failing: [u64; 2],
-    answer: Answer<'_>,
-) -> Result<bool, NoMemory>
-    requires { F.faults files.old < 2 ^ 64 - 1 }
-{
-    let (bytes, read) = input;
-    let [byte, note] = failing;
+    let [_, read, byte, note] = failing;
     let words = words_of(alloc, words)?;
-    let mut input = source(alloc, bytes, read)?;
+    let mut input = source(alloc, input, read)?;
     let mut out = sink(alloc, byte)?;
     let mut notes = sink(alloc, note)?;
     let status = cheric(alloc, &words, files, &mut input, &mut out, &mut notes);
-    Ok(
-        status == answer.status
-            && out.bytes() == answer.put.as_bytes()
-            && notes.bytes() == answer.line.as_bytes(),
-    )
+    let (wanted, put, line) = answer;
+    Ok(status == wanted && out.bytes() == put.as_bytes() && notes.bytes() == line.as_bytes())
 }
 
-/// Whether a call of the command on this file is answered so, without input or faults.
-pub fn is_answered(alloc: Global, file: &[u8], words: &str, answer: Answer<'_>) -> bool {
-    match sure_file(alloc, "a.c", file) {
-        Ok(mut files) => answers(alloc, &mut files, words, [0; 2], answer).unwrap_or(false),
-        Err(_) => false,
-    }
-}
-
-/// Whether the command answers these words so on the file, once it is built, and on an input, where the calls of the
-/// input, the output and the notes with these numbers fail (0: none).
-pub fn is_answered_built(
+/// Whether the command answers these words so on one file of this name, leaves it as it was and puts no `a.c.elf`.
+pub fn answers_on(
     alloc: Global,
-    file: &str,
+    name: &str,
+    bytes: &[u8],
     words: &str,
-    input: (&[u8], u64),
-    failing: [u64; 2],
+    input: &str,
+    failing: Failing,
     answer: Answer<'_>,
-) -> bool {
-    match built_file(alloc, file) {
-        Some(mut files) => {
-            answers_input(alloc, &mut files, words, input, failing, answer).unwrap_or(false)
-        }
-        None => false,
-    }
+) -> Result<bool, NoMemory> {
+    let mut files = one_file(alloc, name, bytes, failing[0])?;
+    let is_answered = answers(alloc, &mut files, words, input, failing, answer)?;
+    Ok(is_answered && files.contents(name) == Some(bytes) && files.contents("a.c.elf").is_none())
 }
 
-/// A file, or words, with the status, output and line of an answer.
+/// The same on the C file `a.c`, without input and faults.
+pub fn is_answered(alloc: Global, file: &[u8], words: &str, answer: Answer<'_>) -> bool {
+    answers_on(alloc, "a.c", file, words, "", SURE, answer).unwrap_or(false)
+}
+
+/// A C file, with the status, output and line of an answer.
 pub type Row = (&'static str, u8, &'static str, &'static str);
 
 /// Each of the files is answered so by these words.
 pub fn files_are_answered(rt: &impl Abort, alloc: Global, words: &str, rows: &[Row]) {
     for &(file, status, put, line) in rows {
-        let answer = Answer { status, put, line };
         assert!(rt;
-            is_answered(alloc, file.as_bytes(), words, answer),
+            is_answered(alloc, file.as_bytes(), words, (status, put, line)),
             "{words}: {file}"
         );
     }
 }
 
-/// Each of the words is answered so on the file.
-pub fn words_are_answered(rt: &impl Abort, alloc: Global, file: &str, rows: &[Row]) {
-    for &(words, status, put, line) in rows {
-        let answer = Answer { status, put, line };
-        assert!(rt;
-            is_answered(alloc, file.as_bytes(), words, answer),
-            "{words}"
-        );
+/// Words and failing calls, with the status, output and line of an answer.
+pub type Case = (&'static str, Failing, u8, &'static str, &'static str);
+
+/// Calls on a C file `a.c` and an input, each on files of its own; whether `a.c.elf` is built of it before.
+pub struct Table {
+    pub file: &'static str,
+    pub is_built: bool,
+    pub input: &'static str,
+    pub cases: &'static [Case],
+}
+
+/// Whether a call of a table is answered so.
+fn is_so(alloc: Global, table: &Table, case: &Case) -> Result<bool, Refusal> {
+    let &(words, failing, status, put, line) = case;
+    let file = table.file.as_bytes();
+    let input = table.input;
+    if !table.is_built {
+        return Ok(answers_on(
+            alloc,
+            "a.c",
+            file,
+            words,
+            input,
+            failing,
+            (status, put, line),
+        )?);
     }
+    let mut files = built(alloc, file)?;
+    Ok(answers(
+        alloc,
+        &mut files,
+        words,
+        input,
+        failing,
+        (status, put, line),
+    )?)
 }
 
-/// The bytes that are built of a file.
-pub fn elf_of(rt: &impl Abort, alloc: Global, file: &[u8]) -> Vec<u8> {
-    match build(alloc, file) {
-        Ok(built) => built.elf,
-        Err(_) => panic!(rt; "not built"),
+/// Each call of the tables is answered so.
+pub fn calls_are_answered(rt: &impl Abort, alloc: Global, tables: &[Table]) {
+    for table in tables {
+        for case in table.cases {
+            assert!(rt;
+                is_so(alloc, table, case).unwrap_or(false),
+                "{}: {}",
+                case.0,
+                table.file
+            );
+        }
     }
-}
-
-/// What the command says when it has built so many bytes.
-pub fn line_of_built(alloc: Global, len: usize) -> Result<String, NoMemory> {
-    Ok(format!(in alloc; "built {len}\n")?)
-}
-
-/// A file that is built, and what the command builds of it.
-fn built_file(alloc: Global, file: &str) -> Option<SureFiles> {
-    let mut files = sure_file(alloc, "a.c", file.as_bytes()).ok()?;
-    let len = build(alloc, file.as_bytes()).ok()?.elf.len();
-    let line = line_of_built(alloc, len).ok()?;
-    let answer = Answer {
-        status: 0,
-        put: "",
-        line: &line,
-    };
-    let is_built = answers(alloc, &mut files, "cheric build a.c", [0; 2], answer);
-    is_built.unwrap_or(false).then_some(files)
 }

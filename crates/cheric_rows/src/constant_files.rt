@@ -46,62 +46,83 @@ pub(super) const FIRST: [(&str, &str); 26] = [
     ),
     // the first type of C's list that holds a literal
     (
-        "int a[sizeof 2147483647==4&&sizeof 2147483648==8&&sizeof 0x7fffffff==4&&sizeof 0x80000000==4&&0x80000000>0&&sizeof 0xffffffff==4&&sizeof 0x100000000==8&&sizeof 037777777777==4&&sizeof 4294967295u==4&&sizeof 4294967296u==8?1:-1];int main(void){return 0;}",
+        "int a[sizeof 2147483647==4&&sizeof 2147483648==8&&sizeof 0x7fffffff==4&&sizeof 0x80000000==4&&\
+         0x80000000>0&&sizeof 0xffffffff==4&&sizeof 0x100000000==8&&sizeof 037777777777==4&&sizeof 4294967295u==4&&\
+         sizeof 4294967296u==8?1:-1];int main(void){return 0;}",
         "typed",
     ),
     // unsigned hexadecimal and octal literals
     (
-        "int a[sizeof(-2147483648)==8&&-0x80000000==0x80000000&&-2147483648<0&&-1==0xffffffff&&0x8000000000000000>0&&01777777777777777777777==-1?1:-1];int main(void){return 0;}",
+        "int a[sizeof(-2147483648)==8&&-0x80000000==0x80000000&&-2147483648<0&&-1==0xffffffff&&\
+         0x8000000000000000>0&&01777777777777777777777==-1?1:-1];int main(void){return 0;}",
         "typed",
     ),
     // usual arithmetic conversions: long long with unsigned long is unsigned long long
     (
-        "int a[-1>0u&&-1L<0u&&-1L>0ul&&-1LL>0ul&&-1LL<0u&&(short)-1<0&&(unsigned short)1>-1&&(unsigned char)1>-1?1:-1];int main(void){return 0;}",
+        "int a[-1>0u&&-1L<0u&&-1L>0ul&&-1LL>0ul&&-1LL<0u&&(short)-1<0&&(unsigned short)1>-1&&\
+         (unsigned char)1>-1?1:-1];int main(void){return 0;}",
         "typed",
     ),
     // __intcap_t with unsigned long gives __uintcap_t
     (
-        "int a[(intptr_t)-1<0&&(intptr_t)-1<0u&&(intptr_t)-1<0l&&(intptr_t)-1>0ul&&(intptr_t)-1>(uintptr_t)0&&(uintptr_t)-1>0&&(uintptr_t)-1==18446744073709551615u&&(int)(uintptr_t)4294967295==-1?1:-1];int main(void){return 0;}",
+        "int a[(intptr_t)-1<0&&(intptr_t)-1<0u&&(intptr_t)-1<0l&&(intptr_t)-1>0ul&&(intptr_t)-1>(uintptr_t)0&&\
+         (uintptr_t)-1>0&&(uintptr_t)-1==18446744073709551615u&&(int)(uintptr_t)4294967295==-1?1:-1];\
+         int main(void){return 0;}",
         "typed",
     ),
     // shifts in the placed meaning
     (
-        "int a[1<<31<0&&1<<32==1&&1<<33==2&&1<<-1==-2147483647-1&&-1>>40==-1&&-7>>1==-4&&1u<<31>0&&1L<<32==4294967296&&1<<4294967297L==2&&(char)1<<8==256?1:-1];int main(void){return 0;}",
+        "int a[1<<31<0&&1<<32==1&&1<<33==2&&1<<-1==-2147483647-1&&-1>>40==-1&&-7>>1==-4&&1u<<31>0&&\
+         1L<<32==4294967296&&1<<4294967297L==2&&(char)1<<8==256?1:-1];int main(void){return 0;}",
         "typed",
     ),
     // signed arithmetic wraps; quotients truncate
     (
-        "int a[-7/2==-3&&-7%2==-1&&7%-2==1&&(-2147483647-1)/-1==-2147483647-1&&(-2147483647-1)%-1==0&&2147483647+1<0&&65535*65535==-131071&&(unsigned short)65535*(unsigned short)65535<0?1:-1];int main(void){return 0;}",
+        "int a[-7/2==-3&&-7%2==-1&&7%-2==1&&(-2147483647-1)/-1==-2147483647-1&&(-2147483647-1)%-1==0&&\
+         2147483647+1<0&&65535*65535==-131071&&(unsigned short)65535*(unsigned short)65535<0?1:-1];int main(void){\
+         return 0;}",
         "typed",
     ),
     // casts, char without a sign, promotions
     (
-        "int a[(unsigned char)300==44&&(signed char)200==-56&&(char)-1==255&&(short)65535==-1&&(_Bool)256==1&&(_Bool)0x100000000==1&&-(_Bool)2==-1&&~(unsigned char)0==-1&&!0x100000000==0&&(char)0x1ff+1==256?1:-1];int main(void){return 0;}",
+        "int a[(unsigned char)300==44&&(signed char)200==-56&&(char)-1==255&&(short)65535==-1&&(_Bool)256==1&&\
+         (_Bool)0x100000000==1&&-(_Bool)2==-1&&~(unsigned char)0==-1&&!0x100000000==0&&(char)0x1ff+1==256?1:-1];\
+         int main(void){return 0;}",
         "typed",
     ),
     // escapes; adjacent literals are one, and an escape ends with its literal
     (
-        "int a['\\377'==255&&'\\xff'==255&&'\\0'==0&&'\\x0000041'==65&&'\\\\'==92&&'\\?'==63&&'\\v'==11&&'\\a'==7&&'\"'==34&&sizeof 'a'==4&&sizeof \"a\\0b\" \"\\x1\" \"2\"==6?1:-1];int main(void){return 0;}",
+        "int a['\\377'==255&&'\\xff'==255&&'\\0'==0&&'\\x0000041'==65&&'\\\\'==92&&'\\?'==63&&'\\v'==11&&'\\a'==7&&\
+         '\"'==34&&sizeof 'a'==4&&sizeof \"a\\0b\" \"\\x1\" \"2\"==6?1:-1];int main(void){return 0;}",
         "typed",
     ),
     // levels and grouping of operators
     (
-        "int a[(1|2^3&4==4)==3&&(1<<1+1)==4&&(6-3-2)==1&&(100/10/5)==2&&!0+1==2&&(7&3|8)==11&&(1||0&&0)==1&&(0?1:0?2:3)==3&&(2>1>0)==1&&-1<0==1?1:-1];int main(void){return 0;}",
+        "int a[(1|2^3&4==4)==3&&(1<<1+1)==4&&(6-3-2)==1&&(100/10/5)==2&&!0+1==2&&(7&3|8)==11&&(1||0&&0)==1&&\
+         (0?1:0?2:3)==3&&(2>1>0)==1&&-1<0==1?1:-1];int main(void){return 0;}",
         "typed",
     ),
     // types of results; names, steps, assignments and commas may stand under sizeof in a constant expression
     (
-        "char c;short s;long l;unsigned u;int a[sizeof(c+c)==4&&sizeof(-c)==4&&sizeof(c++)==1&&sizeof(c+=l)==1&&sizeof(c=l)==1&&sizeof(c<<l)==4&&sizeof(l<<c)==8&&sizeof(c<c)==4&&sizeof(!l)==4&&sizeof(c?c:s)==4&&sizeof(u+l)==8&&sizeof(c,l)==8&&sizeof(1?c:l)==8&&sizeof(c&&l)==4?1:-1];int main(void){return 0;}",
+        "char c;short s;long l;unsigned u;\
+         int a[sizeof(c+c)==4&&sizeof(-c)==4&&sizeof(c++)==1&&sizeof(c+=l)==1&&sizeof(c=l)==1&&sizeof(c<<l)==4&&\
+         sizeof(l<<c)==8&&sizeof(c<c)==4&&sizeof(!l)==4&&sizeof(c?c:s)==4&&sizeof(u+l)==8&&sizeof(c,l)==8&&\
+         sizeof(1?c:l)==8&&sizeof(c&&l)==4?1:-1];int main(void){return 0;}",
         "typed",
     ),
     // types of results on capability integers and of intrinsics
     (
-        "uintptr_t p;intptr_t q;int *r;int a[sizeof(p+1)==16&&sizeof(1<<p)==4&&sizeof(p<<1)==16&&sizeof(p<1)==4&&sizeof(-q)==16&&sizeof(1?p:1)==16&&sizeof(p+=1)==16&&sizeof(r+p)==16&&sizeof(r-r)==8&&sizeof(cheri_tag_get(r))==1&&sizeof(cheri_address_get(p))==8&&sizeof(cheri_address_set(q,1))==16&&sizeof(r[p])==4&&sizeof(getchar())==4?1:-1];int main(void){return 0;}",
+        "uintptr_t p;intptr_t q;int *r;int a[sizeof(p+1)==16&&sizeof(1<<p)==4&&sizeof(p<<1)==16&&sizeof(p<1)==4&&\
+         sizeof(-q)==16&&sizeof(1?p:1)==16&&sizeof(p+=1)==16&&sizeof(r+p)==16&&sizeof(r-r)==8&&\
+         sizeof(cheri_tag_get(r))==1&&sizeof(cheri_address_get(p))==8&&sizeof(cheri_address_set(q,1))==16&&\
+         sizeof(r[p])==4&&sizeof(getchar())==4?1:-1];int main(void){return 0;}",
         "typed",
     ),
     // layout of members with owned lengths
     (
-        "int a[sizeof(struct{char c;char d[4097];})==4112&&sizeof(struct{char d[8191];})==8192&&sizeof(union{char d[5];int e;})==8&&sizeof(struct{char c;int*p;})==32&&sizeof(char[4097])==4097&&sizeof(struct{char c[3];short s;})==6&&sizeof(struct{char c;int x[1100];})==4408?1:-1];int main(void){return 0;}",
+        "int a[sizeof(struct{char c;char d[4097];})==4112&&sizeof(struct{char d[8191];})==8192&&sizeof(union{\
+         char d[5];int e;})==8&&sizeof(struct{char c;int*p;})==32&&sizeof(char[4097])==4097&&sizeof(struct{\
+         char c[3];short s;})==6&&sizeof(struct{char c;int x[1100];})==4408?1:-1];int main(void){return 0;}",
         "typed",
     ),
     // the length is its value as an unsigned long, and the array too large
@@ -135,7 +156,8 @@ pub(super) const SECOND: [(&str, &str); 25] = [
     ("int a[1&&1%0];int main(void){return 0;}", "134 1:7"),
     // an enumerator outside int, at the expression
     (
-        "enum{A=-2147483647-1,B=2147483647,C=(char)-1};int a[C==255&&A<B?1:-1];enum{D=0x80000000};int main(void){return 0;}",
+        "enum{A=-2147483647-1,B=2147483647,C=(char)-1};int a[C==255&&A<B?1:-1];enum{D=0x80000000};int main(void){\
+         return 0;}",
         "134 1:78",
     ),
     // case values are converted to __uintcap_t
@@ -200,7 +222,8 @@ pub(super) const SECOND: [(&str, &str); 25] = [
     ("int x;int *p=1?&x:0;int main(void){return 0;}", "134 1:14"),
     // members, constant elements, & and * of them
     (
-        "struct S{int a;int b[3];}s;int *p=&(&s)->b[2];int *q=1+s.b;int *r=&*&2[s.b];int (*f)(void);int main(void){return *p+*q+*r;}",
+        "struct S{int a;int b[3];}s;int *p=&(&s)->b[2];int *q=1+s.b;int *r=&*&2[s.b];int (*f)(void);int main(void){\
+         return *p+*q+*r;}",
         "typed",
     ),
     // operands from left to right

@@ -40,7 +40,8 @@ pub(super) const FIRST: [(&str, &str); 36] = [
     ("enum Q int x;int main(void){return 0;}", "132 1:6"),
     // volatile, restrict and inline have no effect, so the types agree
     (
-        "volatile int x;extern int x;restrict int y;inline int z;int f(volatile int*p);int f(int*p){return *p;}int main(void){return x+y+z+f(&x);}",
+        "volatile int x;extern int x;restrict int y;inline int z;int f(volatile int*p);int f(int*p){return *p;}\
+         int main(void){return x+y+z+f(&x);}",
         "typed",
     ),
     // register in a parameter is accepted and has no effect
@@ -114,7 +115,8 @@ pub(super) const FIRST: [(&str, &str); 36] = [
     ),
     // an if statement is a scope of its own: there S is a union, behind it the struct again (C11 6.8.4p3)
     (
-        "struct S{int a;};int main(void){if(sizeof(union S{int b;})==4){union S*p=0;return p==0;}return sizeof(struct S)==4;}",
+        "struct S{int a;};int main(void){if(sizeof(union S{int b;})==4){union S*p=0;return p==0;}\
+         return sizeof(struct S)==4;}",
         "typed",
     ),
     // a tag of a prototype ends with it: another type
@@ -175,12 +177,14 @@ pub(super) const SECOND: [(&str, &str); 36] = [
     ),
     // a tag that is never completed, and one declared inside another struct, which is of the file's scope
     (
-        "struct A*p;struct B{struct A*q;struct C{int c;}d;}b;struct C c={1};int main(void){return p==b.q&&c.c==b.d.c+1;}",
+        "struct A*p;struct B{struct A*q;struct C{int c;}d;}b;struct C c={1};int main(void){\
+         return p==b.q&&c.c==b.d.c+1;}",
         "typed",
     ),
     // tags in a prototype: incomplete ones, one completed inside a length, an enumerator; all end with it
     (
-        "int f(struct P*p,union Q*(*q)[sizeof(struct R{int r;})],enum{Z}e);int main(void){return sizeof(struct P*)==16;}",
+        "int f(struct P*p,union Q*(*q)[sizeof(struct R{int r;})],enum{Z}e);int main(void){\
+         return sizeof(struct P*)==16;}",
         "typed",
     ),
     // a type name in a cast completes the tag of the block's scope
@@ -227,7 +231,8 @@ pub(super) const SECOND: [(&str, &str); 36] = [
     ),
     // names declared before the file, declared again with the same types
     (
-        "typedef unsigned char uint8_t;typedef signed char int8_t;typedef long int64_t;typedef __uintcap_t uintptr_t;typedef size_t size_t;int main(void){return 0;}",
+        "typedef unsigned char uint8_t;typedef signed char int8_t;typedef long int64_t;\
+         typedef __uintcap_t uintptr_t;typedef size_t size_t;int main(void){return 0;}",
         "typed",
     ),
     // char is not unsigned char
@@ -361,7 +366,8 @@ pub(super) const THIRD: [(&str, &str); 36] = [
     ),
     // the tag of a parameter list is in force in later parameters and in the body
     (
-        "int f(struct S{int a;}*p,int b[sizeof(struct S)]){struct S s={b[0]};*p=s;return p->a;}int main(void){return 0;}",
+        "int f(struct S{int a;}*p,int b[sizeof(struct S)]){struct S s={b[0]};*p=s;return p->a;}int main(void){\
+         return 0;}",
         "typed",
     ),
     // 2^62+1 elements of 4 bytes: sizes are whole numbers, with no wrap to 4
@@ -397,7 +403,9 @@ pub(super) const THIRD: [(&str, &str); 36] = [
     ),
     // layout of members of 4096 bytes and more: 16+10016+1 rounded to 16; 4104
     (
-        "struct S{int a;char b[10001];char c;};union U{char a[4097];int b;};int z[sizeof(struct S)==10048&&sizeof(union U)==4104&&sizeof(char[4097])==4097?1:-1];int main(void){return z[0];}",
+        "struct S{int a;char b[10001];char c;};union U{char a[4097];int b;};\
+         int z[sizeof(struct S)==10048&&sizeof(union U)==4104&&sizeof(char[4097])==4097?1:-1];int main(void){\
+         return z[0];}",
         "typed",
     ),
     // 140 at the completion of [] by its initialiser
@@ -482,7 +490,9 @@ pub(super) const THIRD: [(&str, &str); 36] = [
     ),
     // the two intrinsics without capabilities may be declared with their types
     (
-        "size_t __builtin_cheri_round_representable_length(size_t n);unsigned long cheri_representable_alignment_mask(unsigned long);int main(void){return cheri_representable_length(1)==1;}",
+        "size_t __builtin_cheri_round_representable_length(size_t n);\
+         unsigned long cheri_representable_alignment_mask(unsigned long);int main(void){\
+         return cheri_representable_length(1)==1;}",
         "typed",
     ),
     // the builtin spelling of cheri_is_equal_exact is another one, so this name is free

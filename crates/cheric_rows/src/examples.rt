@@ -1,10 +1,6 @@
 //! The programs of `examples/`, each with what it puts and how it ends.
 
-use crate::calls::{Answer, answers_input, sure_file};
-use std::alloc::Global;
-
-/// A program, its input, and the status, output and line of its run.
-type Example = (&'static str, &'static str, u8, &'static str, &'static str);
+use crate::calls::{Row, SURE, Table, calls_are_answered, files_are_answered};
 
 const BYE: &str =
     r#"/* The status that a program gives is the low eight bits of what main returns: 300 is 44.
@@ -142,7 +138,7 @@ int main(void) {
 "#;
 
 const MACHINE: &str =
-    r#"/* A little stack machine: it pushes numbers, adds, multiplies, shows and jumps. It shows the squares from 1 to 9.
+    r#"/* A little stack machine: it pushes, adds, multiplies, shows and jumps. It shows the squares from 1 to 9.
    Output: 1, 4, 9, 16, 25, 36, 49, 64 and 81, a line each. Then `exit 9`, status 1. */
 enum Opcode { PUSH, DUPLICATE, ADD, MULTIPLY, SHOW, LOAD, STORE, JUMP_BELOW, HALT };
 struct Machine {
@@ -222,7 +218,7 @@ int main(void) {
 "#;
 
 const PROVENANCE: &str =
-    r#"/* An uintptr_t keeps what a pointer may do, through a sum with a plain integer too; the bytes of a pointer do not.
+    r#"/* An uintptr_t keeps what a pointer may do, also through a sum with an integer; the bytes of a pointer do not.
    Output: 22. Then `trap tag 12:19`, status 2. */
 int main(void) {
     int a[3] = {1, 2, 3};
@@ -461,58 +457,62 @@ int main(void) {
 }
 "#;
 
-const EXAMPLES: [Example; 25] = [
-    (BYE, "", 1, "bye", "exit 44\n"),
-    (BYTES, "", 0, "Hi", "exit 0\n"),
-    (CAPABILITIES, "", 2, "1\n40\n8\n4\n", "trap bounds 16:6\n"),
-    (ECHO, "again\n", 0, "again\n", "exit 0\n"),
-    (FAR_POINTER, "", 2, "A", "trap tag 10:6\n"),
-    (FUNCTION_POINTERS, "", 0, "7\n3\n10\n2\n", "exit 0\n"),
-    (HEAP_IS_FULL, "", 0, "YN", "exit 0\n"),
-    (HI, "", 0, "Hi", "exit 0\n"),
-    (LIST, "sorted\n", 1, "deorst", "exit 6\n"),
-    (
-        MACHINE,
-        "",
-        1,
-        "1\n4\n9\n16\n25\n36\n49\n64\n81\n",
-        "exit 9\n",
-    ),
-    (MEMBER_BOUNDS, "", 2, "4", "trap bounds 13:6\n"),
-    (PADDING, "", 2, "PO", "trap bounds 9:6\n"),
-    (PROVENANCE, "", 2, "22", "trap tag 12:19\n"),
-    (STACK_EXHAUSTED, "", 3, ".", "stack 4:12\n"),
-    (STRUCTS, "", 0, "8\n2\n5\n", "exit 0\n"),
-    (TRAP_ALIGN, "", 2, "1", "trap align 7:16\n"),
-    (TRAP_BOUNDS, "", 2, "ABCDEFGHIJ", "trap bounds 6:10\n"),
-    (TRAP_EXECUTE, "", 2, "A", "trap execute 11:13\n"),
-    (TRAP_LOAD, "", 2, "w", "trap load 8:14\n"),
-    (TRAP_SEALED, "", 2, "f", "trap sealed 10:12\n"),
-    (TRAP_STORE, "", 2, "a", "trap store 6:6\n"),
-    (TRAP_STORECAP, "", 2, "i", "trap storecap 10:5\n"),
-    (TRAP_TAG, "", 2, "7", "trap tag 8:19\n"),
-    (
-        WORDS,
-        "to be or not to be\n",
-        0,
-        "be 2\nnot 1\nor 1\nto 2\n",
-        "exit 0\n",
-    ),
-    (WRAPS, "", 0, "WDRS", "exit 0\n"),
+/// The programs, with the status, output and line of their runs.
+const EXAMPLES: [Row; 22] = [
+    (BYE, 1, "bye", "exit 44\n"),
+    (BYTES, 0, "Hi", "exit 0\n"),
+    (CAPABILITIES, 2, "1\n40\n8\n4\n", "trap bounds 16:6\n"),
+    (FAR_POINTER, 2, "A", "trap tag 10:6\n"),
+    (FUNCTION_POINTERS, 0, "7\n3\n10\n2\n", "exit 0\n"),
+    (HEAP_IS_FULL, 0, "YN", "exit 0\n"),
+    (HI, 0, "Hi", "exit 0\n"),
+    (MACHINE, 1, "1\n4\n9\n16\n25\n36\n49\n64\n81\n", "exit 9\n"),
+    (MEMBER_BOUNDS, 2, "4", "trap bounds 13:6\n"),
+    (PADDING, 2, "PO", "trap bounds 9:6\n"),
+    (PROVENANCE, 2, "22", "trap tag 12:19\n"),
+    (STACK_EXHAUSTED, 3, ".", "stack 4:12\n"),
+    (STRUCTS, 0, "8\n2\n5\n", "exit 0\n"),
+    (TRAP_ALIGN, 2, "1", "trap align 7:16\n"),
+    (TRAP_BOUNDS, 2, "ABCDEFGHIJ", "trap bounds 6:10\n"),
+    (TRAP_EXECUTE, 2, "A", "trap execute 11:13\n"),
+    (TRAP_LOAD, 2, "w", "trap load 8:14\n"),
+    (TRAP_SEALED, 2, "f", "trap sealed 10:12\n"),
+    (TRAP_STORE, 2, "a", "trap store 6:6\n"),
+    (TRAP_STORECAP, 2, "i", "trap storecap 10:5\n"),
+    (TRAP_TAG, 2, "7", "trap tag 8:19\n"),
+    (WRAPS, 0, "WDRS", "exit 0\n"),
 ];
 
-fn does_as_it_says(alloc: Global, &(file, input, status, put, line): &Example) -> bool {
-    let Ok(mut files) = sure_file(alloc, "a.c", file.as_bytes()) else {
-        return false;
-    };
-    let answer = Answer { status, put, line };
-    let input = (input.as_bytes(), 0);
-    answers_input(alloc, &mut files, "cheric run a.c", input, [0; 2], answer).unwrap_or(false)
-}
+/// Those that read, each with an input.
+const READING: [Table; 3] = [
+    Table {
+        file: ECHO,
+        is_built: false,
+        input: "again\n",
+        cases: &[("cheric run a.c", SURE, 0, "again\n", "exit 0\n")],
+    },
+    Table {
+        file: LIST,
+        is_built: false,
+        input: "sorted\n",
+        cases: &[("cheric run a.c", SURE, 1, "deorst", "exit 6\n")],
+    },
+    Table {
+        file: WORDS,
+        is_built: false,
+        input: "to be or not to be\n",
+        cases: &[(
+            "cheric run a.c",
+            SURE,
+            0,
+            "be 2\nnot 1\nor 1\nto 2\n",
+            "exit 0\n",
+        )],
+    },
+];
 
 #[test]
 fn examples_do_what_they_say(rt: HostRuntime) {
-    for row in &EXAMPLES {
-        assert!(rt; does_as_it_says(rt.alloc(), row), "{}", row.0);
-    }
+    files_are_answered(&rt, rt.alloc(), "cheric run a.c", &EXAMPLES);
+    calls_are_answered(&rt, rt.alloc(), &READING);
 }

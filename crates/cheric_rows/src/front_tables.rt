@@ -110,7 +110,8 @@ pub(super) const DECLARATIONS: [(&str, &str); 52] = [
     ),
     // a call's value is read by .
     (
-        "struct S{int a[2];};struct S f(void);int main(void){return f().a[1];}struct S f(void){struct S s={{1,2}};return s;}",
+        "struct S{int a[2];};struct S f(void);int main(void){return f().a[1];}struct S f(void){struct S s={{1,2}};\
+         return s;}",
         "typed",
     ),
     // and is no place
@@ -257,7 +258,8 @@ pub(super) const DECLARATIONS: [(&str, &str); 52] = [
 pub(super) const OPERATORS: [(&str, &str); 27] = [
     // arrays and functions as values, but not under &
     (
-        "int f(void){return 1;}int main(void){int a[3];int *p=a;int(*g)(void)=f;int(*h)[3]=&a;return p==a&&g==&f&&h!=0;}",
+        "int f(void){return 1;}int main(void){int a[3];int *p=a;int(*g)(void)=f;int(*h)[3]=&a;\
+         return p==a&&g==&f&&h!=0;}",
         "typed",
     ),
     // a function has no size
@@ -478,7 +480,8 @@ pub(super) const PLACES: [(&str, &str); 32] = [
     ("int main(void){putchar();return 0;}", "136 1:16"),
     // members of values are read
     (
-        "struct S{int a;int b[2];};int main(void){struct S s;struct S t;t.a=1;t.b[0]=2;return (s=t).a+(0,t).b[0]+(1?s:t).a;}",
+        "struct S{int a;int b[2];};int main(void){struct S s;struct S t;t.a=1;t.b[0]=2;\
+         return (s=t).a+(0,t).b[0]+(1?s:t).a;}",
         "typed",
     ),
     // and not assigned
@@ -575,7 +578,8 @@ pub(super) const CONSTANTS: [(&str, &str); 29] = [
     ("int main(void){int a[3]=\"ab\";return 0;}", "133 1:25"),
     // the result has the argument's type
     (
-        "int main(void){int x=0;int *p=&x;p=cheri_bounds_set(p,4);return cheri_tag_get(p)+__builtin_cheri_equal_exact(p,p);}",
+        "int main(void){int x=0;int *p=&x;p=cheri_bounds_set(p,4);\
+         return cheri_tag_get(p)+__builtin_cheri_equal_exact(p,p);}",
         "typed",
     ),
     // 5 is no capability
@@ -598,7 +602,8 @@ pub(super) const CONSTANTS: [(&str, &str); 29] = [
 pub(super) const STATEMENTS: [(&str, &str); 33] = [
     // in their places
     (
-        "int main(void){int i;for(i=0;i<9;i++){if(i==3)continue;if(i==5)break;}do{i--;}while(i);switch(i){case 'a':break;default:;}return i;}",
+        "int main(void){int i;for(i=0;i<9;i++){if(i==3)continue;if(i==5)break;}do{i--;}while(i);switch(i){\
+         case 'a':break;default:;}return i;}",
         "typed",
     ),
     // in no loop
@@ -686,12 +691,14 @@ pub(super) const STATEMENTS: [(&str, &str); 33] = [
     ),
     // nine parameters
     (
-        "int f(int a,int b,int c,int d,int e,int g,int h,int i,int j){return j;}int main(void){return f(1,2,3,4,5,6,7,8,9);}",
+        "int f(int a,int b,int c,int d,int e,int g,int h,int i,int j){return j;}int main(void){\
+         return f(1,2,3,4,5,6,7,8,9);}",
         "typed",
     ),
     // nine parameters take nine arguments
     (
-        "int f(int a,int b,int c,int d,int e,int g,int h,int i,int j){return j;}int main(void){return f(1,2,3,4,5,6,7,8);}",
+        "int f(int a,int b,int c,int d,int e,int g,int h,int i,int j){return j;}int main(void){\
+         return f(1,2,3,4,5,6,7,8);}",
         "136 1:94",
     ),
     // nine in a type name

@@ -1,12 +1,14 @@
 //! Images by hand: written to their files, read, loaded and run.
 
-use crate::calls::{Answer, answers, elf_of, one_file};
+use crate::calls::{Answer, SURE, answers_on};
 use crate::version_1::{TAIL, WORDS};
 use cap_machine::End;
-use ck_base::{NoMemory, SureSink, SureSource};
+use cheric_build::build;
+use ck_base::{NoMemory, Refusal, SureSink, SureSource};
 use elf_file::{ElfRefusal, Image, Reloc, Sequence, View, write};
 use image_load::{LoadRefusal, load};
 use std::alloc::{AllocError, Global};
+use std::process::Abort;
 
 const TEXT: u64 = 65_536;
 
@@ -25,8 +27,57 @@ const RELOC: Reloc = Reloc {
     perms: 125,
 };
 
+/// A sentry of the text, in the last place of the table.
+const SENTRY: Reloc = Reloc {
+    place: TABLE + 32,
+    base: TEXT,
+    length: 16,
+    perms: 0x8000_0000_0000_0003,
+    ..RELOC
+};
+
+/// Places that are no multiple of 16, and behind the table.
+const UNALIGNED: Reloc = Reloc {
+    place: TABLE + 8,
+    ..RELOC
+};
+
+const BEHIND: Reloc = Reloc {
+    place: TABLE + 48,
+    ..RELOC
+};
+
+/// Bounds and permissions that no capability has.
+const WIDE: Reloc = Reloc {
+    base: TEXT + 16,
+    length: 4097,
+    ..RELOC
+};
+
+const OTHER: Reloc = Reloc {
+    perms: 128,
+    ..RELOC
+};
+
+/// A sentry's permissions on the table, and all permissions but Execute on the text.
+const EXECUTE: Reloc = Reloc {
+    perms: 0x8000_0000_0000_0003,
+    ..RELOC
+};
+
+const OVER_TEXT: Reloc = Reloc {
+    base: TEXT,
+    length: 16,
+    ..RELOC
+};
+
+/// The instruction `ebreak`, and `cjal c0,0`.
+const EBREAK: u32 = 0x0010_0073;
+
+const CJAL: u32 = 0x0000_006f;
+
 /// What becomes of the bytes of a file.
-#[derive(Clone, Copy, Debug, PartialEq, Eq)]
+#[derive(Clone, Copy, PartialEq, Eq)]
 enum Outcome {
     NotRead(ElfRefusal),
     NotLoaded(LoadRefusal),
@@ -77,155 +128,190 @@ fn file(alloc: Global, form: &Form) -> Result<Vec<u8>, NoMemory> {
     write(alloc, &image)
 }
 
-/// Whether this becomes of that file.
-fn becomes(alloc: Global, form: &Form, want: Outcome) -> bool {
-    let Ok(elf) = file(alloc, form) else {
-        return false;
-    };
-    outcome_of(alloc, &elf) == want
-}
-
-/// Version, word, entry and the heap's base, with what becomes of the image.
-const IMAGES: [(u64, u32, u64, u64, Outcome); 11] = [
-    (1, 0x0010_0073, TEXT, HEAP, Outcome::Ended(End::Break(TEXT))),
-    (1, 0, TEXT, HEAP, Outcome::Ended(End::Illegal(TEXT))),
-    (0, 0, TEXT, HEAP, Outcome::NotRead(ElfRefusal::Version)),
-    (2, 0, TEXT, HEAP, Outcome::Ended(End::Illegal(TEXT))),
-    (3, 0, TEXT, HEAP, Outcome::NotRead(ElfRefusal::Version)),
+/// Images, with what becomes of them.
+const IMAGES: [(Form, Outcome); 16] = [
     (
-        1,
-        0,
-        TEXT,
-        HEAP + 8,
-        Outcome::NotLoaded(LoadRefusal::Segment),
-    ),
-    (
-        1,
-        0,
-        TEXT,
-        TEXT - 4096,
-        Outcome::NotLoaded(LoadRefusal::Segment),
-    ),
-    (1, 0, TEXT, STACK, Outcome::NotLoaded(LoadRefusal::Overlap)),
-    (1, 0, TEXT, TEXT, Outcome::NotLoaded(LoadRefusal::Overlap)),
-    (1, 0, TEXT + 2, HEAP, Outcome::NotLoaded(LoadRefusal::Entry)),
-    (
-        1,
-        0,
-        TEXT + 16,
-        HEAP,
-        Outcome::NotLoaded(LoadRefusal::Entry),
-    ),
-];
-
-/// Place, base, length and permissions of the relocation, with what becomes of an image of the words `ebreak`.
-const RELOCS: [(u64, u64, u64, u64, Outcome); 5] = [
-    (
-        TABLE + 32,
-        TEXT,
-        16,
-        0x8000_0000_0000_0003,
+        (1, EBREAK, TEXT, HEAP, RELOC),
         Outcome::Ended(End::Break(TEXT)),
     ),
     (
-        TABLE + 8,
-        TABLE,
-        48,
-        125,
+        (1, 0, TEXT, HEAP, RELOC),
+        Outcome::Ended(End::Illegal(TEXT)),
+    ),
+    (
+        (0, 0, TEXT, HEAP, RELOC),
+        Outcome::NotRead(ElfRefusal::Version),
+    ),
+    (
+        (2, 0, TEXT, HEAP, RELOC),
+        Outcome::Ended(End::Illegal(TEXT)),
+    ),
+    (
+        (3, 0, TEXT, HEAP, RELOC),
+        Outcome::NotRead(ElfRefusal::Version),
+    ),
+    (
+        (1, 0, TEXT, HEAP + 8, RELOC),
+        Outcome::NotLoaded(LoadRefusal::Segment),
+    ),
+    (
+        (1, 0, TEXT, TEXT - 4096, RELOC),
+        Outcome::NotLoaded(LoadRefusal::Segment),
+    ),
+    (
+        (1, 0, TEXT, STACK, RELOC),
+        Outcome::NotLoaded(LoadRefusal::Overlap),
+    ),
+    (
+        (1, 0, TEXT, TEXT, RELOC),
+        Outcome::NotLoaded(LoadRefusal::Overlap),
+    ),
+    (
+        (1, 0, TEXT + 2, HEAP, RELOC),
+        Outcome::NotLoaded(LoadRefusal::Entry),
+    ),
+    (
+        (1, 0, TEXT + 16, HEAP, RELOC),
+        Outcome::NotLoaded(LoadRefusal::Entry),
+    ),
+    (
+        (1, EBREAK, TEXT, HEAP, SENTRY),
+        Outcome::Ended(End::Break(TEXT)),
+    ),
+    (
+        (1, EBREAK, TEXT, HEAP, UNALIGNED),
         Outcome::NotLoaded(LoadRefusal::Place),
     ),
     (
-        TABLE + 48,
-        TABLE,
-        48,
-        125,
+        (1, EBREAK, TEXT, HEAP, BEHIND),
         Outcome::NotLoaded(LoadRefusal::Place),
     ),
     (
-        TABLE,
-        TEXT + 16,
-        4097,
-        125,
+        (1, EBREAK, TEXT, HEAP, WIDE),
         Outcome::NotLoaded(LoadRefusal::Bounds),
     ),
     (
-        TABLE,
-        TABLE,
-        48,
-        128,
+        (1, EBREAK, TEXT, HEAP, OTHER),
         Outcome::NotLoaded(LoadRefusal::Bounds),
     ),
 ];
+
+fn become_so(rt: &impl Abort, alloc: Global, rows: &[(Form, Outcome)]) {
+    for (form, want) in rows {
+        let elf = file(alloc, form).expect(rt, "a file");
+        assert!(rt; outcome_of(alloc, &elf) == *want, "{form:?}");
+    }
+}
 
 #[test]
 fn images_end_or_are_refused(rt: HostRuntime) {
-    for &(version, word, entry, heap, want) in &IMAGES {
-        let form = (version, word, entry, heap, RELOC);
-        assert!(rt; becomes(rt.alloc(), &form, want), "{want:?} of {form:?}");
-    }
+    become_so(&rt, rt.alloc(), &IMAGES);
 }
 
-#[test]
-fn relocations_are_taken_or_refused(rt: HostRuntime) {
-    for &(place, base, length, perms, want) in &RELOCS {
-        let reloc = Reloc {
-            place,
-            base,
-            offset: 0,
-            length,
-            perms,
-        };
-        let form = (1, 0x0010_0073, TEXT, HEAP, reloc);
-        assert!(rt; becomes(rt.alloc(), &form, want), "{want:?} of {reloc:?}");
-    }
-}
+/// An image, with a mode of the command, and the status and line of its answer.
+type Commanded = (Form, &'static str, u8, &'static str);
 
-/// A relocation with bounds that no capability has.
-const WIDE: Reloc = Reloc {
-    place: TABLE,
-    base: TEXT + 16,
-    offset: 0,
-    length: 4097,
-    perms: 125,
-};
-
-/// Images, with the status and line of the command's mode `exec`.
-const EXECUTED: [(Form, u8, &str); 7] = [
-    ((1, 0x0010_0073, TEXT, HEAP, RELOC), 6, "break 65536\n"),
-    ((1, 0, TEXT, HEAP, RELOC), 6, "illegal 65536\n"),
-    ((1, 0, TEXT + 2, HEAP, RELOC), 12, "image 15\n"),
-    ((1, 0, TEXT, STACK, RELOC), 12, "image 12\n"),
-    ((1, 0, TEXT, HEAP, WIDE), 12, "image 14\n"),
-    ((2, 0, TEXT, HEAP, RELOC), 6, "illegal 65536\n"),
-    ((3, 0, TEXT, HEAP, RELOC), 12, "image 6\n"),
+const COMMANDED: [Commanded; 15] = [
+    (
+        (1, EBREAK, TEXT, HEAP, RELOC),
+        "cheric exec b",
+        6,
+        "break 65536\n",
+    ),
+    (
+        (1, 0, TEXT, HEAP, RELOC),
+        "cheric exec b",
+        6,
+        "illegal 65536\n",
+    ),
+    (
+        (1, 0, TEXT + 2, HEAP, RELOC),
+        "cheric exec b",
+        12,
+        "image 15\n",
+    ),
+    (
+        (1, 0, TEXT, STACK, RELOC),
+        "cheric exec b",
+        12,
+        "image 12\n",
+    ),
+    ((1, 0, TEXT, HEAP, WIDE), "cheric exec b", 12, "image 14\n"),
+    (
+        (2, 0, TEXT, HEAP, RELOC),
+        "cheric exec b",
+        6,
+        "illegal 65536\n",
+    ),
+    ((3, 0, TEXT, HEAP, RELOC), "cheric exec b", 12, "image 6\n"),
+    (
+        (1, CJAL, TEXT, HEAP, RELOC),
+        "cheric audit b",
+        0,
+        "audit yes\n",
+    ),
+    (
+        (2, CJAL, TEXT, HEAP, RELOC),
+        "cheric audit b",
+        0,
+        "audit yes\n",
+    ),
+    (
+        (1, CJAL, TEXT, HEAP, EXECUTE),
+        "cheric audit b",
+        7,
+        "audit no reloc 0 7\n",
+    ),
+    (
+        (2, CJAL, TEXT, HEAP, OVER_TEXT),
+        "cheric audit b",
+        7,
+        "audit no reloc 0 8\n",
+    ),
+    (
+        (1, 0, TEXT, HEAP, RELOC),
+        "cheric audit b",
+        7,
+        "audit no word 65536 1\n",
+    ),
+    (
+        (1, EBREAK, TEXT, HEAP, EXECUTE),
+        "cheric audit b",
+        7,
+        "audit no word 65536 2\n",
+    ),
+    (
+        (1, 0x0000_0073, TEXT, HEAP, RELOC),
+        "cheric audit b",
+        7,
+        "audit no word 65536 4\n",
+    ),
+    (
+        (1, 0, TEXT + 2, HEAP, RELOC),
+        "cheric audit b",
+        12,
+        "image 15\n",
+    ),
 ];
 
-/// Whether the command answers these words so on a file of an image.
+/// Whether the command answers these words so on a file `b`.
 fn is_answered(alloc: Global, elf: &[u8], words: &str, answer: Answer<'_>) -> bool {
-    match one_file(alloc, "a.elf", elf, 0) {
-        Ok(mut files) => answers(alloc, &mut files, words, [0; 2], answer).unwrap_or(false),
-        Err(_) => false,
-    }
+    answers_on(alloc, "b", elf, words, "", SURE, answer).unwrap_or(false)
 }
 
-/// Whether it answers so by a line alone on the image.
-fn says(alloc: Global, words: &str, (form, status, line): &(Form, u8, &str)) -> bool {
-    let answer = Answer {
-        status: *status,
-        put: "",
-        line: *line,
-    };
-    let Ok(elf) = file(alloc, form) else {
-        return false;
-    };
-    is_answered(alloc, &elf, words, answer)
+fn are_answered(rt: &impl Abort, alloc: Global, rows: &[Commanded]) {
+    for (form, words, status, line) in rows {
+        let elf = file(alloc, form).expect(rt, "a file");
+        assert!(rt;
+            is_answered(alloc, &elf, *words, (*status, "", *line)),
+            "{form:?}"
+        );
+    }
 }
 
 #[test]
-fn the_command_runs_or_refuses_images(rt: HostRuntime) {
-    for row in &EXECUTED {
-        assert!(rt; says(rt.alloc(), "cheric exec a.elf", row), "{row:?}");
-    }
+fn the_command_runs_audits_or_refuses_images(rt: HostRuntime) {
+    are_answered(&rt, rt.alloc(), &COMMANDED);
 }
 
 /// The version word of the file stands here.
@@ -244,69 +330,20 @@ fn first_version(alloc: Global, version: u8) -> Result<Vec<u8>, AllocError> {
     Ok(file)
 }
 
-/// The version word of the file, with the status, output and line of the command's mode `exec`.
-const VERSIONS: [(u8, u8, &str, &str); 2] = [(1, 0, "Hi", "exit 0\n"), (2, 12, "", "image 6\n")];
-
-fn runs_version(alloc: Global, &(version, status, put, line): &(u8, u8, &str, &str)) -> bool {
-    let answer = Answer { status, put, line };
-    let Ok(elf) = first_version(alloc, version) else {
-        return false;
-    };
-    is_answered(alloc, &elf, "cheric exec a.elf", answer)
-}
-
-#[test]
-fn the_command_runs_a_file_of_version_1(rt: HostRuntime) {
-    for row in &VERSIONS {
-        assert!(rt; runs_version(rt.alloc(), row), "{row:?}");
-    }
-}
-
-/// A sentry's permissions on the table, and all permissions but Execute on the text.
-const EXECUTE: Reloc = Reloc {
-    perms: 0x8000_0000_0000_0003,
-    ..RELOC
-};
-
-const OVER_TEXT: Reloc = Reloc {
-    base: TEXT,
-    length: 16,
-    ..RELOC
-};
-
-/// Images, with the status and line of the command's mode `audit`.
-const AUDITED: [(Form, u8, &str); 8] = [
-    // `cjal c0,0`
-    ((1, 0x0000_006f, TEXT, HEAP, RELOC), 0, "audit yes\n"),
-    ((2, 0x0000_006f, TEXT, HEAP, RELOC), 0, "audit yes\n"),
-    (
-        (1, 0x0000_006f, TEXT, HEAP, EXECUTE),
-        7,
-        "audit no reloc 0 7\n",
-    ),
-    (
-        (2, 0x0000_006f, TEXT, HEAP, OVER_TEXT),
-        7,
-        "audit no reloc 0 8\n",
-    ),
-    ((1, 0, TEXT, HEAP, RELOC), 7, "audit no word 65536 1\n"),
-    (
-        (1, 0x0010_0073, TEXT, HEAP, EXECUTE),
-        7,
-        "audit no word 65536 2\n",
-    ),
-    (
-        (1, 0x0000_0073, TEXT, HEAP, RELOC),
-        7,
-        "audit no word 65536 4\n",
-    ),
-    ((1, 0, TEXT + 2, HEAP, RELOC), 12, "image 15\n"),
+/// The version word of the file, with the answer of the command's mode `exec`.
+const VERSIONS: [(u8, Answer<'static>); 2] = [
+    (1, (0, "Hi", "exit 0\n")),
+    (2, (12, "", "image 6\n")),
 ];
 
 #[test]
-fn the_command_audits_images(rt: HostRuntime) {
-    for row in &AUDITED {
-        assert!(rt; says(rt.alloc(), "cheric audit a.elf", row), "{row:?}");
+fn the_command_runs_a_file_of_version_1(rt: HostRuntime) {
+    for &(version, answer) in &VERSIONS {
+        let elf = first_version(rt.alloc(), version).expect(&rt, "a file");
+        assert!(rt;
+            is_answered(rt.alloc(), &elf, "cheric exec b", answer),
+            "{version}"
+        );
     }
 }
 
@@ -328,27 +365,36 @@ fn complemented(place: usize) -> Outcome {
     }
 }
 
-/// The first length at which a cut file is answered otherwise.
-fn first_wrong_cut(alloc: Global, elf: &[u8]) -> Option<usize> {
-    (0..elf.len()).find(|len| outcome_of(alloc, &elf[..*len]) != cut(*len))
+/// Whether a built file is refused at each cut.
+fn is_refused_cut(alloc: Global, elf: &[u8]) -> bool {
+    for len in 0..elf.len() {
+        if outcome_of(alloc, &elf[..len]) != cut(len) {
+            return false;
+        }
+    }
+    true
 }
 
-/// The first place at which a header byte that is complemented is answered otherwise.
-fn first_wrong_byte(alloc: Global, elf: &mut [u8]) -> Option<usize> {
+/// Whether each header byte is judged where it is complemented.
+fn is_judged_complemented(alloc: Global, elf: &mut [u8]) -> bool {
     for place in 0..elf.len().min(736) {
         elf[place] = !elf[place];
         if outcome_of(alloc, elf) != complemented(place) {
-            return Some(place);
+            return false;
         }
         elf[place] = !elf[place];
     }
-    None
+    true
+}
+
+/// Whether a built file is refused so at each cut, and judged so with each header byte complemented.
+fn is_refused_broken(alloc: Global) -> Result<bool, Refusal> {
+    let file = b"int main(void){putchar(72);putchar(105);return 0;}";
+    let mut elf = build(alloc, file)?.elf;
+    Ok(is_refused_cut(alloc, &elf) && is_judged_complemented(alloc, &mut elf))
 }
 
 #[test]
 fn built_files_are_refused_at_each_cut_and_header_byte(rt: HostRuntime) {
-    let file = b"int main(void){putchar(72);putchar(105);return 0;}";
-    let mut elf = elf_of(&rt, rt.alloc(), file);
-    assert!(rt; first_wrong_cut(rt.alloc(), &elf).is_none());
-    assert!(rt; first_wrong_byte(rt.alloc(), &mut elf).is_none());
+    assert!(rt; is_refused_broken(rt.alloc()).unwrap_or(false));
 }

@@ -14,8 +14,6 @@ mod declared_files;
 #[cfg(test)]
 mod examples;
 #[cfg(test)]
-mod front_chains;
-#[cfg(test)]
 mod front_rows;
 #[cfg(test)]
 mod front_tables;
@@ -27,6 +25,8 @@ mod image_commands;
 mod images;
 #[cfg(test)]
 mod initialised_files;
+#[cfg(test)]
+mod long_files;
 #[cfg(test)]
 mod meant_examples;
 #[cfg(test)]
@@ -43,7 +43,5 @@ mod text_commands;
 mod typed_files;
 #[cfg(test)]
 mod version_1;
-#[cfg(test)]
-mod whole_files;
 #[cfg(test)]
 mod whole_language;

@@ -41,8 +41,8 @@ int main(void) {
 "#;
 
 const PADDING: &str =
-    r#"/* Bounds of 100,000 bytes cannot be told exactly, so that the object has padding behind it. A use of it reaches no
-   other object, but another length or another format of capabilities has it not.
+    r#"/* Bounds of 100,000 bytes cannot be told exactly, so that the object has padding behind it. A use of it reaches
+   no other object, but another length or another format of capabilities has it not.
    By `run`: output ab. Then `exit 0`, status 0. By `mean`: output a. Then `unspecified padding 8:6`, status 5. */
 int main(void) {
     char *p = malloc(100000);
@@ -55,7 +55,7 @@ int main(void) {
 "#;
 
 const ROUNDING: &str =
-    r#"/* Bounds of 5,000 bytes are exact at some addresses alone: how long they come out depends on where the object stands.
+    r#"/* Bounds of 5,000 bytes are exact at some addresses alone: how long they come out depends on the object's place.
    By `run`: output >. Then `exit 0`, status 0. By `mean`: `unspecified rounding 5:31`, status 5. */
 int main(void) {
     char *p = malloc(9000);
@@ -66,8 +66,8 @@ int main(void) {
 "#;
 
 const EXCURSION: &str =
-    r#"/* A pointer may leave its object and come back while it is near. How far a tag lives depends on the object's length and
-   place: 1,024 bytes are always too many to be told.
+    r#"/* A pointer may leave its object and come back while it is near. How far a tag lives depends on the
+   object's length and place: 1,024 bytes are always too many to be told.
    By `run`: output 1. Then `exit 0`, status 0. By `mean`: output 1. Then `unspecified excursion 8:19`, status 5. */
 int main(void) {
     char a[4] = {1, 2, 3, 4};
@@ -79,7 +79,7 @@ int main(void) {
 "#;
 
 const HEAP: &str =
-    r#"/* How large a heap is, is not the program's to know: here it has 16,777,216 bytes, and what does not fit gives null.
+    r#"/* How large a heap is, no program can know: here it has 16,777,216 bytes, and what does not fit gives null.
    By `run`: output YN. Then `exit 0`, status 0. By `mean`: output Y. Then `unspecified heap 6:21`, status 5. */
 int main(void) {
     char *p = malloc(16);
@@ -105,7 +105,7 @@ int main(void) {
 "#;
 
 const OUTSIDE: &str =
-    r#"/* A local of a function that has returned is no more. What a pointer to it reads is nothing that a meaning tells.
+    r#"/* A local of a function that has returned is no more. What a pointer to it reads is told by no meaning.
    By `mean`: output 7. Then `outside 9:19`, status 5. */
 static int *local(void) {
     int x = 7;

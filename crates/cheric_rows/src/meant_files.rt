@@ -1,7 +1,7 @@
 //! The mode `mean`: where the strict meaning of a program ends.
 
-use crate::calls::{Answer, Row, answers_input, files_are_answered, sure_file};
-use std::alloc::Global;
+use crate::calls::{Row, Table, calls_are_answered, files_are_answered};
+use crate::hostile::COPY;
 
 /// Files, and how their strict meanings end, with eleven turns.
 const MEANT: [Row; 16] = [
@@ -24,7 +24,8 @@ const MEANT: [Row; 16] = [
         "unspecified address 1:76\n",
     ),
     (
-        "int main(void){\nchar a[40];char *p=a+400;p=p-400;p[0]=65;putchar(a[0]);\np=a+20000;p=p-20000;\np[0]=66;return 0;}",
+        "int main(void){\nchar a[40];char *p=a+400;p=p-400;p[0]=65;putchar(a[0]);\np=a+20000;p=p-20000;\np[0]=66;\
+         return 0;}",
         5,
         "A",
         "unspecified excursion 3:4\n",
@@ -98,32 +99,20 @@ fn strict_meanings_end_so(rt: HostRuntime) {
     files_are_answered(&rt, rt.alloc(), "cheric mean a.c --turns 11", &MEANT);
 }
 
-/// A file that copies its input.
-const COPY: &str = "int main(void){int c;while((c=getchar())!=-1)putchar(c);return 0;}";
-
-/// The failing calls of the input, and of the output and the notes, with the status, output and line.
-type Fault = (u64, [u64; 2], u8, &'static str, &'static str);
-
-const FAULTS: [Fault; 4] = [
-    (0, [0, 0], 0, "abc", "exit 0\n"),
-    (2, [0, 0], 21, "a", "input\n"),
-    (0, [2, 0], 22, "a", "output\n"),
-    (0, [0, 1], 22, "abc", ""),
-];
-
-fn ends_so(alloc: Global, &(read, failing, status, put, line): &Fault) -> bool {
-    let Ok(mut files) = sure_file(alloc, "a.c", COPY.as_bytes()) else {
-        return false;
-    };
-    let answer = Answer { status, put, line };
-    let words = "cheric mean a.c";
-    answers_input(alloc, &mut files, words, (b"abc", read), failing, answer).unwrap_or(false)
-}
-
 /// Where the input, the output or the notes fail, `mean` answers as `run` does.
+const FAULTS: [Table; 1] = [Table {
+    file: COPY,
+    is_built: false,
+    input: "abc",
+    cases: &[
+        ("cheric mean a.c", [0, 0, 0, 0], 0, "abc", "exit 0\n"),
+        ("cheric mean a.c", [0, 2, 0, 0], 21, "a", "input\n"),
+        ("cheric mean a.c", [0, 0, 2, 0], 22, "a", "output\n"),
+        ("cheric mean a.c", [0, 0, 0, 1], 22, "abc", ""),
+    ],
+}];
+
 #[test]
 fn faults_end_strict_meanings(rt: HostRuntime) {
-    for row in &FAULTS {
-        assert!(rt; ends_so(rt.alloc(), row), "{row:?}");
-    }
+    calls_are_answered(&rt, rt.alloc(), &FAULTS);
 }

@@ -7,7 +7,7 @@ use bounds_place::{USUAL, place};
 use c_tree::{Typed, weight};
 use cap_reloc::{Table, table};
 use cheric_build::{build, build_typed, front};
-use ck_base::{NoMemory, Pos, Refusal, Sequence};
+use ck_base::{NoMemory, Refusal, Sequence};
 use elf_file::Reloc;
 use obj_mem::{Frame, Map};
 use std::alloc::Global;
@@ -33,40 +33,6 @@ fn weighed(alloc: Global) -> Result<(u64, bool, u64), Refusal> {
 #[test]
 fn a_file_is_built_as_its_program(rt: HostRuntime) {
     assert!(rt; weighed(rt.alloc()) == Ok((24, true, 32 * 24 + 4096)));
-}
-
-/// Files, and the code at their start by which they are not built (0: none).
-const FILES: [(&str, u16); 5] = [
-    ("int g;int main(void){return 0;}", 0),
-    ("int main(void){int *p=0;return !p;}", 0),
-    ("int f(void){return 0;}int main(void){return f();}", 0),
-    (
-        "char a[40000000];char b[40000000];int main(void){return 0;}",
-        141,
-    ),
-    ("int main(void){char a[67108800];return 0;}", 141),
-];
-
-/// The refusal by which the program of a file is not built.
-fn refused(alloc: Global, file: &str) -> Result<Option<Refusal>, Refusal> {
-    let p = front(alloc, file.as_bytes())?;
-    Ok(build_typed(alloc, &p, USUAL).err())
-}
-
-fn is_refused(alloc: Global, &(file, code): &(&str, u16)) -> bool {
-    let at_start = Refusal::Code(code, Pos { line: 1, col: 1 });
-    let want = (code != 0).then_some(at_start);
-    let Ok(refusal) = refused(alloc, file) else {
-        return false;
-    };
-    refusal == want
-}
-
-#[test]
-fn programs_are_built_or_refused_at_their_start(rt: HostRuntime) {
-    for row in &FILES {
-        assert!(rt; is_refused(rt.alloc(), row), "{row:?}");
-    }
 }
 
 /// A frame of 16 bytes, which are saved area.

@@ -2,13 +2,11 @@
 
 ghost use Rattle.std.specs.Prelude.{◌<◌, ◌-◌, ◌^◌};
 
-use crate::calls::{
-    Answer, Row, answers, answers_input, files_are_answered, is_answered, one_file, sure_file,
-    words_are_answered, words_of,
-};
+use crate::calls::{Row, SURE, Table, calls_are_answered, files_are_answered, words_of};
+use crate::hostile::COPY;
 use cheric_top::cheric;
 use ck_base::{Files, HostFiles, StdInput, StdOutput};
-use std::alloc::{AllocError, Global};
+use std::alloc::Global;
 use std::fs;
 use std::test::Fail;
 
@@ -72,199 +70,194 @@ const FILES: [Row; 18] = [
     ),
 ];
 
-/// Lines on a file that puts `Hi`, with their answers.
-const LINES: [Row; 16] = [
-    ("cheric run a.c --steps 0", 4, "", "steps\n"),
-    ("cheric run a.c --steps 1", 4, "", "steps\n"),
-    ("cheric run a.c --steps 0000000099999", 0, "Hi", "exit 0\n"),
-    ("cheric run a.c --steps 1000000000000", 0, "Hi", "exit 0\n"),
-    // options in any order, and one that the mode does not use
-    ("cheric run a.c --heap 33554432 --steps 0", 4, "", "steps\n"),
-    ("cheric run a.c --steps 0 --stack 65536", 4, "", "steps\n"),
-    (
-        "cheric run a.c --stack 131072 --heap 16842752",
-        0,
-        "Hi",
-        "exit 0\n",
-    ),
-    ("cheric run a.c --out b", 0, "Hi", "exit 0\n"),
-    ("cheric run a.c --turns 7", 0, "Hi", "exit 0\n"),
-    // options anywhere, and a value in the option's own word
-    ("cheric run a.c --steps=5", 4, "", "steps\n"),
-    ("cheric --steps 5 run a.c", 4, "", "steps\n"),
-    ("cheric run --steps 5 a.c", 4, "", "steps\n"),
-    ("cheric run -- a.c", 0, "Hi", "exit 0\n"),
-    (
-        "cheric exec a.c --heap 16777216 --out b",
-        12,
-        "",
-        "image 1\n",
-    ),
-    ("cheric run b.c", 20, "", "file\n"),
-    ("cheric exec b.c --steps 9", 20, "", "file\n"),
-];
-
-/// Words that are no line.
-const NO_LINES: [&str; 42] = [
-    "",
-    "cheric",
-    "cheric run",
-    "cheric fly a.c",
-    "cheric runs a.c",
-    "cheric run a.c b.c",
-    "cheric run a.c --steps",
-    "cheric run a.c --steps x",
-    "cheric run a.c --steps 9x",
-    "cheric run a.c --steps +9",
-    "cheric run a.c --steps -9",
-    "cheric run a.c --step 9",
-    "cheric run a.c --steps 9 9",
-    "cheric run a.c --steps 9 --steps 9",
-    "cheric run a.c --steps 00000000000009",
-    "cheric run a.c --steps 1000000000001",
-    "cheric run a.c --steps= 9",
-    "cheric --help",
-    "cheric run a.c --help",
-    "cheric run a.c --fly",
-    "cheric run a.c --turns x",
-    "cheric run a.c --turns 10000000000000",
-    "cheric gen 0",
-    "cheric gen 65",
-    "cheric gen 07",
-    "cheric gen +7",
-    "cheric gen a.c",
-    "cheric gen",
-    "cheric build a.c --out",
-    "cheric build a.c --out b --out b",
-    // sizes that no heap and no stack may have
-    "cheric run a.c --heap 100000",
-    "cheric run a.c --heap 65536",
-    "cheric run a.c --heap 16777217",
-    "cheric run a.c --heap 67174400",
-    "cheric run a.c --stack 0",
-    "cheric run a.c --stack 65537",
-    "cheric run a.c --stack 33619968",
-    "cheric build a.c --heap 0",
-    "cheric exec a.c --stack 1",
-    "cheric audit a.c --heap x",
-    "cheric run a.c --heap 16777216 --stack 65536 --heap 16777216",
-    "cheric audit",
-];
-
-/// Failing calls of the files, the output and the notes, with the status, output and line of the file that puts `Hi`.
-type Fault = ([u64; 3], u8, &'static str, &'static str);
-
-const FAULTS: [Fault; 5] = [
-    ([1, 0, 0], 20, "", "file\n"),
-    ([0, 1, 0], 22, "", "output\n"),
-    ([0, 2, 0], 22, "H", "output\n"),
-    ([0, 3, 0], 0, "Hi", "exit 0\n"),
-    ([0, 0, 1], 22, "Hi", ""),
-];
-
-fn fails_so(alloc: Global, &(failing, status, put, line): &Fault) -> bool {
-    let [call, byte, note] = failing;
-    let Ok(mut files) = one_file(alloc, "a.c", HI.as_bytes(), call) else {
-        return false;
-    };
-    let answer = Answer { status, put, line };
-    answers(alloc, &mut files, "cheric run a.c", [byte, note], answer).unwrap_or(false)
-}
-
 #[test]
-fn files_and_faults_are_answered(rt: HostRuntime) {
+fn files_are_run(rt: HostRuntime) {
     files_are_answered(&rt, rt.alloc(), "cheric run a.c", &FILES);
-    for row in &FAULTS {
-        assert!(rt; fails_so(rt.alloc(), row), "{row:?}");
-    }
 }
 
-const NO_LINE: Answer = Answer {
-    status: 11,
-    put: "",
-    line: "words\n",
-};
+/// Words, and words that are no line.
+const LINES: [Table; 1] = [Table {
+    file: HI,
+    is_built: false,
+    input: "",
+    cases: &[
+        ("cheric run a.c --steps 0", SURE, 4, "", "steps\n"),
+        ("cheric run a.c --steps 1", SURE, 4, "", "steps\n"),
+        (
+            "cheric run a.c --steps 0000000099999",
+            SURE,
+            0,
+            "Hi",
+            "exit 0\n",
+        ),
+        (
+            "cheric run a.c --steps 1000000000000",
+            SURE,
+            0,
+            "Hi",
+            "exit 0\n",
+        ),
+        // options in any order, and one that the mode does not use
+        (
+            "cheric run a.c --heap 33554432 --steps 0",
+            SURE,
+            4,
+            "",
+            "steps\n",
+        ),
+        (
+            "cheric run a.c --steps 0 --stack 65536",
+            SURE,
+            4,
+            "",
+            "steps\n",
+        ),
+        (
+            "cheric run a.c --stack 131072 --heap 16842752",
+            SURE,
+            0,
+            "Hi",
+            "exit 0\n",
+        ),
+        ("cheric run a.c --out b", SURE, 0, "Hi", "exit 0\n"),
+        ("cheric run a.c --turns 7", SURE, 0, "Hi", "exit 0\n"),
+        // options anywhere, and a value in the option's own word
+        ("cheric run a.c --steps=5", SURE, 4, "", "steps\n"),
+        ("cheric --steps 5 run a.c", SURE, 4, "", "steps\n"),
+        ("cheric run --steps 5 a.c", SURE, 4, "", "steps\n"),
+        ("cheric run -- a.c", SURE, 0, "Hi", "exit 0\n"),
+        (
+            "cheric exec a.c --heap 16777216 --out b",
+            SURE,
+            12,
+            "",
+            "image 1\n",
+        ),
+        ("cheric run b.c", SURE, 20, "", "file\n"),
+        ("cheric exec b.c --steps 9", SURE, 20, "", "file\n"),
+        // words that are no line
+        ("", SURE, 11, "", "words\n"),
+        ("cheric", SURE, 11, "", "words\n"),
+        ("cheric run", SURE, 11, "", "words\n"),
+        ("cheric fly a.c", SURE, 11, "", "words\n"),
+        ("cheric runs a.c", SURE, 11, "", "words\n"),
+        ("cheric run a.c b.c", SURE, 11, "", "words\n"),
+        ("cheric run a.c --steps", SURE, 11, "", "words\n"),
+        ("cheric run a.c --steps x", SURE, 11, "", "words\n"),
+        ("cheric run a.c --steps 9x", SURE, 11, "", "words\n"),
+        ("cheric run a.c --steps +9", SURE, 11, "", "words\n"),
+        ("cheric run a.c --steps -9", SURE, 11, "", "words\n"),
+        ("cheric run a.c --step 9", SURE, 11, "", "words\n"),
+        ("cheric run a.c --steps 9 9", SURE, 11, "", "words\n"),
+        (
+            "cheric run a.c --steps 9 --steps 9",
+            SURE,
+            11,
+            "",
+            "words\n",
+        ),
+        (
+            "cheric run a.c --steps 00000000000009",
+            SURE,
+            11,
+            "",
+            "words\n",
+        ),
+        (
+            "cheric run a.c --steps 1000000000001",
+            SURE,
+            11,
+            "",
+            "words\n",
+        ),
+        ("cheric run a.c --steps= 9", SURE, 11, "", "words\n"),
+        ("cheric --help", SURE, 11, "", "words\n"),
+        ("cheric run a.c --help", SURE, 11, "", "words\n"),
+        ("cheric run a.c --fly", SURE, 11, "", "words\n"),
+        ("cheric run a.c --turns x", SURE, 11, "", "words\n"),
+        (
+            "cheric run a.c --turns 10000000000000",
+            SURE,
+            11,
+            "",
+            "words\n",
+        ),
+        ("cheric gen 0", SURE, 11, "", "words\n"),
+        ("cheric gen 65", SURE, 11, "", "words\n"),
+        ("cheric gen 07", SURE, 11, "", "words\n"),
+        ("cheric gen +7", SURE, 11, "", "words\n"),
+        ("cheric gen a.c", SURE, 11, "", "words\n"),
+        ("cheric gen", SURE, 11, "", "words\n"),
+        ("cheric build a.c --out", SURE, 11, "", "words\n"),
+        ("cheric build a.c --out b --out b", SURE, 11, "", "words\n"),
+        // sizes that no heap and no stack may have
+        ("cheric run a.c --heap 100000", SURE, 11, "", "words\n"),
+        ("cheric run a.c --heap 65536", SURE, 11, "", "words\n"),
+        ("cheric run a.c --heap 16777217", SURE, 11, "", "words\n"),
+        ("cheric run a.c --heap 67174400", SURE, 11, "", "words\n"),
+        ("cheric run a.c --stack 0", SURE, 11, "", "words\n"),
+        ("cheric run a.c --stack 65537", SURE, 11, "", "words\n"),
+        ("cheric run a.c --stack 33619968", SURE, 11, "", "words\n"),
+        ("cheric build a.c --heap 0", SURE, 11, "", "words\n"),
+        ("cheric exec a.c --stack 1", SURE, 11, "", "words\n"),
+        ("cheric audit a.c --heap x", SURE, 11, "", "words\n"),
+        (
+            "cheric run a.c --heap 16777216 --stack 65536 --heap 16777216",
+            SURE,
+            11,
+            "",
+            "words\n",
+        ),
+        ("cheric audit", SURE, 11, "", "words\n"),
+    ],
+}];
 
 #[test]
 fn lines_are_answered(rt: HostRuntime) {
-    words_are_answered(&rt, rt.alloc(), HI, &LINES);
-    for &words in &NO_LINES {
-        assert!(rt;
-            is_answered(rt.alloc(), HI.as_bytes(), words, NO_LINE),
-            "{words}"
-        );
-    }
+    calls_are_answered(&rt, rt.alloc(), &LINES);
 }
 
-/// A file that puts so many bytes of 65.
-fn many_puts(alloc: Global, count: usize) -> Result<String, AllocError> {
-    let puts = "putchar(65);".repeat(alloc, count)?;
-    format!(in alloc; "int main(void){{{puts}return 0;}}")
-}
-
-/// How many bytes are put, with the status and line. Each put weighs 6, and the rest 11.
-const PUTS: [(usize, u8, &str); 4] = [
-    (14, 0, "exit 0\n"),
-    (15, 0, "exit 0\n"),
-    (1_294, 0, "exit 0\n"),
-    (1_295, 10, "refused 142 1:1\n"),
+/// Calls whose files, output or notes fail, whose input ends or fails, and that reach the limit.
+const ENDS: [Table; 4] = [
+    Table {
+        file: HI,
+        is_built: false,
+        input: "",
+        cases: &[
+            ("cheric run a.c", [1, 0, 0, 0], 20, "", "file\n"),
+            ("cheric run a.c", [0, 0, 1, 0], 22, "", "output\n"),
+            ("cheric run a.c", [0, 0, 2, 0], 22, "H", "output\n"),
+            ("cheric run a.c", [0, 0, 3, 0], 0, "Hi", "exit 0\n"),
+            ("cheric run a.c", [0, 0, 0, 1], 22, "Hi", ""),
+        ],
+    },
+    Table {
+        file: COPY,
+        is_built: false,
+        input: "",
+        cases: &[("cheric run a.c", SURE, 0, "", "exit 0\n")],
+    },
+    Table {
+        file: COPY,
+        is_built: false,
+        input: "abc",
+        cases: &[
+            ("cheric run a.c", SURE, 0, "abc", "exit 0\n"),
+            ("cheric run a.c", [0, 2, 0, 0], 21, "a", "input\n"),
+            ("cheric run a.c", [0, 4, 0, 0], 21, "abc", "input\n"),
+        ],
+    },
+    Table {
+        file: "int main(void){while(1){}}",
+        is_built: false,
+        input: "",
+        cases: &[("cheric run a.c --steps 1000", SURE, 4, "", "steps\n")],
+    },
 ];
 
-fn puts_so(alloc: Global, &(count, status, line): &(usize, u8, &str)) -> bool {
-    let Ok(bytes) = "A".repeat(alloc, if status == 0 { count } else { 0 }) else {
-        return false;
-    };
-    let answer = Answer {
-        status,
-        put: &bytes,
-        line,
-    };
-    let Ok(file) = many_puts(alloc, count) else {
-        return false;
-    };
-    is_answered(alloc, file.as_bytes(), "cheric run a.c", answer)
-}
-
 #[test]
-fn a_weight_up_to_the_limit_is_built(rt: HostRuntime) {
-    for row in &PUTS {
-        assert!(rt; puts_so(rt.alloc(), row), "{row:?}");
-    }
-}
-
-/// Inputs of a file that copies them, with their failing call, and the status, output and line.
-type Input = (&'static str, u64, u8, &'static str, &'static str);
-
-const INPUTS: [Input; 4] = [
-    ("", 0, 0, "", "exit 0\n"),
-    ("abc", 0, 0, "abc", "exit 0\n"),
-    ("abc", 2, 21, "a", "input\n"),
-    ("abc", 4, 21, "abc", "input\n"),
-];
-
-const COPY: &str = "int main(void){int c;while((c=getchar())!=-1)putchar(c);return 0;}";
-
-fn copies_so(alloc: Global, &(input, read, status, put, line): &Input) -> bool {
-    let Ok(mut files) = sure_file(alloc, "a.c", COPY.as_bytes()) else {
-        return false;
-    };
-    let answer = Answer { status, put, line };
-    let input = (input.as_bytes(), read);
-    answers_input(alloc, &mut files, "cheric run a.c", input, [0; 2], answer).unwrap_or(false)
-}
-
-#[test]
-fn input_is_copied_up_to_its_end_or_fault(rt: HostRuntime) {
-    for row in &INPUTS {
-        assert!(rt; copies_so(rt.alloc(), row), "{row:?}");
-    }
-}
-
-const ENDLESS: [Row; 1] = [("int main(void){while(1){}}", 4, "", "steps\n")];
-
-#[test]
-fn a_loop_without_end_stops_at_the_limit(rt: HostRuntime) {
-    files_are_answered(&rt, rt.alloc(), "cheric run a.c --steps 1000", &ENDLESS);
+fn runs_end_by_faults_and_limits(rt: HostRuntime) {
+    calls_are_answered(&rt, rt.alloc(), &ENDS);
 }
 
 /// The status of words without input, and what they put to an output and to notes of so much room, which tell nothing.

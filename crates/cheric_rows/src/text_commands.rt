@@ -1,13 +1,12 @@
 //! The modes `map`, `list` and `gen` of the command.
 
-use crate::calls::{
-    Answer, Row, answers, elf_of, is_answered, one_file, sure_file, words_are_answered, words_of,
-};
+use crate::calls::{SURE, Table, answers, built, calls_are_answered, is_answered, words_of};
+use crate::image_commands::builds;
+use cheric_build::build;
 use cheric_top::{cheric, generate};
-use ck_base::{MemSink, NoMemory, SureFiles, SureSource};
+use ck_base::{MemSink, NoMemory, Refusal, SureFiles, SureSource};
 use elf_file::View;
 use std::alloc::{AllocError, Global};
-use std::process::Abort;
 
 const HI: &str = "int main(void){putchar(72);putchar(105);return 0;}";
 
@@ -41,55 +40,51 @@ const HI_MAP: [&str; 6] = [
     "frame main ",
 ];
 
-/// What the command puts on these words: its status and its output.
-fn put_by(alloc: Global, files: &mut SureFiles, words: &str) -> Result<(u8, String), NoMemory> {
+/// What the command puts to the output on these words and this file; nothing where it does not end by 0.
+fn put_of(alloc: Global, file: &[u8], words: &str) -> Result<String, NoMemory> {
     let words = words_of(alloc, words)?;
+    let names = vec![in alloc; String::from_str(alloc, "a.c")?]?;
+    let mut files = SureFiles::new(names, vec![in alloc; Vec::from_slice(alloc, file)?]?);
     let mut input = SureSource::new(Vec::new(alloc));
     let mut out = MemSink::new(alloc, 1_048_576, Vec::new(alloc))?;
     let mut notes = MemSink::new(alloc, 64, Vec::new(alloc))?;
-    let status = cheric(alloc, &words, files, &mut input, &mut out, &mut notes);
-    Ok((status, String::from_utf8_lossy(alloc, out.bytes())?))
-}
-
-/// The same on this file.
-fn put_of(alloc: Global, file: &[u8], words: &str) -> Result<(u8, String), NoMemory> {
-    let mut files = sure_file(alloc, "a.c", file)?;
-    put_by(alloc, &mut files, words)
-}
-
-/// What the command puts on these words and this file, with the status 0.
-fn text_of(rt: &impl Abort, alloc: Global, file: &[u8], words: &str) -> String {
-    match put_of(alloc, file, words) {
-        Ok((0, text)) => text,
-        _ => panic!(rt; "no text"),
-    }
-}
-
-/// Whether a line begins so, and goes on with numbers alone.
-fn has_front(line: &str, front: &str) -> bool {
-    let Some(rest) = line.strip_prefix(front) else {
-        return false;
+    let status = cheric(alloc, &words, &mut files, &mut input, &mut out, &mut notes);
+    let put = if status == 0 {
+        out.bytes()
+    } else {
+        b"".as_slice()
     };
-    rest.bytes().all(|b| b.is_ascii_digit() || b == b' ')
+    Ok(String::from_utf8_lossy(alloc, put)?)
 }
 
-/// Whether each line of a map begins so.
-fn has_fronts(map: &str, fronts: &[&str]) -> bool {
-    let mut lines = map.lines();
-    for front in fronts {
-        if !has_front(lines.next().unwrap_or(""), *front) {
+fn are_numbers(text: &str) -> bool {
+    for byte in text.bytes() {
+        if !byte.is_ascii_digit() && byte != b' ' {
             return false;
         }
     }
-    lines.next().is_none()
+    true
+}
+
+/// Whether the map of a file has these lines, which go on with numbers alone.
+fn has_lines(alloc: Global, file: &str, fronts: &[&str]) -> Result<bool, NoMemory> {
+    let map = put_of(alloc, file.as_bytes(), "cheric map a.c")?;
+    let mut lines = map.lines();
+    for front in fronts {
+        let Some(rest) = lines.next().unwrap_or("").strip_prefix(*front) else {
+            return Ok(false);
+        };
+        if !are_numbers(rest) {
+            return Ok(false);
+        }
+    }
+    Ok(lines.next().is_none())
 }
 
 #[test]
 fn maps_have_a_line_for_each_part(rt: HostRuntime) {
-    for &(file, fronts) in &[(PARTS, PARTS_MAP.as_slice()), (HI, HI_MAP.as_slice())] {
-        let map = text_of(&rt, rt.alloc(), file.as_bytes(), "cheric map a.c");
-        assert!(rt; has_fronts(&map, fronts), "{map}");
-    }
+    assert!(rt; has_lines(rt.alloc(), PARTS, &PARTS_MAP).unwrap_or(false));
+    assert!(rt; has_lines(rt.alloc(), HI, &HI_MAP).unwrap_or(false));
 }
 
 /// Words, and how a listing writes their instructions.
@@ -101,26 +96,18 @@ const INSTRUCTIONS: [(u32, &str); 5] = [
     (0xfe01_115b, "cincoffsetimm c2,c2,-32"),
 ];
 
-/// Whether a word may be written so.
-fn is_written(word: u32, text: &str) -> bool {
-    !text.is_empty()
-        && INSTRUCTIONS
-            .iter()
-            .all(|&(known, written)| word != known || text == written)
-}
-
-/// The line of a word, up to its instruction.
-fn front_of(alloc: Global, at: u64, word: u32) -> Result<String, AllocError> {
-    format!(in alloc; "{at} {word:08x} ")
-}
-
-/// Whether a line lists this word at this address.
-fn lists_word(alloc: Global, line: &str, at: u64, word: u32) -> bool {
-    let Ok(front) = front_of(alloc, at, word) else {
-        return false;
+/// Whether a line lists this word at this address, with its instruction.
+fn lists_word(alloc: Global, line: &str, at: u64, word: u32) -> Result<bool, AllocError> {
+    let front = format!(in alloc; "{at} {word:08x} ")?;
+    let Some(instruction) = line.strip_prefix(front.as_str()) else {
+        return Ok(false);
     };
-    let instruction = line.strip_prefix(front.as_str()).unwrap_or("");
-    is_written(word, instruction)
+    for &(known, written) in &INSTRUCTIONS {
+        if word == known {
+            return Ok(instruction == written);
+        }
+    }
+    Ok(!instruction.is_empty())
 }
 
 /// Whether a listing has a line for each word of the text, with its address, the word and its instruction.
@@ -132,7 +119,7 @@ fn lists(alloc: Global, listing: &str, text: &[u8]) -> bool {
             return false;
         };
         let word = u32::from_le_bytes([*a, *b, *c, *d]);
-        if !lists_word(alloc, line, at, word) {
+        if lists_word(alloc, line, at, word) != Ok(true) {
             return false;
         }
         rest = tail;
@@ -141,181 +128,182 @@ fn lists(alloc: Global, listing: &str, text: &[u8]) -> bool {
     rest.is_empty()
 }
 
-/// The length of the text by a map's first line.
-fn length_in(map: &str) -> Option<u64> {
-    map.lines().next()?.rsplit(' ').next()?.parse().ok()
-}
-
-/// Whether the listing and the map of a built file tell its text.
-fn tell_the_text(alloc: Global, elf: &[u8], listing: &str, map: &str) -> bool {
-    let Ok(view) = View::read(elf) else {
-        return false;
+/// Whether the listing and the map of a file tell the text that is built.
+fn tell_the_text(alloc: Global, file: &[u8]) -> Result<bool, Refusal> {
+    let elf = build(alloc, file)?.elf;
+    let Ok(view) = View::read(&elf) else {
+        return Ok(false);
     };
-    lists(alloc, listing, view.text()) && length_in(map) == Some(view.text().len() as u64)
-}
-
-fn assert_texts(rt: &impl Abort, alloc: Global, file: &[u8]) {
-    let elf = elf_of(rt, alloc, file);
-    let listing = text_of(rt, alloc, file, "cheric list a.c");
-    let map = text_of(rt, alloc, file, "cheric map a.c");
-    assert!(rt; tell_the_text(alloc, &elf, &listing, &map));
-}
-
-/// The generated file of 64 functions.
-fn large_file(rt: &impl Abort, alloc: Global) -> Vec<u8> {
-    generate(alloc, 64).expect(rt, "a file")
+    let text = view.text();
+    let len = text.len();
+    let front = format!(in alloc; "text 1073741824 {len}\n")?;
+    let map = put_of(alloc, file, "cheric map a.c")?;
+    let listing = put_of(alloc, file, "cheric list a.c")?;
+    Ok(map.starts_with(front.as_str()) && lists(alloc, &listing, text))
 }
 
 #[test]
 fn listings_have_a_line_for_each_word(rt: HostRuntime) {
-    assert_texts(&rt, rt.alloc(), HI.as_bytes());
-    assert_texts(&rt, rt.alloc(), &large_file(&rt, rt.alloc()));
+    assert!(rt; tell_the_text(rt.alloc(), HI.as_bytes()).unwrap_or(false));
+    let file = generate(rt.alloc(), 64).expect(&rt, "a file");
+    assert!(rt; tell_the_text(rt.alloc(), &file).unwrap_or(false));
 }
 
 /// A file whose values are few enough for registers.
 const SUM: &str = "int main(void){int s=0;int i;for(i=0;i<10;i=i+1)s=s+i;return s;}";
 
-/// The letter of a listing's line: `m` for a move of the stack's capability, `l` for a load, `s` for a store, else `.`.
-fn letter(line: &str) -> char {
-    let mut parts = line.split(' ').skip(2);
-    let name = parts.next().unwrap_or("");
-    match name {
-        "cincoffsetimm" if parts.next().unwrap_or("").starts_with("c2,c2,") => 'm',
-        "lb" | "lh" | "lw" | "ld" | "lbu" | "lhu" | "lwu" | "clc" => 'l',
-        "sb" | "sh" | "sw" | "sd" | "csc" => 's',
-        _ => '.',
+const SUMMED: [Table; 1] = [Table {
+    file: SUM,
+    is_built: false,
+    input: "",
+    cases: &[("cheric run a.c", SURE, 1, "", "exit 45\n")],
+}];
+
+/// Names of stores, of rank 0, and of loads, of rank 2. Any other instruction has rank 1.
+const RANKS: [(&str, u8); 13] = [
+    (" sb ", 0),
+    (" sh ", 0),
+    (" sw ", 0),
+    (" sd ", 0),
+    (" csc ", 0),
+    (" lb ", 2),
+    (" lh ", 2),
+    (" lw ", 2),
+    (" ld ", 2),
+    (" lbu ", 2),
+    (" lhu ", 2),
+    (" lwu ", 2),
+    (" clc ", 2),
+];
+
+fn rank(line: &str) -> u8 {
+    for &(name, rank) in &RANKS {
+        if line.contains(name) {
+            return rank;
+        }
     }
+    1
 }
 
-/// The letters between the prologue and the epilogue of the only function: the prologue is the first move of the stack
-/// and the stores behind it, and the epilogue the last one and the loads ahead of it.
-fn between(letters: &str) -> Option<&str> {
-    let (_, behind) = letters.split_once('m')?;
-    let (body, _) = behind.rsplit_once('m')?;
-    Some(body.trim_start_matches('s').trim_end_matches('l'))
-}
+/// How a listing writes a move of the stack's capability.
+const MOVE: &str = " cincoffsetimm c2,c2,";
 
-/// The letters of a listing.
-fn letters(alloc: Global, listing: &str) -> Result<String, AllocError> {
-    let mut letters = String::new(alloc);
-    for line in listing.lines() {
-        letters.push(letter(line))?;
+/// Whether neither a load nor a store stands between the prologue and the epilogue of the only function: between the
+/// first and the last move of the stack stand the stores of the prologue, others, and then the loads of the epilogue.
+fn is_in_registers(listing: &str) -> Option<bool> {
+    let (_, behind) = listing.split_once(MOVE)?;
+    let (between, _) = behind.rsplit_once(MOVE)?;
+    let (lines, _) = between.rsplit_once('\n')?;
+    let (mut last, mut count) = (0, 0u32);
+    for line in lines.lines().skip(1) {
+        let rank = rank(line);
+        if rank < last {
+            return Some(false);
+        }
+        if rank == 1 {
+            count = count.saturating_add(1);
+        }
+        last = rank;
     }
-    Ok(letters)
+    Some(count > 0)
 }
-
-/// Whether neither a load nor a store stands between the prologue and the epilogue of a listing.
-fn is_in_registers(alloc: Global, listing: &str) -> bool {
-    let Ok(letters) = letters(alloc, listing) else {
-        return false;
-    };
-    let Some(body) = between(&letters) else {
-        return false;
-    };
-    !body.is_empty() && !body.contains('l') && !body.contains('s')
-}
-
-const SUMMED: [Row; 1] = [("cheric run a.c", 1, "", "exit 45\n")];
 
 #[test]
 fn few_values_stand_in_registers(rt: HostRuntime) {
-    words_are_answered(&rt, rt.alloc(), SUM, &SUMMED);
-    let listing = text_of(&rt, rt.alloc(), SUM.as_bytes(), "cheric list a.c");
-    assert!(rt; is_in_registers(rt.alloc(), &listing), "{listing}");
+    calls_are_answered(&rt, rt.alloc(), &SUMMED);
+    let listing = put_of(rt.alloc(), SUM.as_bytes(), "cheric list a.c").expect(&rt, "a text");
+    assert!(rt; is_in_registers(&listing) == Some(true), "{listing}");
 }
 
-/// Whether building a file and auditing what is built are answered by 0.
-fn is_contained(alloc: Global, file: &[u8]) -> Result<bool, NoMemory> {
-    let mut files = sure_file(alloc, "a.c", file)?;
-    let (built, _) = put_by(alloc, &mut files, "cheric build a.c")?;
-    let (audited, _) = put_by(alloc, &mut files, "cheric audit a.c.elf")?;
-    Ok(built == 0 && audited == 0)
+/// How many lines the map of a file has, and whether it is built, and what is built is audited by yes.
+fn mapped(alloc: Global, file: &[u8]) -> Result<(usize, bool), Refusal> {
+    let count = put_of(alloc, file, "cheric map a.c")?.lines().count();
+    let is_built = builds(alloc, file, "cheric build a.c", "a.c.elf")?;
+    let mut files = built(alloc, file)?;
+    let audit = "cheric audit a.c.elf";
+    let is_contained = answers(alloc, &mut files, audit, "", SURE, (0, "", "audit yes\n"))?;
+    Ok((count, is_built && is_contained))
 }
 
 /// The generated file of 64 functions has two lines for each and for `main`, one for the array in each, and four more
 /// in its map, and its image is contained.
 #[test]
 fn a_large_file_is_mapped_and_audited(rt: HostRuntime) {
-    let file = large_file(&rt, rt.alloc());
-    let map = text_of(&rt, rt.alloc(), &file, "cheric map a.c");
-    assert!(rt; map.lines().count() == 198);
-    assert!(rt; is_contained(rt.alloc(), &file).unwrap_or(false));
+    let file = generate(rt.alloc(), 64).expect(&rt, "a file");
+    assert!(rt; mapped(rt.alloc(), &file) == Ok((198, true)));
 }
 
-/// Lines without a file that it reads, and files that are refused or are not there.
-const LINES: [Row; 9] = [
-    ("cheric gen 1", 0, "functions 1\nsource 150\nexit 16\n", ""),
-    ("cheric gen 3", 0, "functions 3\nsource 322\nexit 40\n", ""),
-    (
-        "cheric gen 3 --steps 9",
-        0,
-        "functions 3\nsource 322\nsteps\n",
-        "",
-    ),
-    ("cheric map b.c", 20, "", "file\n"),
-    ("cheric list b.c", 20, "", "file\n"),
-    ("cheric map a.c", 10, "", "refused 133 1:16\n"),
-    ("cheric list a.c", 10, "", "refused 133 1:16\n"),
-    ("cheric map a.c --heap 9", 11, "", "words\n"),
-    ("cheric gen 3 --stack 9", 11, "", "words\n"),
+/// Lines without a file that they read, and on files that are refused, are not there or fail.
+const LINES: [Table; 2] = [
+    Table {
+        file: "int main(void){return ;}",
+        is_built: false,
+        input: "",
+        cases: &[
+            (
+                "cheric gen 1",
+                SURE,
+                0,
+                "functions 1\nsource 150\nexit 16\n",
+                "",
+            ),
+            (
+                "cheric gen 3",
+                SURE,
+                0,
+                "functions 3\nsource 322\nexit 40\n",
+                "",
+            ),
+            (
+                "cheric gen 3 --steps 9",
+                SURE,
+                0,
+                "functions 3\nsource 322\nsteps\n",
+                "",
+            ),
+            ("cheric map b.c", SURE, 20, "", "file\n"),
+            ("cheric list b.c", SURE, 20, "", "file\n"),
+            ("cheric map a.c", SURE, 10, "", "refused 133 1:16\n"),
+            ("cheric list a.c", SURE, 10, "", "refused 133 1:16\n"),
+            ("cheric map a.c --heap 9", SURE, 11, "", "words\n"),
+            ("cheric gen 3 --stack 9", SURE, 11, "", "words\n"),
+        ],
+    },
+    Table {
+        file: HI,
+        is_built: false,
+        input: "",
+        cases: &[
+            ("cheric map a.c", [1, 0, 0, 0], 20, "", "file\n"),
+            ("cheric map a.c", [0, 0, 1, 0], 22, "", "output\n"),
+            ("cheric map a.c", [0, 0, 1, 1], 22, "", ""),
+            ("cheric list a.c", [1, 0, 0, 0], 20, "", "file\n"),
+            ("cheric list a.c", [0, 0, 1, 0], 22, "", "output\n"),
+            ("cheric list a.c", [0, 0, 1, 1], 22, "", ""),
+            ("cheric gen 1", [0, 0, 1, 0], 22, "", "output\n"),
+        ],
+    },
 ];
 
 #[test]
 fn lines_are_answered(rt: HostRuntime) {
-    words_are_answered(&rt, rt.alloc(), "int main(void){return ;}", &LINES);
+    calls_are_answered(&rt, rt.alloc(), &LINES);
 }
 
-/// Failing calls of the files, the output and the notes, with the status and line of each of the modes on a file.
-type Fault = ([u64; 3], u8, &'static str);
-
-const FAULTS: [Fault; 3] = [
-    ([1, 0, 0], 20, "file\n"),
-    ([0, 1, 0], 22, "output\n"),
-    ([0, 1, 1], 22, ""),
-];
-
-/// Whether a mode on a file answers so.
-fn fails_so(alloc: Global, words: &str, &(failing, status, line): &Fault) -> bool {
-    let [call, byte, note] = failing;
-    let Ok(mut files) = one_file(alloc, "a.c", HI.as_bytes(), call) else {
-        return false;
-    };
-    let answer = Answer {
-        status,
-        put: "",
-        line,
-    };
-    answers(alloc, &mut files, words, [byte, note], answer).unwrap_or(false)
+/// Whether the summary of 64 functions is the same at each call, and has the line with which a run of the file ends.
+fn is_summed(alloc: Global) -> Result<bool, NoMemory> {
+    let summary = put_of(alloc, b"", "cheric gen 64")?;
+    let again = put_of(alloc, b"", "cheric gen 64")?;
+    let line = format!(in alloc; "{}\n", summary.lines().nth(2).unwrap_or(""))?;
+    let file = generate(alloc, 64)?;
+    Ok(
+        summary.starts_with("functions 64\n")
+            && summary.as_str() == again.as_str()
+            && is_answered(alloc, &file, "cheric run a.c", (1, "", &line)),
+    )
 }
 
-#[test]
-fn faults_are_answered(rt: HostRuntime) {
-    for row in &FAULTS {
-        assert!(rt; fails_so(rt.alloc(), "cheric map a.c", row), "{row:?}");
-        assert!(rt; fails_so(rt.alloc(), "cheric list a.c", row), "{row:?}");
-    }
-    assert!(rt; fails_so(rt.alloc(), "cheric gen 1", &([0, 1, 0], 22, "output\n")));
-}
-
-/// Whether a run of the generated file ends by the line of its summary.
-fn ends_so(alloc: Global, file: &[u8], summary: &str) -> bool {
-    let Ok(line) = format!(in alloc; "{}\n", summary.lines().nth(2).unwrap_or("")) else {
-        return false;
-    };
-    let answer = Answer {
-        status: 1,
-        put: "",
-        line: line.as_str(),
-    };
-    summary.starts_with("functions 64\n") && is_answered(alloc, file, "cheric run a.c", answer)
-}
-
-/// The summary of 64 functions has the line with which a run of the same file ends, and is the same at each call.
 #[test]
 fn the_largest_generated_file_runs(rt: HostRuntime) {
-    let file = large_file(&rt, rt.alloc());
-    let summary = text_of(&rt, rt.alloc(), b"", "cheric gen 64");
-    let again = text_of(&rt, rt.alloc(), b"", "cheric gen 64");
-    assert!(rt; summary.as_str() == again.as_str());
-    assert!(rt; ends_so(rt.alloc(), &file, &summary), "{summary}");
+    assert!(rt; is_summed(rt.alloc()).unwrap_or(false));
 }

@@ -1,24 +1,24 @@
 //! Programs of the whole language by the command: what they put, and how they end.
 
-use crate::calls::{
-    Answer, Row, files_are_answered, is_answered, is_answered_built, words_are_answered,
-};
-use crate::whole_files::WORDS;
+use crate::calls::{Row, SURE, Table, calls_are_answered, files_are_answered, is_answered};
 use bounds_place::{Sizes, USUAL};
 use cheric_build::build_sized;
-use std::alloc::{AllocError, Global};
+use std::alloc::Global;
 
 /// Files, with the answers to their runs.
 const PROGRAMS: [Row; 32] = [
     // parameters past eight, a pointer among them, by a pointer to the function and by its name
     (
-        "int f(int a,int b,int c,int d,int e,int g,int h,int i,char*p,int j){putchar(p[j]);return a<b?f(a+1,b,c,d,e,g,h,i,p,j+1):c+i;}int main(void){int(*q)(int,int,int,int,int,int,int,int,char*,int)=f;return q(1,3,5,0,0,0,0,7,\"abc\",0);}",
+        "int f(int a,int b,int c,int d,int e,int g,int h,int i,char*p,int j){putchar(p[j]);\
+         return a<b?f(a+1,b,c,d,e,g,h,i,p,j+1):c+i;}int main(void){\
+         int(*q)(int,int,int,int,int,int,int,int,char*,int)=f;return q(1,3,5,0,0,0,0,7,\"abc\",0);}",
         1,
         "abc",
         "exit 12\n",
     ),
     (
-        "int f(int a,int b,int c,int d,int e,int g,int h,int i,int j){return a-j;}int main(void){return f(9,0,0,0,0,0,0,0,2);}",
+        "int f(int a,int b,int c,int d,int e,int g,int h,int i,int j){return a-j;}int main(void){\
+         return f(9,0,0,0,0,0,0,0,2);}",
         1,
         "",
         "exit 7\n",
@@ -58,14 +58,17 @@ const PROGRAMS: [Row; 32] = [
     ),
     // a capability integer keeps what it points to, and a plain one its address alone
     (
-        "int main(void){int x=7;uintptr_t u=(uintptr_t)&x;int *p=(int*)(u+0);putchar(48+*p);unsigned long n=(unsigned long)&x;p=(int*)n;putchar(48+*p);return 0;}",
+        "int main(void){int x=7;uintptr_t u=(uintptr_t)&x;int *p=(int*)(u+0);putchar(48+*p);\
+         unsigned long n=(unsigned long)&x;p=(int*)n;putchar(48+*p);return 0;}",
         2,
         "7",
         "trap tag 1:139\n",
     ),
     // a copy by granules keeps the pointer, and one by bytes loses it
     (
-        "int main(void){\nint x=6;int *a=&x;int *b;\nuintptr_t *s=(uintptr_t*)&a,*d=(uintptr_t*)&b;\n*d=*s;putchar(48+*b);\nunsigned char *t=(unsigned char*)&a,*e=(unsigned char*)&b;\nfor(int i=0;i<16;i=i+1)e[i]=t[i];\nputchar(48+*b);return 0;}",
+        "int main(void){\nint x=6;int *a=&x;int *b;\nuintptr_t *s=(uintptr_t*)&a,*d=(uintptr_t*)&b;\n*d=*s;\
+         putchar(48+*b);\nunsigned char *t=(unsigned char*)&a,*e=(unsigned char*)&b;\nfor(int i=0;i<16;\
+         i=i+1)e[i]=t[i];\nputchar(48+*b);return 0;}",
         2,
         "6",
         "trap tag 7:12\n",
@@ -79,7 +82,8 @@ const PROGRAMS: [Row; 32] = [
     ),
     // a pointer that is moved far and back has no tag
     (
-        "int main(void){\nchar a[40];char *p=a+400;p=p-400;p[0]=65;putchar(a[0]);\np=a+20000;p=p-20000;\np[0]=66;return 0;}",
+        "int main(void){\nchar a[40];char *p=a+400;p=p-400;p[0]=65;putchar(a[0]);\np=a+20000;p=p-20000;\np[0]=66;\
+         return 0;}",
         2,
         "A",
         "trap tag 4:2\n",
@@ -98,7 +102,8 @@ const PROGRAMS: [Row; 32] = [
     ),
     // a function's pointer is called, and an object's is not
     (
-        "int one(int x){return x+1;}\nint main(void){\nvoid *v=(void*)one;int (*f)(int)=(int(*)(int))v;putchar(f(64));\nint d=3;uintptr_t u=(uintptr_t)&d;int (*g)(int)=(int(*)(int))u;\nreturn g(1);}",
+        "int one(int x){return x+1;}\nint main(void){\nvoid *v=(void*)one;int (*f)(int)=(int(*)(int))v;\
+         putchar(f(64));\nint d=3;uintptr_t u=(uintptr_t)&d;int (*g)(int)=(int(*)(int))u;\nreturn g(1);}",
         2,
         "A",
         "trap execute 5:9\n",
@@ -139,14 +144,16 @@ const PROGRAMS: [Row; 32] = [
         "exit 0\n",
     ),
     (
-        "int main(void){char a[40];putchar(48+cheri_tag_get(a));putchar(cheri_length_get(a));putchar(48+cheri_tag_get(cheri_tag_clear(a)));return 0;}",
+        "int main(void){char a[40];putchar(48+cheri_tag_get(a));putchar(cheri_length_get(a));\
+         putchar(48+cheri_tag_get(cheri_tag_clear(a)));return 0;}",
         0,
         "1(0",
         "exit 0\n",
     ),
     // a sum derives from its left operand, where neither was a plain integer
     (
-        "int main(void){int x=1;uintptr_t u=(uintptr_t)&x;uintptr_t v=5;return cheri_tag_get(v+u-v)+2*cheri_tag_get(u+v);}",
+        "int main(void){int x=1;uintptr_t u=(uintptr_t)&x;uintptr_t v=5;\
+         return cheri_tag_get(v+u-v)+2*cheri_tag_get(u+v);}",
         1,
         "",
         "exit 2\n",
@@ -160,13 +167,15 @@ const PROGRAMS: [Row; 32] = [
     ),
     // operands from left to right; an assignment takes its place first
     (
-        "int n;int f(int c){putchar(c);return n++;}int main(void){int a[4];a[f('a')]=f('b')+f('c')*f('d');return a[0];}",
+        "int n;int f(int c){putchar(c);return n++;}int main(void){int a[4];a[f('a')]=f('b')+f('c')*f('d');\
+         return a[0];}",
         1,
         "abcd",
         "exit 7\n",
     ),
     (
-        "int main(void){int i=0,s=0;do{switch(i){case 1:continue;case 3:s+=10;default:s++;break;case 5:return s;}}while(++i<9);return 0;}",
+        "int main(void){int i=0,s=0;do{switch(i){case 1:continue;case 3:s+=10;default:s++;break;case 5:return s;}}\
+         while(++i<9);return 0;}",
         1,
         "",
         "exit 14\n",
@@ -179,7 +188,8 @@ const PROGRAMS: [Row; 32] = [
         "exit 7\n",
     ),
     (
-        "struct N{struct N*next;int v;};int main(void){struct N*l=0;int i;for(i=0;i<5;i++){struct N*n=malloc(sizeof*n);n->v=i;n->next=l;l=n;}for(;l;l=l->next)putchar('0'+l->v);return 0;}",
+        "struct N{struct N*next;int v;};int main(void){struct N*l=0;int i;for(i=0;i<5;i++){\
+         struct N*n=malloc(sizeof*n);n->v=i;n->next=l;l=n;}for(;l;l=l->next)putchar('0'+l->v);return 0;}",
         0,
         "43210",
         "exit 0\n",
@@ -192,7 +202,8 @@ const PROGRAMS: [Row; 32] = [
         "exit 0\n",
     ),
     (
-        "static int c=3;static int*p[2]={&c,0};int main(void){*p[0]+=4;static char t[]=\"xy\";t[0]++;putchar(t[0]);return p[1]?0:c;}",
+        "static int c=3;static int*p[2]={&c,0};int main(void){*p[0]+=4;static char t[]=\"xy\";t[0]++;putchar(t[0]);\
+         return p[1]?0:c;}",
         1,
         "y",
         "exit 7\n",
@@ -218,7 +229,9 @@ const PROGRAMS: [Row; 32] = [
     ),
     // members of 4,096 bytes and more stand where their bounds are exact, and the others behind their padding
     (
-        "struct W{char c;short m[4095];unsigned char a;};struct W g={1,{2,3},4};int main(void){struct W w;w=g;putchar(64+g.m[1]);putchar(64+g.a);putchar(64+w.m[1]);putchar(64+w.a);w.m[4094]=72;w.a=73;putchar(w.m[4094]);putchar(w.a);return w.m[0]+w.c;}",
+        "struct W{char c;short m[4095];unsigned char a;};struct W g={1,{2,3},4};int main(void){struct W w;w=g;\
+         putchar(64+g.m[1]);putchar(64+g.a);putchar(64+w.m[1]);putchar(64+w.a);w.m[4094]=72;w.a=73;\
+         putchar(w.m[4094]);putchar(w.a);return w.m[0]+w.c;}",
         1,
         "CDCDHI",
         "exit 3\n",
@@ -229,46 +242,55 @@ const PROGRAMS: [Row; 32] = [
 const BY_VALUE: [Row; 7] = [
     // a struct goes to a function by value, and comes back
     (
-        "struct P{int a[3];char c;};struct P f(struct P p,int k){p.a[0]=p.a[0]+k;return p;}int main(void){struct P q;q.a[0]=60;struct P r=f(q,5);putchar(r.a[0]);putchar(q.a[0]);return 0;}",
+        "struct P{int a[3];char c;};struct P f(struct P p,int k){p.a[0]=p.a[0]+k;return p;}int main(void){\
+         struct P q;q.a[0]=60;struct P r=f(q,5);putchar(r.a[0]);putchar(q.a[0]);return 0;}",
         0,
         "A<",
         "exit 0\n",
     ),
     // calls stand in one another's arguments, and each has its own hidden locals
     (
-        "struct P{int a;int b;};struct P s(struct P p,struct P q){p.a=p.a-q.b;return p;}struct P n(int a,int b){struct P p={a,b};return p;}int main(void){putchar(s(s(n(70,1),n(0,2)),s(n(9,3),n(0,3))).a);return 0;}",
+        "struct P{int a;int b;};struct P s(struct P p,struct P q){p.a=p.a-q.b;return p;}struct P n(int a,int b){\
+         struct P p={a,b};return p;}int main(void){putchar(s(s(n(70,1),n(0,2)),s(n(9,3),n(0,3))).a);return 0;}",
         0,
         "A",
         "exit 0\n",
     ),
     // through a pointer to the function, and of a union
     (
-        "union U{char c;int i;};union U f(const union U u){union U v;v.i=u.c;return v;}int main(void){union U(*p)(union U)=f;union U u;u.c=75;putchar(p(u).i);return 0;}",
+        "union U{char c;int i;};union U f(const union U u){union U v;v.i=u.c;return v;}int main(void){\
+         union U(*p)(union U)=f;union U u;u.c=75;putchar(p(u).i);return 0;}",
         0,
         "K",
         "exit 0\n",
     ),
     // calls in the test of a loop
     (
-        "struct S{int a[40];}s;struct S f(struct S x,struct S y){x.a[0]+=y.a[0];return x;}int main(void){s.a[0]=1;do putchar(48+f(s,f(s,s)).a[0]);while(f(s,s).a[0]>9);return 0;}",
+        "struct S{int a[40];}s;struct S f(struct S x,struct S y){x.a[0]+=y.a[0];return x;}int main(void){s.a[0]=1;\
+         do putchar(48+f(s,f(s,s)).a[0]);while(f(s,s).a[0]>9);return 0;}",
         0,
         "3",
         "exit 0\n",
     ),
     (
-        "struct S{int a[40];}s;struct S f(struct S x,int k){x.a[39]+=k;return x;}int main(void){int i=0;do putchar(48+i);while(f(s,++i).a[39]<3);return s.a[39]+i;}",
+        "struct S{int a[40];}s;struct S f(struct S x,int k){x.a[39]+=k;return x;}int main(void){int i=0;\
+         do putchar(48+i);while(f(s,++i).a[39]<3);return s.a[39]+i;}",
         1,
         "012",
         "exit 3\n",
     ),
     (
-        "struct S{int a;char b[20];};struct S f(struct S x){x.a++;return x;}int main(void){int n=0;for(struct S t={0};f(t).a<4;t=f(t))putchar(65+n++);struct S u={0};while(f(f(u)).a<4){u=f(u);putchar(97+u.a);}return f(f(u)).a;}",
+        "struct S{int a;char b[20];};struct S f(struct S x){x.a++;return x;}int main(void){int n=0;for(struct S t={\
+         0};f(t).a<4;t=f(t))putchar(65+n++);struct S u={0};while(f(f(u)).a<4){u=f(u);putchar(97+u.a);}\
+         return f(f(u)).a;}",
         1,
         "ABCbc",
         "exit 4\n",
     ),
     (
-        "struct S{int a[40];}s;struct S f(struct S x,struct S y){x.a[0]+=y.a[0];return x;}int main(void){int n=0;s.a[0]=1;do{do{n++;if(n%2)continue;putchar(48+n);}while(f(s,s).a[0]>n);n++;}while(f(s,f(s,f(s,s))).a[0]>n);return n;}",
+        "struct S{int a[40];}s;struct S f(struct S x,struct S y){x.a[0]+=y.a[0];return x;}int main(void){int n=0;\
+         s.a[0]=1;do{do{n++;if(n%2)continue;putchar(48+n);}while(f(s,s).a[0]>n);n++;}\
+         while(f(s,f(s,f(s,s))).a[0]>n);return n;}",
         1,
         "24",
         "exit 5\n",
@@ -285,36 +307,120 @@ fn structs_and_unions_go_by_value(rt: HostRuntime) {
     files_are_answered(&rt, rt.alloc(), "cheric run a.c", &BY_VALUE);
 }
 
-const COUNTED: Answer = Answer {
-    status: 0,
-    put: "be 2\nnot 1\nor 1\nto 2\n",
-    line: "exit 0\n",
-};
-
-fn counts_words(alloc: Global, words: &str) -> bool {
-    let input = (b"to be or not to be\n".as_slice(), 0);
-    is_answered_built(alloc, WORDS, words, input, [0; 2], COUNTED)
+/// A program that counts the words of its input.
+pub const WORDS: &str = r"typedef struct Node Node;
+struct Node { Node *next; char *word; int count; };
+static Node *table[16];
+static int same(const char *a, const char *b) {
+  while (*a && *a == *b) { a++; b++; }
+  return *a == *b;
 }
+static int before(const char *a, const char *b) {
+  while (*a && *a == *b) { a++; b++; }
+  return *a < *b;
+}
+static unsigned hash(const char *s) {
+  unsigned h = 7;
+  while (*s) h = h * 31 + *s++;
+  return h % 16;
+}
+static char *copy(const char *s, int n) {
+  char *p = malloc(n + 1);
+  if (!p) exit(9);
+  for (int i = 0; i < n; i++) p[i] = s[i];
+  p[n] = 0;
+  return p;
+}
+static void count(const char *s, int n) {
+  Node **place = &table[hash(s)];
+  while (*place && !same((*place)->word, s)) place = &(*place)->next;
+  if (!*place) {
+    *place = malloc(sizeof(Node));
+    if (!*place) exit(9);
+    (*place)->word = copy(s, n);
+    (*place)->next = 0;
+    (*place)->count = 0;
+  }
+  (*place)->count++;
+}
+static Node *insert(Node *list, Node *n, int (*less)(const char *, const char *)) {
+  Node **at = &list;
+  while (*at && less((*at)->word, n->word)) at = &(*at)->next;
+  n->next = *at;
+  *at = n;
+  return list;
+}
+static void number(int v) {
+  if (v > 9) number(v / 10);
+  putchar('0' + v % 10);
+}
+int main(void) {
+  char buf[64];
+  int n = 0, c;
+  Node *list = 0;
+  do {
+    c = getchar();
+    if (c > ' ' && n < 63) buf[n++] = c;
+    else if (n) { buf[n] = 0; count(buf, n); n = 0; }
+  } while (c != -1);
+  for (int i = 0; i < 16; i++)
+    while (table[i]) {
+      Node *m = table[i];
+      table[i] = m->next;
+      list = insert(list, m, before);
+    }
+  for (; list; list = list->next) {
+    for (char *w = list->word; *w; w++) putchar(*w);
+    putchar(' ');
+    number(list->count);
+    putchar('\n');
+  }
+  return 0;
+}
+";
+
+const COUNTING: [Table; 1] = [Table {
+    file: WORDS,
+    is_built: true,
+    input: "to be or not to be\n",
+    cases: &[
+        (
+            "cheric run a.c",
+            SURE,
+            0,
+            "be 2\nnot 1\nor 1\nto 2\n",
+            "exit 0\n",
+        ),
+        (
+            "cheric exec a.c.elf",
+            SURE,
+            0,
+            "be 2\nnot 1\nor 1\nto 2\n",
+            "exit 0\n",
+        ),
+    ],
+}];
 
 #[test]
 fn words_are_counted(rt: HostRuntime) {
-    assert!(rt; counts_words(rt.alloc(), "cheric run a.c"));
-    assert!(rt; counts_words(rt.alloc(), "cheric exec a.c.elf"));
+    calls_are_answered(&rt, rt.alloc(), &COUNTING);
 }
 
 /// A file that asks for a whole heap and one byte more.
-const FILLED: &str =
-    "int main(void){char *p=malloc(16777216);char *q=malloc(1);putchar(p?89:78);putchar(q?89:78);return 0;}";
-
-const HEAPS: [Row; 3] = [
-    ("cheric run a.c", 0, "YN", "exit 0\n"),
-    ("cheric run a.c --heap 16777216", 0, "YN", "exit 0\n"),
-    ("cheric run a.c --heap 33554432", 0, "YY", "exit 0\n"),
-];
+const FILLING: [Table; 1] = [Table {
+    file: "int main(void){char *p=malloc(16777216);char *q=malloc(1);putchar(p?89:78);putchar(q?89:78);return 0;}",
+    is_built: false,
+    input: "",
+    cases: &[
+        ("cheric run a.c", SURE, 0, "YN", "exit 0\n"),
+        ("cheric run a.c --heap 16777216", SURE, 0, "YN", "exit 0\n"),
+        ("cheric run a.c --heap 33554432", SURE, 0, "YY", "exit 0\n"),
+    ],
+}];
 
 #[test]
 fn the_heap_has_the_chosen_length(rt: HostRuntime) {
-    words_are_answered(&rt, rt.alloc(), FILLED, &HEAPS);
+    calls_are_answered(&rt, rt.alloc(), &FILLING);
 }
 
 /// A function that calls itself until the stack is exhausted, and puts a dot each time.
@@ -326,8 +432,14 @@ const SMALL: Sizes = Sizes {
     ..USUAL
 };
 
+/// Words that choose a stack, and the sizes.
+const STACKS: [(&str, Sizes); 2] = [
+    ("cheric run a.c", USUAL),
+    ("cheric run a.c --stack 65536", SMALL),
+];
+
 /// How many calls of the first function stand on the stack beside one of the second.
-fn depth(alloc: Global, sizes: Sizes) -> Option<usize> {
+fn depth(alloc: Global, sizes: Sizes) -> Option<u64> {
     if !sizes.in_range() {
         return None;
     }
@@ -335,35 +447,18 @@ fn depth(alloc: Global, sizes: Sizes) -> Option<usize> {
     let [f, main] = map.frames.as_slice() else {
         return None;
     };
-    if f.align == 16 && main.align == 16 && f.size > 0 && main.size <= sizes.stack {
-        Some(((sizes.stack - main.size) / f.size) as usize)
-    } else {
-        None
+    if f.align != 16 || main.align != 16 {
+        return None;
     }
+    sizes.stack.checked_sub(main.size)?.checked_div(f.size)
 }
 
-/// Words that choose a stack, and the sizes.
-const STACKS: [(&str, Sizes); 2] = [
-    ("cheric run a.c", USUAL),
-    ("cheric run a.c --stack 65536", SMALL),
-];
-
-/// A dot for each call that the stack has room for.
-fn dots(alloc: Global, sizes: Sizes) -> Option<String> {
-    let dots = ".".repeat(alloc, depth(alloc, sizes)?).ok()?;
-    (dots.len() > 0).then_some(dots)
-}
-
+/// Whether the stack has room for as many calls as its length says, of which each puts a dot.
 fn fills_the_stack(alloc: Global, words: &str, sizes: Sizes) -> bool {
-    let Some(dots) = dots(alloc, sizes) else {
+    let Ok(dots) = ".".repeat(alloc, depth(alloc, sizes).unwrap_or(0) as usize) else {
         return false;
     };
-    let answer = Answer {
-        status: 3,
-        put: &dots,
-        line: "stack 1:5\n",
-    };
-    is_answered(alloc, DEEP.as_bytes(), words, answer)
+    !dots.is_empty() && is_answered(alloc, DEEP.as_bytes(), words, (3, &dots, "stack 1:5\n"))
 }
 
 #[test]
@@ -371,29 +466,4 @@ fn the_stack_has_the_chosen_length(rt: HostRuntime) {
     for &(words, sizes) in &STACKS {
         assert!(rt; fills_the_stack(rt.alloc(), words, sizes), "{words}");
     }
-}
-
-/// A function of so many statements, each of weight 2.
-fn heavy(alloc: Global, count: usize) -> Result<String, AllocError> {
-    let statements = "7;".repeat(alloc, count)?;
-    format!(in alloc; "int g;int main(void){{{statements}}}")
-}
-
-fn weighs_so(alloc: Global, count: usize, status: u8, line: &str) -> bool {
-    let answer = Answer {
-        status,
-        put: "",
-        line,
-    };
-    let Ok(file) = heavy(alloc, count) else {
-        return false;
-    };
-    is_answered(alloc, file.as_bytes(), "cheric run a.c", answer)
-}
-
-#[test]
-fn a_program_of_the_greatest_weight_runs_and_a_heavier_one_is_refused(rt: HostRuntime) {
-    // the function weighs 8 and its block 1
-    assert!(rt; weighs_so(rt.alloc(), 3_885, 0, "exit 0\n"));
-    assert!(rt; weighs_so(rt.alloc(), 3_886, 10, "refused 142 1:1\n"));
 }

@@ -1,5 +1,6 @@
 -- Calls and returns, part by part.
-use Rattle.std.proofs.Common.{◌≡◌, ℕ, zero, suc, ◌+◌, ◌-◌, ◌<◌, ◌≤◌, Bool, true, false, List, [], ◌∷◌, ◌++◌, length, drop}
+use Rattle.std.proofs.Common.{◌≡◌, ℕ, zero, suc, ◌+◌, ◌-◌, ◌<◌, ◌≤◌, Bool, true, false, List, [], ◌∷◌, ◌++◌, length}
+use Rattle.std.proofs.Common.{drop}
 use Rattle.std.proofs.Common.{Option, Some, None, Result, Ok, Err, get_or, replicate, refl, sym, ap, subst, ◌∙◌, arith}
 use Rattle.std.specs.Prelude.{map, not, option_map, reverse, slice_get, slice_index_or, slice_set, if◌then◌else◌}
 use Rattle.std.proofs.lemmas.List.{at_drop_all, at_drop_more}
@@ -238,7 +239,8 @@ module _ (ops : Operations Store) (p : Typed) (pos : Pos) (s : State) (held : St
 
   pub variable_passed : (b : Bool) (x n : ℕ) (k : Kind) (t : State) → not b ≡ false →
       Becomes s t (λ p m. record m { now = record m.now { vars = slice_set m.now.vars x (Some v) } }) →
-      Did (pass_one ops pos (if b then In_variable x else In_object n k) v) (λ (u : Unit {0}). u) p s t held held (Ok tt)
+      Did (pass_one ops pos (if b then In_variable x else In_object n k) v) (λ (u : Unit {0}). u) p s t held held
+      (Ok tt)
   variable_passed true x n k t h c =
       let set = c p held in
       let now = ap (λ (m : Moment Store). m.now) set in (
@@ -297,7 +299,8 @@ module _ (ops : Operations Store) (p : Typed) (first : Bool) (g : ℕ) (d : FunD
       (λ _ t. Goes (two (Execute tree.body) (Leave_function first tree) t))
       (next_of c (λ _. pass ops tree.name tree.params vs))
 
-  pub frame_over : (x : Stop) (m : Moment Store) → Enters ops p g d old s held mid (ops.enter g old.call.frame) (Err x) →
+  pub frame_over : (x : Stop) (m : Moment Store) →
+      Enters ops p g d old s held mid (ops.enter g old.call.frame) (Err x) →
       Does opens m (Err x)
   frame_over stop.NoMemory m e = tt
   frame_over (stop.Ended y) m e = sym opens_as ∙ ap after_frame e

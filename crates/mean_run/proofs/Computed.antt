@@ -15,7 +15,8 @@ use Rattle.c_tree.specs.declared.typed.ExprKind.TheVariants as exprs
 use Rattle.c_tree.specs.declared.typed.UnaryOp.{UnaryOp}
 use Rattle.c_tree.specs.declared.typed.UnaryOp.TheVariants as unary
 use Rattle.cheri_c_sem.specs.Expressions.{compound_by, step_operation, from_plain, conversion, conversion_by}
-use Rattle.cheri_c_sem.specs.Expressions.{bare_type, constant, expr_tree, kind_tree, levels, makes_from_plain, node_tree}
+use Rattle.cheri_c_sem.specs.Expressions.{bare_type, constant, expr_tree, kind_tree, levels, makes_from_plain}
+use Rattle.cheri_c_sem.specs.Expressions.{node_tree}
 use Rattle.cheri_c_sem.specs.Expressions.{element_size, kind_at, sign_of, type_of}
 use Rattle.cheri_c_sem.specs.Kinds.{Kind, Plain, Capability, int_kind}
 use Rattle.cheri_c_sem.specs.Order.{IsAfterOperands, Ordered}

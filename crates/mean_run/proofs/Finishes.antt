@@ -59,12 +59,14 @@ module _ (ops : Operations Store) (p : Typed) (f k : ℕ) (held left : Store) (o
 
   finishes_by : (of : ℕ) (pos : Pos) (kind : ExprKind) → node k ≡ kind_tree p vars node of pos kind →
       ((a : ℕ) → kind ≡ exprs.Convert a → is_kept (bare_type p vars a) (bare p.types of) ≡ true) →
-      IsSizedBy p of kind → is_call kind ≡ false → FinishedBy ops p f held left old new r of pos kind → Finished (node k)
+      IsSizedBy p of kind → is_call kind ≡ false → FinishedBy ops p f held left old new r of pos kind →
+      Finished (node k)
   finishes_by of pos (exprs.Load a) e peeled sized call b = rw e (b (node a))
   finishes_by of pos (exprs.Decay a) e peeled sized call b = rw e (b sized (node a))
   finishes_by of pos (exprs.Address a) e peeled sized call b = rw e (b sized (node a))
   finishes_by of pos (exprs.Deref a) e peeled sized call b = rw e (b (node a))
-  finishes_by of pos (exprs.Member a n) e peeled sized call b = rw e (b (offset_in p.types (type_of (slice_get p.exprs a)) n) (node a))
+  finishes_by of pos (exprs.Member a n) e peeled sized call b =
+      rw e (b (offset_in p.types (type_of (slice_get p.exprs a)) n) (node a))
   finishes_by of pos (exprs.Convert a) e peeled sized call b = rw e (b (node a) (peeled a refl))
   finishes_by of pos (exprs.Unary op a) e peeled sized call b = rw e (b (node a))
   finishes_by of pos (exprs.Compare op x y) e peeled sized call b = rw e (b (node x) (node y))

@@ -154,21 +154,25 @@ module _ (ops : Operations Store) (funs : List Fun) (m : Moment Store) (pos : Po
 module _ (ops : Operations Store) (p : Typed) (held : Store) (old s t : State) (pos : Pos) (x y : public.Value)
     (s_is : s ≡ record old { values = behind old.values }) (y_is : value_of y ≡ first_of (map value_of old.values))
   where
-    module _ (t_is : t ≡ record s { values = behind s.values }) (x_is : value_of x ≡ first_of (map value_of s.values)) where
+    module _ (t_is : t ≡ record s { values = behind s.values })
+        (x_is : value_of x ≡ first_of (map value_of s.values)) where
       pub operated_at : (o l : Operation) (r : Result Value Fault) (ex ey : Ex) → o ≡ l →
           r ≡ operate_by ops no_world o held (value_of x) (value_of y) →
           given_in (answer pos r (now_of t held)) (moment_of p t held)
           ≡ finish_item ops (funs_of p) (Binary pos l ex ey) (moment_of p old held)
       operated_at o l r ex ey is_op e =
-          answer_at p held pos t (less_value (less_value (moment_of p old held))) r _ (two_taken p held old s t s_is t_is)
+          answer_at p held pos t (less_value (less_value (moment_of p old held))) r _
+          (two_taken p held old s t s_is t_is)
           (e ∙ rw (is_op, y_is, below_top p held old s s (value_of x) s_is x_is) refl)
 
-      pub compared_at : (op : CmpOp) (j k : Kind) (r : Result Value Fault) (b : Result Bool Fault) (ex ey : Ex) → j ≡ k →
+      pub compared_at : (op : CmpOp) (j k : Kind) (r : Result Value Fault) (b : Result Bool Fault) (ex ey : Ex) →
+          j ≡ k →
           r ≡ on_ok ops (λ b. Ok (truth b)) b → b ≡ compare_by ops held op j (value_of x) (value_of y) →
           given_in (answer pos r (now_of t held)) (moment_of p t held)
           ≡ finish_item ops (funs_of p) (Compare pos op k ex ey) (moment_of p old held)
       compared_at op j k r b ex ey is_kind e h =
-          answer_at p held pos t (less_value (less_value (moment_of p old held))) r _ (two_taken p held old s t s_is t_is)
+          answer_at p held pos t (less_value (less_value (moment_of p old held))) r _
+          (two_taken p held old s t s_is t_is)
           (e ∙ ap (on_ok ops (λ b. Ok (truth b)))
           (h ∙ rw (is_kind, y_is, below_top p held old s s (value_of x) s_is x_is) refl))
           ∙ compared_is ops (funs_of p) (moment_of p old held) pos op k ex ey
@@ -222,7 +226,8 @@ module _ (ops : Operations Store) (p : Typed) (held : Store) (old s t : State) w
   converted_at pos vars v r j l a b x h kept is_old is_new value_is s_is e =
       answer_at p held pos s (less_value (moment_of p old held)) r _ (one_taken p held old s s s_is)
       (e ∙ rw (is_old, is_new, value_is) refl)
-      ∙ converted_is ops (funs_of p) (moment_of p old held) pos p vars (is_void b) (scalar_of a) (scalar_of b) _ x h kept
+      ∙ converted_is ops (funs_of p) (moment_of p old held) pos p vars (is_void b) (scalar_of a)
+      (scalar_of b) _ x h kept
 
   pub discarded_at : (pos : Pos) (vars : List VarDef) (a b : Option CType) (x : Ex) → is_void b ≡ true →
       s ≡ record old { values = behind old.values } →

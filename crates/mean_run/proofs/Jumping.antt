@@ -10,7 +10,8 @@ use Rattle.cheri_c_sem.specs.Operations.{Operations}
 use Rattle.cheri_c_sem.specs.Programs.{stmt_tree}
 use Rattle.cheri_c_sem.specs.Statements as flow
 use Rattle.cheri_c_sem.specs.Tree.{Declared, Fun}
-use Rattle.mean_steps.specs.Machine.{Loop, Item, Again, Switch_end, Leave, Leave_function, Moment, closed, jumped, done_in}
+use Rattle.mean_steps.specs.Machine.{Loop, Item, Again, Switch_end, Leave, Leave_function, Moment, closed, jumped}
+use Rattle.mean_steps.specs.Machine.{done_in}
 use Rattle.mean_steps.specs.Parts.{Now, On, leave}
 use Rattle.mean_run.specs.declared.blocks.Met.{Met}
 use Rattle.mean_run.specs.declared.blocks.Met.TheVariants as met

@@ -19,7 +19,8 @@ use Rattle.cheri_c_sem.specs.Meaning.{Place}
 use Rattle.cheri_c_sem.specs.Meaning as meaning
 use Rattle.cheri_c_sem.specs.Modes.{Store}
 use Rattle.cheri_c_sem.specs.Operations.{Operations}
-use Rattle.cheri_c_sem.specs.Tree.{Operation, Ex, Number, Load, Aggregate, Discard, Binary, Assign, Copy, Variable, Local}
+use Rattle.cheri_c_sem.specs.Tree.{Operation, Ex, Number, Load, Aggregate, Discard, Binary, Assign, Copy, Variable}
+use Rattle.cheri_c_sem.specs.Tree.{Local}
 use Rattle.cheri_c_sem.specs.Tree.{Fun}
 use Rattle.cheri_c_sem.specs.Types.{is_pointer, is_record, is_simple, is_void, kind_of, scalar_of}
 use Rattle.mean_steps.specs.Machine.{Moment, behind, done_in, finish_place, first_place, with_place}
@@ -103,24 +104,28 @@ module _ (ops : Operations Store) (p : Typed) (f k : ℕ) (held left : Store) (o
   finishes_by of pos (exprs.Member a n) e peeled has sized b = rw e (b (has a n refl) (node a))
   finishes_by of pos (exprs.Assign x y) e peeled has sized b = rw e (b sized (node x) (node y))
   finishes_by of pos (exprs.Constant n) e peeled has sized b =
-      rw e (idle r (kind_tree p vars node of pos (exprs.Constant n)) (constant_idle ops (funs_of p) m n (kind_of (bare p.types of))) b)
+      rw e (idle r (kind_tree p vars node of pos (exprs.Constant n))
+      (constant_idle ops (funs_of p) m n (kind_of (bare p.types of))) b)
   finishes_by of pos (exprs.Literal n) e peeled has sized b =
       rw e (idle r (kind_tree p vars node of pos (exprs.Literal n)) refl b)
   finishes_by of pos (exprs.Var x) e peeled has sized b =
-      rw e (idle r (kind_tree p vars node of pos (exprs.Var x)) (variable_idle ops (funs_of p) m (is_simple (slice_get vars x)) pos x _) b)
+      rw e (idle r (kind_tree p vars node of pos (exprs.Var x))
+      (variable_idle ops (funs_of p) m (is_simple (slice_get vars x)) pos x _) b)
   finishes_by of pos (exprs.Global g) e peeled has sized b =
       rw e (idle r (kind_tree p vars node of pos (exprs.Global g)) refl b)
   finishes_by of pos (exprs.Fun g) e peeled has sized b =
       rw e (idle r (kind_tree p vars node of pos (exprs.Fun g)) refl b)
   finishes_by of pos (exprs.Load a) e peeled has sized b =
-      rw e (idle r (kind_tree p vars node of pos (exprs.Load a)) (load_idle ops (funs_of p) m (is_record (bare p.types of)) _ (node a)) b)
+      rw e (idle r (kind_tree p vars node of pos (exprs.Load a))
+      (load_idle ops (funs_of p) m (is_record (bare p.types of)) _ (node a)) b)
   finishes_by of pos (exprs.Decay a) e peeled has sized b =
       rw e (idle r (kind_tree p vars node of pos (exprs.Decay a)) refl b)
   finishes_by of pos (exprs.Address a) e peeled has sized b =
       rw e (idle r (kind_tree p vars node of pos (exprs.Address a)) refl b)
   finishes_by of pos (exprs.Convert a) e peeled has sized b =
-      rw e (idle r (kind_tree p vars node of pos (exprs.Convert a)) (convert_idle ops (funs_of p) m p vars (is_void (bare p.types of)) pos (scalar_of (bare_type p vars a)) (scalar_of (bare p.types of)) _
-      (node a) (peeled a refl)) b)
+      rw e (idle r (kind_tree p vars node of pos (exprs.Convert a))
+      (convert_idle ops (funs_of p) m p vars (is_void (bare p.types of)) pos (scalar_of (bare_type p vars a))
+      (scalar_of (bare p.types of)) _ (node a) (peeled a refl)) b)
   finishes_by of pos (exprs.Unary op a) e peeled has sized b =
       rw e (idle r (kind_tree p vars node of pos (exprs.Unary op a)) (sign_idle ops (funs_of p) m pos _ (node a) op) b)
   finishes_by of pos (exprs.Int op x y) e peeled has sized b =
@@ -128,7 +133,8 @@ module _ (ops : Operations Store) (p : Typed) (f k : ℕ) (held left : Store) (o
   finishes_by of pos (exprs.Capability op x y right) e peeled has sized b =
       rw e (idle r (kind_tree p vars node of pos (exprs.Capability op x y right)) refl b)
   finishes_by of pos (exprs.Plus x y minus) e peeled has sized b =
-      rw e (idle r (kind_tree p vars node of pos (exprs.Plus x y minus)) (sum_idle ops (funs_of p) m (is_pointer (bare_type p vars x)) pos _ _ (node x) (node y)) b)
+      rw e (idle r (kind_tree p vars node of pos (exprs.Plus x y minus))
+      (sum_idle ops (funs_of p) m (is_pointer (bare_type p vars x)) pos _ _ (node x) (node y)) b)
   finishes_by of pos (exprs.Difference x y) e peeled has sized b =
       rw e (idle r (kind_tree p vars node of pos (exprs.Difference x y)) refl b)
   finishes_by of pos (exprs.Compare op x y) e peeled has sized b =

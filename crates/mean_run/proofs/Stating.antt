@@ -372,7 +372,10 @@ module _ (ops : Operations Store) (p : Typed) (f k : ℕ) (pos : Pos) (held left
 
 pub given_variable : (ops : Operations Store) (p : Typed) (held : Store) (old s t : State) (x : ℕ) (v : public.Value)
     (e : Ex) → s ≡ record old { values = behind old.values } → value_of v ≡ first_of (map value_of old.values) →
-    Becomes s t (λ p m. record m { now = record m.now { vars = slice_set m.now.vars x (option_map value_of (Some v)) } }) →
+    Becomes s t (λ p m. record m {
+      now = record m.now
+          { vars = slice_set m.now.vars x (option_map value_of (Some v)) };
+    }) →
     initialize ops (funs_of p) (Give x e) (moment_of p old held) ≡ Goes (moment_of p t held)
 given_variable ops p held old s t x v e s_is v_is b =
     ap Goes (sym (b p held ∙ rw (s_is, v_is, map_behind value_of old.values) refl))

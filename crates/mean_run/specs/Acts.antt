@@ -8,7 +8,8 @@ use Rattle.mean_steps.specs.Machine.{Moment, limits}
 use Rattle.mean_run.specs.declared.work.Stop.{Stop}
 use Rattle.mean_run.specs.declared.work.Stop.TheVariants as stop
 
--- An act was done, from a moment to another one; or it ended the run; or memory was wanting, and nothing was read or put
+-- An act was done, from a moment to another one; or it ended the run; or memory was wanting, and nothing was read
+-- or put
 abbrev pub Stepped : Act (Moment Store) Ending → Seen → Seen → Moment Store → Moment Store → Result (Unit {0}) Stop →
     Type 0
 Stepped a before after old new (Ok u) = Acted limits a before after old new None

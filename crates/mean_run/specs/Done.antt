@@ -39,12 +39,14 @@ module _ (ops : Operations Store) (p : Typed) (f : ℕ) where
     abbrev pub SwitchedBy : StmtKind → Type 0
     SwitchedBy (stmts.Switch on xs labels ks) =
         Here k pos (stmts.Switch on xs labels ks) →
-        Does (choose_label ops (funs_of p) (stmt_tree p (vars_at p f) k) (moment_of p old held)) (moment_of p new left) r
+        Does (choose_label ops (funs_of p) (stmt_tree p (vars_at p f) k) (moment_of p old held))
+        (moment_of p new left) r
     SwitchedBy s = Unless_wanting r ((new ≡ record old { values = behind old.values }) × (left ≡ held))
 
   module _ (pos : Pos) (held left : Store) (old new : State) (r : Result (Unit {0}) Stop) where
     abbrev pub InitializedBy : StmtKind → Type 0
     InitializedBy (stmts.Init x offset e) =
-        IsSmall p (type_of (slice_get p.exprs e)) → (v : Ex) → Does (initialize ops (funs_of p) (initialisation p (vars_at p f) pos x offset
+        IsSmall p (type_of (slice_get p.exprs e)) → (v : Ex) →
+        Does (initialize ops (funs_of p) (initialisation p (vars_at p f) pos x offset
         (type_of (slice_get p.exprs e)) v) (moment_of p old held)) (moment_of p new left) r
     InitializedBy s = Unless_wanting r ((new ≡ old) × (left ≡ held))

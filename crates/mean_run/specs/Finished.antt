@@ -37,9 +37,11 @@ module _ (ops : Operations Store) (p : Typed) (f : ℕ) (held left : Store) (old
       (x : Ex) → Finishes (if is_record (bare p.types of) then tree.Aggregate x
       else tree.Load (kind_of (bare p.types of)) x)
   FinishedBy of pos (exprs.Decay a) =
-      IsSizedBy p of (exprs.Decay a) → (x : Ex) → Finishes (tree.Pointer_to pos (narrowing_of p here (slice_get p.exprs a)) x)
+      IsSizedBy p of (exprs.Decay a) → (x : Ex) →
+      Finishes (tree.Pointer_to pos (narrowing_of p here (slice_get p.exprs a)) x)
   FinishedBy of pos (exprs.Address a) =
-      IsSizedBy p of (exprs.Address a) → (x : Ex) → Finishes (tree.Pointer_to pos (narrowing_of p here (slice_get p.exprs a)) x)
+      IsSizedBy p of (exprs.Address a) → (x : Ex) →
+      Finishes (tree.Pointer_to pos (narrowing_of p here (slice_get p.exprs a)) x)
   FinishedBy of pos (exprs.Deref a) = (x : Ex) → Finishes (tree.Deref pos x)
   FinishedBy of pos (exprs.Member a m) = (offset : ℕ) (x : Ex) → Finishes (tree.Member pos offset x)
   FinishedBy of pos (exprs.Convert a) =
@@ -50,18 +52,22 @@ module _ (ops : Operations Store) (p : Typed) (f : ℕ) (held left : Store) (old
   FinishedBy of pos (exprs.Assign a b) =
       IsSizedBy p of (exprs.Assign a b) → (x y : Ex) → Finishes (assignment p here pos of a x y)
   FinishedBy of pos (exprs.Compound op a b computed) =
-      IsSizedBy p of (exprs.Compound op a b computed) → (x y : Ex) → Finishes (tree.Compound pos (compound_by p here op (bare p.types computed) a b (expr_tree p here b))
+      IsSizedBy p of (exprs.Compound op a b computed) → (x y : Ex) →
+      Finishes (tree.Compound pos (compound_by p here op (bare p.types computed) a b (expr_tree p here b))
       (kind_at p here a) (kind_of (bare p.types computed)) false x y)
   FinishedBy of pos (exprs.Step a adds front) =
-      IsSizedBy p of (exprs.Step a adds front) → (x y : Ex) → Finishes (tree.Compound pos (step_operation p here adds (bare_type p here a)) (kind_at p here a)
+      IsSizedBy p of (exprs.Step a adds front) → (x y : Ex) →
+      Finishes (tree.Compound pos (step_operation p here adds (bare_type p here a)) (kind_at p here a)
       (step_kind p here (kind_at p here a)) (not front) x y)
   FinishedBy of pos (exprs.Int op a b) = Finishes (kind_tree p here (expr_tree p here) of pos (exprs.Int op a b))
   FinishedBy of pos (exprs.Capability op a b right) =
       Finishes (kind_tree p here (expr_tree p here) of pos (exprs.Capability op a b right))
   FinishedBy of pos (exprs.Plus a b minus) =
-      IsSizedBy p of (exprs.Plus a b minus) → Finishes (kind_tree p here (expr_tree p here) of pos (exprs.Plus a b minus))
+      IsSizedBy p of (exprs.Plus a b minus) →
+      Finishes (kind_tree p here (expr_tree p here) of pos (exprs.Plus a b minus))
   FinishedBy of pos (exprs.Difference a b) =
-      IsSizedBy p of (exprs.Difference a b) → Finishes (kind_tree p here (expr_tree p here) of pos (exprs.Difference a b))
+      IsSizedBy p of (exprs.Difference a b) →
+      Finishes (kind_tree p here (expr_tree p here) of pos (exprs.Difference a b))
   FinishedBy of pos (exprs.Call g args) = Unit {0}
   FinishedBy of pos (exprs.Library n args) = Unit {0}
   FinishedBy of pos e =

@@ -19,8 +19,8 @@ use Rattle.mean_run.specs.Sizes.{AreSizedVariables, IsSizedBy, IsSizedStatement}
 use Rattle.mean_run.specs.Steps.{IsPeeled}
 
 -- A program that typing gives: operands and parts of statements stand before what has them, no conversion is one of a
--- struct or union to its own type, a member is one of a struct or union that has it, what is copied, moved over, pointed
--- into or held is no larger than an object may be, and there are few globals
+-- struct or union to its own type, a member is one of a struct or union that has it, what is copied, moved over,
+-- pointed into or held is no larger than an object may be, and there are few globals
 pub record IsFit (p : Typed) : Type 0 where
   pub order : Ordered p
   pub peeled : (vars : List VarDef) (k : ℕ) (e : Expr) → slice_get p.exprs k ≡ Some e → IsPeeled p vars e

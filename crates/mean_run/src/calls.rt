@@ -230,6 +230,7 @@ impl State {
     }
 
     /// The turn behind a call; the first call has none.
+    #[tactic(auto, using(crate::proofs::Turns::turned_behind))]
     fn turn_behind(&mut self, first: bool) -> Result<(), Stop>
         ensures { (p : Typed) (held : Store) → Did (turn_behind first) (λ u. u) p self.old self.new held held result }
     {

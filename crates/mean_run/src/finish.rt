@@ -228,7 +228,8 @@ impl State {
         requires { IsSource s.now }
         ensures same { B.meaning m.new ≡ B.meaning m.old }
         ensures does { IsFit s.now.p.now → (vars : List VarDef) →
-            PointsToSmall s.now.p.now (bare s.now.p.now.types computed) → (x y : Ex) → Does (finish_item (B.meaning m.old)
+            PointsToSmall s.now.p.now (bare s.now.p.now.types computed) → (x y : Ex) →
+            Does (finish_item (B.meaning m.old)
             (funs_of s.now.p.now) (Compound pos (compound_by s.now.p.now vars op (bare s.now.p.now.types computed) a b
             (expr_tree s.now.p.now vars b)) (kind_at s.now.p.now vars a)
             (kind_of_type (bare s.now.p.now.types computed)) false x y)
@@ -390,7 +391,8 @@ impl State {
         requires { IsSource s.now }
         ensures same { B.meaning m.new ≡ B.meaning m.old }
         ensures does { IsFit s.now.p.now → (vars : List VarDef) → IsSmall s.now.p.now e.now.of → (x y : Ex) →
-            Does (finish_item (B.meaning m.old) (funs_of s.now.p.now) (assignment s.now.p.now vars e.now.pos e.now.of a x y)
+            Does (finish_item (B.meaning m.old) (funs_of s.now.p.now)
+            (assignment s.now.p.now vars e.now.pos e.now.of a x y)
             (moment_of s.now.p.now self.old (B.held m.old)))
             (moment_of s.now.p.now self.new (B.held m.new)) result }
     {

@@ -384,7 +384,8 @@ impl State {
         requires { IsSource s.now }
         ensures same { B.meaning m.new ≡ B.meaning m.old }
         ensures does { IsFit s.now.p.now → (vars : List VarDef) → IsSmall s.now.p.now e.now.of → (x y : Ex) →
-            Does (finish_place (B.meaning m.old) (funs_of s.now.p.now) (assignment s.now.p.now vars e.now.pos e.now.of a x y)
+            Does (finish_place (B.meaning m.old) (funs_of s.now.p.now)
+            (assignment s.now.p.now vars e.now.pos e.now.of a x y)
             (moment_of s.now.p.now self.old (B.held m.old))) (moment_of s.now.p.now self.new (B.held m.new)) result }
     {
         let facts = s.types.facts(s.p, e.of);

@@ -19,4 +19,5 @@ returns-then-is_object-clause-did g c =
 pub returns-else-is_object-clause-did : goal.returns-else-is_object-clause-did
 returns-else-is_object-clause-did g c =
     variable_leaves (g.B.Operations.meaning c.args.m.now) c.args.s.now.p.now (g.B.Operations.held c.args.m.now)
-    (g.B.Operations.held c.args.m.now) c.args.state.now c.args.state.now _ c.args.x _ (sym c.is_object.ensures ∙ c.if-is_object.false)
+    (g.B.Operations.held c.args.m.now) c.args.state.now c.args.state.now _ c.args.x _
+    (sym c.is_object.ensures ∙ c.if-is_object.false)

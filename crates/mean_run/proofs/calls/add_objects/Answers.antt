@@ -28,8 +28,11 @@ vars-preserved g c =
     let next = c.in-Ok.ensures.next (omega arith) in
     record {
       same = c.add_object.ensures.same ∙ c.vars.invariant.same;
-      count = next ∙ (ap (λ n. n + own_count v) count ∙ sym (before_more vars i v (slice_get-get_or vars i none within)));
+      count = next ∙ (ap (λ n. n + own_count v) count
+          ∙ sym (before_more vars i v (slice_get-get_or vars i none within)));
       left = λ sized. c.vars.invariant.left sized
-          ∙ one_added (g.B.Operations.meaning c.args.m.now) c.args.s.now.p.now c.args.frame c.args.g vars i v none within refl _ _
-          c.vars.n _ next (rw c.vars.invariant.same at c.in-Ok.ensures.did (sized i v (slice_get-get_or vars i none within)));
+          ∙ one_added (g.B.Operations.meaning c.args.m.now) c.args.s.now.p.now c.args.frame c.args.g vars i v none
+          within refl _ _
+          c.vars.n _ next (rw c.vars.invariant.same at c.in-Ok.ensures.did
+          (sized i v (slice_get-get_or vars i none within)));
     }

@@ -15,7 +15,8 @@ returns-in-Int c = λ fit vars sized.
       expr_tree p vars c.in-Int.field-1,
       expr_tree p vars c.in-Int.b,
       int_is p vars e.of e.pos e.kind c.in-Int.field-1 c.in-Int.b c.in-Int.op _ _ c.in-Int.is
-          (c.int_kind.ensures ∙ ap int_kind (c.kind_or_int-own.ensures ∙ ap kind_or_int own.kind)) (c.kind_at.ensures vars),
+          (c.int_kind.ensures ∙ ap int_kind (c.kind_or_int-own.ensures ∙ ap kind_or_int own.kind))
+          (c.kind_at.ensures vars),
     )
 
 pub returns-in-Capability : goal.returns-in-Capability
@@ -37,7 +38,8 @@ returns-in-Plus c = λ fit vars sized.
     let i = c.in-Plus in (
       expr_tree p vars i.a,
       expr_tree p vars i.b,
-      plus_is p vars e.of e.pos e.kind i.a i.b i.minus _ i.is (c.sum.ensures vars (subst (IsSizedBy p e.of) i.is sized)),
+      plus_is p vars e.of e.pos e.kind i.a i.b i.minus _ i.is
+          (c.sum.ensures vars (subst (IsSizedBy p e.of) i.is sized)),
     )
 
 pub returns-in-Difference : goal.returns-in-Difference
@@ -47,5 +49,6 @@ returns-in-Difference c = λ fit vars sized.
     let i = c.in-Difference in (
       expr_tree p vars i.a,
       expr_tree p vars i.field-1,
-      difference_is p vars e.of e.pos e.kind i.a i.field-1 _ i.is (c.element_size.ensures vars (subst (IsSizedBy p e.of) i.is sized)),
+      difference_is p vars e.of e.pos e.kind i.a i.field-1 _ i.is
+          (c.element_size.ensures vars (subst (IsSizedBy p e.of) i.is sized)),
     )

@@ -12,7 +12,8 @@ returns-then-facts c = λ fit vars small.
     let own = c.facts-facts.ensures.own in
     compound_pointer p vars c.args.op (bare p.types c.args.computed) c.args.a c.args.b (expr_tree p vars c.args.b)
     c.facts-facts.result.target _ _ _ (sym own.pointer ∙ c.if-facts.true) own.target
-    (c.facts.ensures.size (subst (IsSmall p) (sym own.target) (small (sym own.pointer ∙ c.if-facts.true)))) c.takes_away.ensures (c.kind_at.ensures vars)
+    (c.facts.ensures.size (subst (IsSmall p) (sym own.target) (small (sym own.pointer ∙ c.if-facts.true))))
+    c.takes_away.ensures (c.kind_at.ensures vars)
 
 pub returns-in-Plain : goal.returns-in-Plain
 returns-in-Plain c = λ fit vars small.

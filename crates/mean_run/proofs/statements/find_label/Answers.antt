@@ -16,4 +16,5 @@ labels-preserved g c = λ n e.
     let k = kind_of c.args.kind in
     c.labels.invariant n e ∙ no_label ops c.args.pos k v labels c.labels.l-index none (omega arith)
     (default_of (labels_of labels)) n (subst (λ m. IsAt ops c.args.pos k v m
-    (get_or labels c.labels.l-index none).value (Ok false)) (sym e) (rw c.in-Ok-false.field-0-test at c.in-Ok-false.ensures))
+    (get_or labels c.labels.l-index none).value (Ok false)) (sym e)
+    (rw c.in-Ok-false.field-0-test at c.in-Ok-false.ensures))

@@ -99,7 +99,8 @@ returns-in-Give-clause-does g c = λ fit before.
 pub returns-in-One-clause-does : goal.returns-in-One-clause-does
 returns-in-One-clause-does g c = λ fit before.
     rw c.in-One.is (does_stepped _ _ before _ c.give_value.result (value_given c.args.s.now.p.now
-    (g.B.Operations.held c.args.m.now) c.args.self.now c.give_value.new.self _ c.give_value.result c.give_value.ensures))
+    (g.B.Operations.held c.args.m.now) c.args.self.now c.give_value.new.self _ c.give_value.result
+    c.give_value.ensures))
 
 pub returns-in-Finish-clause-does : goal.returns-in-Finish-clause-does
 returns-in-Finish-clause-does g c = λ fit before. rw c.in-Finish.is (c.finish.ensures.does fit before)

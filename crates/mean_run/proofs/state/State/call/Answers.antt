@@ -23,7 +23,8 @@ returns-in-Err-clause-does g c = λ fit vars.
     let taken = one_taken p held s t t c.take-callee.ensures.state ∙ ap less_value less in
     let callee = c.take-callee.ensures.value ∙ ap (λ (m : Moment Store). first_of m.values) less in
     let fs = fits p vars (pointee_of (bare_type p vars c.args.through)) in
-    called_over ops p c.args.pos fs count c.args.through m t held taken (value_of c.take-callee.result) callee c.in-Err.stop
+    called_over ops p c.args.pos fs count c.args.through m t held taken
+    (value_of c.take-callee.result) callee c.in-Err.stop
     m (c.in-Err.ensures ops vars (now_of t held))
 
 pub returns-in-Err-turn-clause-does : goal.returns-in-Err-turn-clause-does

@@ -14,10 +14,11 @@ returns-in-Err-store-clause-does g c = λ p.
     let place = kind_of c.args.change.place in
     let z = value_of c.in-Ok.z in
     same_end _ _ (moment_of p t held) (moment_of p t held) c.in-Err-store.stop
-    (changes_to ops c.args.pos (now_of t held) (moment_of p t held) _ place _ c.args.change.old (place_of c.args.to) _ _ z
-    c.in-Ok.ensures)
+    (changes_to ops c.args.pos (now_of t held) (moment_of p t held) _ place _ c.args.change.old
+    (place_of c.args.to) _ _ z c.in-Ok.ensures)
     (did_over p held held t t (moment_of p t held)
-    (if c.args.change.old then value_of c.args.x else z) (store ops place (place_of c.args.to) z) c.in-Err-store.stop (c.in-Err-store.ensures.did p))
+    (if c.args.change.old then value_of c.args.x else z) (store ops place (place_of c.args.to) z) c.in-Err-store.stop
+    (c.in-Err-store.ensures.did p))
 
 pub returns-in-Ok-store-clause-does : goal.returns-in-Ok-store-clause-does
 returns-in-Ok-store-clause-does g c = λ p.

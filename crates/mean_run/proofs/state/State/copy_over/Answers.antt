@@ -13,4 +13,5 @@ returns-in-Err-clause-does g c = λ p x y.
     (copied_is ops p held c.args.self.now c.take_place-from.new.self t c.args.pos c.args.bytes c.args.unit
     c.take_place-from.result c.take_place-to.result x y c.take_place-from.ensures.state c.take_place-to.ensures.state
     c.take_place-from.ensures.place c.take_place-to.ensures.place)
-    (leaves_over p held t (moment_of p t held) (now_of t held) nothing _ c.in-Err.stop (c.in-Err.ensures.did (now_of t held) refl))
+    (leaves_over p held t (moment_of p t held) (now_of t held) nothing _ c.in-Err.stop
+    (c.in-Err.ensures.did (now_of t held) refl))

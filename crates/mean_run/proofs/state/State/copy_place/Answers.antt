@@ -18,7 +18,8 @@ returns-in-Ok-clause-does g c = λ p x y.
     let ops = g.B.Operations.meaning c.args.m.now in
     let held = g.B.Operations.held c.args.m.now in
     let t = c.take_place-to.new.self in
-    copy_designated ops p held (g.B.Operations.held c.copy.new.m) c.args.self.now c.take_place-from.new.self t c.args.pos
+    copy_designated ops p held (g.B.Operations.held c.copy.new.m) c.args.self.now c.take_place-from.new.self t
+    c.args.pos
     c.args.bytes c.args.unit c.take_place-from.result c.take_place-to.result x y c.take_place-from.ensures.state
     c.take_place-to.ensures.state c.take_place-from.ensures.place c.take_place-to.ensures.place c.designate_now.new.self
     c.designate_now.result (c.in-Ok.ensures.did (now_of t held) refl) c.designate_now.ensures

@@ -25,7 +25,8 @@ objects-preserved g c =
     let object = c.object.ensures (omega arith) in
     record {
       same = c.end.ensures.same ∙ c.objects.invariant.same;
-      left = c.objects.invariant.left ∙ one_ended (g.B.Operations.meaning c.args.m.now) (g.B.Operations.held c.objects.m)
+      left = c.objects.invariant.left
+          ∙ one_ended (g.B.Operations.meaning c.args.m.now) (g.B.Operations.held c.objects.m)
           (g.B.Operations.held c.end.new.self) c.args.self.now.call.first c.objects.n all within
           (c.end.ensures.changes ∙ ended_as _ _ _ _ _ c.objects.invariant.same object);
     }

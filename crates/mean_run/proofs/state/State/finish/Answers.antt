@@ -20,5 +20,6 @@ returns-in-Some-clause-does g c = λ fit before.
     let e = c.in-Some.e.now in
     let l = rw c.as_slice.ensures at c.in-Some.ensures.lookup in
     let at = there p.exprs c.args.k e l.0 l.1 in
-    c.finish_at.ensures.does fit (node_at p c.args.k e fit.order l.0 l.1) (fit.peeled (vars_at p c.args.f) c.args.k e at)
+    c.finish_at.ensures.does fit (node_at p c.args.k e fit.order l.0 l.1)
+    (fit.peeled (vars_at p c.args.f) c.args.k e at)
     (fit.sizes c.args.k e at) before

@@ -7,6 +7,7 @@ returns g c = λ p o x y is_op.
     let held = g.B.Operations.held c.args.m.now in
     same_act _ _ _ c.give_answer.result
     (operated_at ops p held c.args.self.now c.take-y.new.self c.take-x.new.self c.args.pos c.take-x.result
-    c.take-y.result c.take-y.ensures.state c.take-y.ensures.value c.take-x.ensures.state c.take-x.ensures.value _ _ _ x y
+    c.take-y.result c.take-y.ensures.state c.take-y.ensures.value c.take-x.ensures.state c.take-x.ensures.value _ _ _
+    x y
     is_op c.operated.ensures)
     (c.give_answer.ensures p held)

@@ -28,9 +28,11 @@ returns-then-is_object-clause-did g c = λ there.
     ∙ ap (λ t. kind_of (bare p.types t)) c.type_of_variable.ensures in
     did_as (store ops (code_kind c.kind_or_int-kind.result) (At c.args.d.now.pos (value_of c.whole-to.result))
     (value_of c.args.v)) (pass_one ops c.args.d.now.pos (parameter_of p vars x) (value_of c.args.v)) _ p c.args.self.now
-    c.store.new.self _ held _ _ (object_passed ops p c.args.d.now.pos c.args.self.now held (value_of c.args.v) (is_simple (slice_get vars x)) x
-    (objects_before vars x) c.object-object.result _ _ _ _ (sym (c.is_object.ensures ∙ simple) ∙ c.if-is_object.true) kind
-    object c.whole-to.ensures c.zero.ensures.changes) (did_in (λ o. store o (code_kind c.kind_or_int-kind.result) (At c.args.d.now.pos (value_of c.whole-to.result))
+    c.store.new.self _ held _ _ (object_passed ops p c.args.d.now.pos c.args.self.now held (value_of c.args.v)
+    (is_simple (slice_get vars x)) x (objects_before vars x) c.object-object.result _ _ _ _
+    (sym (c.is_object.ensures ∙ simple) ∙ c.if-is_object.true) kind
+    object c.whole-to.ensures c.zero.ensures.changes)
+    (did_in (λ o. store o (code_kind c.kind_or_int-kind.result) (At c.args.d.now.pos (value_of c.whole-to.result))
     (value_of c.args.v)) _ p c.args.self.now c.store.new.self _ _ _ _ ops c.zero.ensures.same (c.store.ensures.did p))
 
 pub returns-else-is_object-clause-did : goal.returns-else-is_object-clause-did

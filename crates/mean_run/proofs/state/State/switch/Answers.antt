@@ -8,7 +8,8 @@ use Rattle.mean_run.proofs.state.State.switch.Goals as goal
 pub returns-in-None-clause-does : goal.returns-in-None-clause-does
 returns-in-None-clause-does g c = λ order.
     let p = c.args.s.now.p.now in
-    rw (no_statement p (vars_at p c.args.f) c.args.k (sym c.in-None.ensures)) (lost (g.B.Operations.meaning c.args.m.now) p c.args.f c.args.k
+    rw (no_statement p (vars_at p c.args.f) c.args.k (sym c.in-None.ensures))
+    (lost (g.B.Operations.meaning c.args.m.now) p c.args.f c.args.k
     (record { line = 0; col = 0 }) (g.B.Operations.held c.args.m.now) (g.B.Operations.held c.args.m.now) c.args.self.now
     c.lose.new.self c.lose.result Empty refl (both_same _ _ c.lose.result c.lose.ensures))
 

@@ -42,7 +42,7 @@ returns-in-Ok-clause-does g c =
     let entered = rw c.as_slice.ensures at c.enter_block.ensures.did in
     let finds = same_finds _ ops _ (kind_at p vars c.in-Switch.on) _ _ c.args.a.now.pos (value_of v) (now_of t left)
     c.enter_block.ensures.same (c.kind_at.ensures vars) c.as_slice-in-Switch.ensures in
-    rw c.in-Switch.is (λ node. switch_lands ops p f k held left old s t c.goes_to.new.self c.args.a.now.pos _ _ _ _ _ node
-    c.take-v.ensures.state entered v c.take-v.ensures.value c.in-Ok.to c.goes_to.result
+    rw c.in-Switch.is (λ node. switch_lands ops p f k held left old s t c.goes_to.new.self c.args.a.now.pos _ _
+    _ _ _ node c.take-v.ensures.state entered v c.take-v.ensures.value c.in-Ok.to c.goes_to.result
     (subst (λ x. Gives x (λ o. o) (now_of t left) (Ok c.in-Ok.to)) finds (c.in-Ok.ensures (now_of t left) refl))
     c.goes_to.ensures)

@@ -20,5 +20,6 @@ values-preserved c = record {
   kept = ap (λ (s : State). record s { values = c.pop.new.self }) c.values.invariant.kept;
   taken = c.values.invariant.taken ∙ (one_turned c.args.count c.values.counter _ _ c.in-Some.v c.values.values.items
       (omega arith) c.in-Some.ensures ∙ rw (← c.in_ok-push-in-Some.ensures.items) refl);
-  left = c.values.invariant.left ∙ one_beyond c.args.count c.values.counter _ _ c.in-Some.v (omega arith) c.in-Some.ensures;
+  left = c.values.invariant.left
+      ∙ one_beyond c.args.count c.values.counter _ _ c.in-Some.v (omega arith) c.in-Some.ensures;
 }
