@@ -13,13 +13,15 @@ from calls import ROOT, prepared
 
 TABLES = ("front_tables", "declared_files", "initialised_files", "typed_files", "constant_files")
 # A row: two strings in brackets, on one line or each on its own.
+# GOES_ON is where a string is broken at a line's end.
 ROW = re.compile(r'^    \(\s*("(?:[^"\\]|\\.)*"),\s*("(?:[^"\\]|\\.)*"),?\s*\),$', re.M)
+GOES_ON = re.compile(r"\\\n\s*")
 
 
 def rows_of(table):
     """The files of a table, with what they are answered."""
     with open(f"{ROOT}/crates/cheric_rows/src/{table}.rt", encoding="utf-8") as it:
-        return [tuple(ast.literal_eval(word) for word in row) for row in ROW.findall(it.read())]
+        return [tuple(ast.literal_eval(word) for word in row) for row in ROW.findall(GOES_ON.sub("", it.read()))]
 
 
 def answer(folder, text):

@@ -1,4 +1,4 @@
-/* A little stack machine: it pushes numbers, adds, multiplies, shows and jumps. It shows the squares from 1 to 9.
+/* A little stack machine: it pushes, adds, multiplies, shows and jumps. It shows the squares from 1 to 9.
    Output: 1, 4, 9, 16, 25, 36, 49, 64 and 81, a line each. Then `exit 9`, status 1. */
 enum Opcode { PUSH, DUPLICATE, ADD, MULTIPLY, SHOW, LOAD, STORE, JUMP_BELOW, HALT };
 struct Machine {

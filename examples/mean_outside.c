@@ -1,4 +1,4 @@
-/* A local of a function that has returned is no more. What a pointer to it reads is nothing that a meaning tells.
+/* A local of a function that has returned is no more. What a pointer to it reads is told by no meaning.
    By `mean`: output 7. Then `outside 9:19`, status 5. */
 static int *local(void) {
     int x = 7;

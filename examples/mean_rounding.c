@@ -1,4 +1,4 @@
-/* Bounds of 5,000 bytes are exact at some addresses alone: how long they come out depends on where the object stands.
+/* Bounds of 5,000 bytes are exact at some addresses alone: how long they come out depends on the object's place.
    By `run`: output >. Then `exit 0`, status 0. By `mean`: `unspecified rounding 5:31`, status 5. */
 int main(void) {
     char *p = malloc(9000);

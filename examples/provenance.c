@@ -1,4 +1,4 @@
-/* An uintptr_t keeps what a pointer may do, through a sum with a plain integer too; the bytes of a pointer do not.
+/* An uintptr_t keeps what a pointer may do, also through a sum with an integer; the bytes of a pointer do not.
    Output: 22. Then `trap tag 12:19`, status 2. */
 int main(void) {
     int a[3] = {1, 2, 3};
