@@ -1,14 +1,14 @@
 -- What is kept of pairs of types, as types are added and answers found.
 use Rattle.std.proofs.Common.{◌≡◌, ℕ, ◌+◌, ◌<◌, ◌≤◌, Bool, true, false, cond, eqb, List, [], ◌∷◌, ◌++◌, length, get_or}
-use Rattle.std.proofs.Common.{take, map, zero, suc, Option, Some, None, refl, sym, ap, subst, ◌∙◌, arith, append_assoc}
+use Rattle.std.proofs.Common.{take, map, zero, suc, ◌-◌, ◌^◌, Option, Some, None, refl, sym, ap, subst, ◌∙◌, arith}
+use Rattle.std.proofs.Common.{append_assoc}
 use Rattle.std.proofs.Common.{length-append, eq-eqb}
 use Rattle.std.proofs.Math.Seq.{get_or-append_seam}
 use Rattle.std.proofs.Math.ListN.{get_or-append}
-use Rattle.std.specs.Prelude.{◌&&◌, ◌||◌, IfSome, Result, Ok, Err, IfOk, All}
+use Rattle.std.specs.Prelude.{◌&&◌, ◌||◌, if◌then◌else◌, is_some, IfSome, IfNone, Result, Ok, Err, IfOk, All}
 use Rattle.std.specs.Map.{lookup}
-use Rattle.std.specs.Option.{ok_or}
 use Rattle.std.proofs.lemmas.Bool.{eqb-true}
-use Rattle.std.proofs.lemmas.List.{append-nil, map-append, take_more}
+use Rattle.std.proofs.lemmas.List.{append-nil, map-append, take_more, same_from_push}
 use Rattle.std.proofs.lemmas.List.Elements.{All-nil, All-append}
 use Rattle.c_tree.specs.declared.typed.CType.{CType}
 use Rattle.c_tree.specs.declared.typed.Typed.{Typed}
@@ -20,8 +20,9 @@ use Rattle.c_interner.specs.declared.composites.Composites.{Composites}
 use Rattle.c_interner.specs.declared.heads.Head.{Head}
 use Rattle.c_interner.specs.Heads.{built}
 use Rattle.c_interner.specs.Agreement.{lengths_of}
-use Rattle.c_interner.specs.Levels.{same_pair, parts_of, levels_agree, pairs_agree, pair_composite, AreBelow}
-use Rattle.c_interner.specs.Known.{type_in, IsComposite, AreComposites, NamesComposites}
+use Rattle.c_interner.specs.Levels.{same_pair, parts_of, rank, levels_agree, pairs_agree, pair_composite, AreBelow}
+use Rattle.c_interner.specs.Known.{type_in, has_answer, answers_left, LastIsOpen, IsComposite, AreComposites}
+use Rattle.c_interner.specs.Known.{NamesComposites}
 use Rattle.c_interner.specs.Numbers.{IsPlain, AddsTypes, IsNumberOf}
 use Rattle.c_interner.proofs.Growing.{type_at-longer}
 use Rattle.c_interner.proofs.Pairing.{agree-built, composite_self, below_end}
@@ -61,6 +62,56 @@ kept_more {V = V} P es new key v u p h q r e = by (same_pair key q) refl (sym (u
     by : (b : Bool) → same_pair key q ≡ b → cond b (Some v) (lookup (same_pair q) es) ≡ Some r → P q r
     by true i j = let x = same_pair_is key q i in let y : v ≡ r = cc in subst (λ s. P q s) y (subst (λ s. P s v) x p)
     by false i j = h q r j
+
+-- ---- pairs with no answer
+
+pub answer_plain : {V : Type 0} (es : List ((ℕ × ℕ) × V)) (q : ℕ × ℕ) → q.0 ≡ q.1 → has_answer es q ≡ true
+answer_plain es q e = ap (λ b. b || is_some (lookup (same_pair q) es)) (eq-eqb q.0 q.1 e)
+
+pub answer_kept : {V : Type 0} (es : List ((ℕ × ℕ) × V)) (q : ℕ × ℕ) (o : Option V) → (q.0 ≡ q.1 → ⊥) →
+    o ≡ lookup (same_pair q) es → is_some o ≡ has_answer es q
+answer_kept es q o n e = by (eqb q.0 q.1) refl
+  where
+    by : (b : Bool) → eqb q.0 q.1 ≡ b → is_some o ≡ (b || is_some (lookup (same_pair q) es))
+    by true i = absurd (n (eqb-true q.0 q.1 i))
+    by false i = ap is_some e
+
+none_kept_of : (a b : Bool) → (a || b) ≡ false → b ≡ false
+none_kept_of true b e = absurd cc
+none_kept_of false b e = e
+
+less_left : (m a b : ℕ) → b ≡ a + 1 → a < m → m - b < m - a
+less_left m a b e l = omega arith
+
+-- one more answer
+pub fewer_left : {V : Type 0} (es new : List ((ℕ × ℕ) × V)) (q : ℕ × ℕ) (old : Option V) → has_answer es q ≡ false →
+    old ≡ lookup (same_pair q) es → length new ≡ length es + (if is_some old then 0 else 1) → length es < 2 ^ 63 →
+    answers_left new < answers_left es
+fewer_left es new q old h e l small =
+    let n : is_some old ≡ false = ap is_some e ∙ none_kept_of (eqb q.0 q.1) (is_some (lookup (same_pair q) es)) h in
+    less_left (2 ^ 63) (length es) (length new) (l ∙ ap (λ b. length es + cond b 0 1) n) small
+
+pub last_there : {V : Type 0} (es : List ((ℕ × ℕ) × V)) (void n : ℕ) (ws : List (ℕ × ℕ)) → LastIsOpen es void n ws →
+    0 < length ws
+last_there es void n ws h = rw h.are (omega (arith, length-append h.others (h.last ∷ [])))
+
+pub last_taken : {V : Type 0} (es : List ((ℕ × ℕ) × V)) (void n : ℕ) (ws rest : List (ℕ × ℕ)) (q : ℕ × ℕ) →
+    LastIsOpen es void n ws → ws ≡ rest ++ q ∷ [] → (has_answer es q ≡ false) × (rank void q.0 < n)
+last_taken es void n ws rest q h e =
+    let s = same_from_push h.others rest h.last q (sym h.are ∙ e) in (
+      subst (λ (p : ℕ × ℕ). has_answer es p ≡ false) s.1 h.unknown,
+      subst (λ (p : ℕ × ℕ). rank void p.0 < n) s.1 h.below,
+    )
+
+pub if_ok_none : {V E : Type 0} (r : Result (Option V) E) (P Q : Type 0) → (P → Q) → IfOk r (λ o. IfNone o P) →
+    IfOk r (λ o. IfNone o Q)
+if_ok_none (Ok None) P Q h i = h i
+if_ok_none (Ok (Some v)) P Q h i = tt
+if_ok_none (Err e) P Q h i = tt
+
+pub if_none : {V : Type 0} (o : Option V) (P : Type 0) → ((v : V) → o ≡ Some v → ⊥) → IfNone o P → P
+if_none None P n h = h
+if_none (Some v) P n h = absurd (n v refl)
 
 -- ---- agreement
 
@@ -138,9 +189,6 @@ one_below : (n v : ℕ) → v < n → All (λ k. k < n) (v ∷ [])
 one_below n v l zero d h = l
 one_below n v l (suc k) d h = absurd (omega arith)
 
-pub names_none : (types : List CType) (qs : List (ℕ × ℕ)) → NamesComposites types (take 0 qs) []
-names_none types qs = record { there = λ k d h. absurd (omega arith); are = refl }
-
 pub names_more : (types : List CType) (qs : List (ℕ × ℕ)) (k : ℕ) (d : ℕ × ℕ) (ks : List ℕ) (v : ℕ) → k < length qs →
     NamesComposites types (take k qs) ks → IsComposite types (get_or qs k d) v →
     NamesComposites types (take (k + 1) qs) (ks ++ v ∷ [])
@@ -196,11 +244,6 @@ pub composite_named : (p q : Typed) (x : ℕ × ℕ) (k : ℕ) → AddsTypes p q
 composite_named p q x k a l m h =
     h.is ∙ ap (λ t. composite t (type_in q.types x.1)) (adds_keep p q x.0 a l)
     ∙ ap (λ t. composite (type_in p.types x.0) t) (adds_keep p q x.1 a m)
-
-pub ok_or_some : {V E : Type 0} (o : Option V) (r : Result V E) (e : E) (P Q : V → Type 0) → r ≡ ok_or o e →
-    ((v : V) → P v → Q v) → IfSome o P → IfOk r Q
-ok_or_some None r e P Q i h p = rw i tt
-ok_or_some (Some v) r e P Q i h p = rw i (h v p)
 
 pub below_next : (n : ℕ) (qs : List (ℕ × ℕ)) (k : ℕ) (d : ℕ × ℕ) (ws : List (ℕ × ℕ)) → k < length qs → AreBelow n qs →
     AreBelow n ws → AreBelow n (ws ++ get_or qs k d ∷ [])

@@ -1,12 +1,13 @@
 -- Two types by their levels.
 use Rattle.std.proofs.Common.{◌≡◌, ℕ, zero, suc, ◌+◌, ◌<◌, ◌≤◌, Bool, true, false, cond, ltb, eqb, List, [], ◌∷◌, ◌++◌}
-use Rattle.std.proofs.Common.{length, get_or, take, drop, map, min, max, Some, refl, sym, ap, ◌∙◌, arith, add-one}
+use Rattle.std.proofs.Common.{length, get_or, take, drop, map, min, max, Some, refl, sym, ap, subst, ◌∙◌, arith}
+use Rattle.std.proofs.Common.{add-one}
 use Rattle.std.proofs.Common.{eq-eqb}
-use Rattle.std.specs.Prelude.{slice_get, ◌&&◌}
+use Rattle.std.specs.Prelude.{slice_get, ◌&&◌, All}
 use Rattle.std.proofs.Math.Dec.{eqb-zero-suc, eqb-suc-zero, eqb-suc-suc}
-use Rattle.std.proofs.lemmas.Bool.{ltb-true, ltb-false}
+use Rattle.std.proofs.lemmas.Bool.{ltb-true, ltb-false, eqb-true}
 use Rattle.std.proofs.lemmas.List.{take_more}
-use Rattle.std.proofs.lemmas.List.Elements.{All-append}
+use Rattle.std.proofs.lemmas.List.Elements.{All-append, All-nil, All-cons}
 use Rattle.std.proofs.lemmas.Option.{slice_get_within}
 use Rattle.ck_int.specs.declared.kinds.IntKind.{IntKind}
 use Rattle.ck_int.specs.declared.kinds.IntKind.TheVariants as kind
@@ -16,10 +17,11 @@ use Rattle.c_tree.specs.Types.{Ty, Tys, no_types, also, Void, agree, all_agree, 
 use Rattle.c_tree.specs.Views.{type_from, type_at, types_of, tys}
 use Rattle.c_interner.specs.declared.heads.Head.{Head}
 use Rattle.c_interner.specs.declared.heads.Head.TheVariants as heads
-use Rattle.c_interner.specs.Heads.{built, PartStandsBefore, AllBefore}
+use Rattle.c_interner.specs.Heads.{built, OfPart}
 use Rattle.c_interner.specs.Numbers.{SeesBefore}
 use Rattle.c_interner.specs.Known.{type_in}
-use Rattle.c_interner.specs.Levels.{part_of, pairs_of, parts_of, levels_agree, pairs_agree, pair_composite, AreBelow}
+use Rattle.c_interner.specs.Levels.{part_of, rank, pairs_of, parts_of, levels_agree, pairs_agree, pair_composite}
+use Rattle.c_interner.specs.Levels.{AreBelow, RankBelow}
 use Rattle.c_interner.proofs.Growing.{type_at-level, sees_before}
 
 -- ---- a level over the whole list
@@ -64,17 +66,44 @@ level_is cs void k c h l ps qs e v t u q =
     (part_seen cs void k seen v (sees_before cs k (omega arith))) ∙ u (type_in cs) ps
     ∙ ap (λ rs. built l rs (type_in cs)) (sym q)
 
-part_below : (void k n j : ℕ) → void < n → k ≤ n → part_of void k j < n
-part_below void k n j v l = by (ltb j k) refl
-  where
-    by : (b : Bool) → ltb j k ≡ b → cond b j void < n
-    by true e = let lt = ltb-true j k e in omega arith
-    by false e = v
+-- ---- ranks
 
-pub parts_below : (void k n : ℕ) (ps : List ℕ) → void < n → k ≤ n → AllBefore (map (part_of void k) ps) n
-parts_below void k n [] v l j p e = absurd cc
-parts_below void k n (q ∷ ps) v l zero p e = let s : part_of void k q ≡ p = cc in rw (← s) (part_below void k n q v l)
-parts_below void k n (q ∷ ps) v l (suc j) p e = parts_below void k n ps v l j p e
+rank_most : (void k : ℕ) → rank void k ≤ k + 1
+rank_most void k = by (eqb k void)
+  where
+    by : (b : Bool) → cond b 0 (k + 1) ≤ k + 1
+    by true = omega arith
+    by false = omega arith
+
+rank_void : (void : ℕ) → rank void void ≡ 0
+rank_void void = ap (λ b. cond b 0 (void + 1)) (eq-eqb void void refl)
+
+pub rank_part : (void k j : ℕ) → rank void (part_of void k j) ≤ k
+rank_part void k j = by (ltb j k) refl
+  where
+    by : (b : Bool) → ltb j k ≡ b → rank void (cond b j void) ≤ k
+    by true e = let l = ltb-true j k e in let r = rank_most void j in omega arith
+    by false e = let r = rank_void void in omega arith
+
+pub ranks_of : (void k : ℕ) (ps : List ℕ) → All (λ t. rank void t ≤ k) (map (part_of void k) ps)
+ranks_of void k [] j d l = absurd (omega arith)
+ranks_of void k (p ∷ ps) zero d l = rank_part void k p
+ranks_of void k (p ∷ ps) (suc j) d l = ranks_of void k ps j d (omega arith)
+
+rank_below : (void k n t : ℕ) → void < n → k ≤ n → rank void t ≤ k → t < n
+rank_below void k n t v l h = by (eqb t void) refl h
+  where
+    by : (b : Bool) → eqb t void ≡ b → cond b 0 (t + 1) ≤ k → t < n
+    by true e r = let q = eqb-true t void e in omega arith
+    by false e r = omega arith
+
+rank_rises : (types : List CType) (void x r : ℕ) → type_in types void ≡ Void → (type_in types x ≡ Void → ⊥) → r ≤ x →
+    r < rank void x
+rank_rises types void x r v n l = by (eqb x void) refl
+  where
+    by : (b : Bool) → eqb x void ≡ b → r < cond b 0 (x + 1)
+    by true e = absurd (n (subst (λ (k : ℕ). type_in types k ≡ Void) (sym (eqb-true x void e)) v))
+    by false e = omega arith
 
 -- ---- pairs of parts
 
@@ -244,53 +273,66 @@ composite_params go r s first ps qs others all e a =
     let g = ap (λ ks. tys (map go ks)) a in
     cc
 
--- the composite of types without parts is the first
-pub composite_first : (go : ℕ → Ty) (h : Head) (ps : List ℕ) (g : Head) (qs : List ℕ) → parts_of h ps g qs ≡ [] →
-    composite (built h ps go) (built g qs go) ≡ built h ps go
-composite_first go (heads.Pointer s) ps (heads.Pointer t) qs e = absurd cc
-composite_first go (heads.Array s m) ps (heads.Array t n) qs e = absurd cc
-composite_first go (heads.Function r) ps (heads.Function s) qs e = absurd cc
-composite_first go (heads.Const s) ps (heads.Const t) qs e = absurd cc
-composite_first go h ps g qs e = refl
-
--- so it is where no part has a composite
-pub composite_none : (go : ℕ → Ty) (h : Head) (ps : List ℕ) (g : Head) (qs : List ℕ) →
-    [] ≡ map (pair_composite go) (parts_of h ps g qs) → composite (built h ps go) (built g qs go) ≡ built h ps go
-composite_none go h ps g qs e = composite_first go h ps g qs (by (parts_of h ps g qs) e)
-  where
-    by : (xs : List (ℕ × ℕ)) → [] ≡ map (pair_composite go) xs → xs ≡ []
-    by [] e = refl
-    by (x ∷ xs) e = absurd cc
-
 -- ---- numbers of parts
 
-pairs_below : (n : ℕ) (ps qs : List ℕ) → AllBefore ps n → AllBefore qs n → AreBelow n (pairs_of ps qs)
-pairs_below n [] qs a b k d l = absurd (omega arith)
-pairs_below n (p ∷ ps) [] a b k d l = absurd (omega arith)
-pairs_below n (p ∷ ps) (q ∷ qs) a b zero d l = (a 0 p refl, b 0 q refl)
-pairs_below n (p ∷ ps) (q ∷ qs) a b (suc k) d l =
-    pairs_below n ps qs (λ j r e. a (suc j) r e) (λ j r e. b (suc j) r e) k d (omega arith)
+pairs_are : (P Q : ℕ → Type 0) (ps qs : List ℕ) → All P ps → All Q qs →
+    All (λ (q : ℕ × ℕ). P q.0 × Q q.1) (pairs_of ps qs)
+pairs_are P Q [] qs a b k d l = absurd (omega arith)
+pairs_are P Q (p ∷ ps) [] a b k d l = absurd (omega arith)
+pairs_are P Q (p ∷ ps) (q ∷ qs) a b zero d l = (a 0 p (omega arith), b 0 q (omega arith))
+pairs_are P Q (p ∷ ps) (q ∷ qs) a b (suc k) d l =
+    pairs_are P Q ps qs (λ j e m. a (suc j) e (omega arith)) (λ j e m. b (suc j) e (omega arith)) k d (omega arith)
 
-pair_below : (n s t : ℕ) → s < n → t < n → AreBelow n ((s, t) ∷ [])
-pair_below n s t a b zero d l = (a, b)
-pair_below n s t a b (suc k) d l = absurd (omega arith)
+pair_is : (P Q : ℕ → Type 0) (s t : ℕ) (qs : List (ℕ × ℕ)) → P s → Q t → All (λ (q : ℕ × ℕ). P q.0 × Q q.1) qs →
+    All (λ (q : ℕ × ℕ). P q.0 × Q q.1) ((s, t) ∷ qs)
+pair_is P Q s t qs a b h = All-cons (λ (q : ℕ × ℕ). P q.0 × Q q.1) (s, t) qs (a, b) h
 
-none_below : (n : ℕ) → AreBelow n []
-none_below n k d l = absurd (omega arith)
+-- what holds of the parts of two types holds of their pairs
+parts_are : (P Q : ℕ → Type 0) (h : Head) (ps : List ℕ) (g : Head) (qs : List ℕ) → OfPart P h → All P ps →
+    OfPart Q g → All Q qs → All (λ (q : ℕ × ℕ). P q.0 × Q q.1) (parts_of h ps g qs)
+parts_are P Q (heads.Pointer s) ps (heads.Pointer t) qs a b c d =
+    pair_is P Q s t [] a c (All-nil (λ (q : ℕ × ℕ). P q.0 × Q q.1))
+parts_are P Q (heads.Array s i) ps (heads.Array t j) qs a b c d =
+    pair_is P Q s t [] a c (All-nil (λ (q : ℕ × ℕ). P q.0 × Q q.1))
+parts_are P Q (heads.Function r) ps (heads.Function s) qs a b c d =
+    pair_is P Q r s (pairs_of ps qs) a c (pairs_are P Q ps qs b d)
+parts_are P Q (heads.Const s) ps (heads.Const t) qs a b c d =
+    pair_is P Q s t [] a c (All-nil (λ (q : ℕ × ℕ). P q.0 × Q q.1))
+parts_are P Q h ps g qs a b c d = All-nil (λ (q : ℕ × ℕ). P q.0 × Q q.1)
 
-pub below_also : (n : ℕ) (q : ℕ × ℕ) (qs : List (ℕ × ℕ)) → q.0 < n → q.1 < n → AreBelow n qs → AreBelow n (q ∷ qs)
-below_also n q qs a b h zero d l = (a, b)
-below_also n q qs a b h (suc k) d l = h k d (omega arith)
+-- the parts of two types of a list are types of the list
+pub parts_are_below : (n void x y : ℕ) (h : Head) (ps : List ℕ) (g : Head) (qs : List ℕ) → void < n → x < n → y < n →
+    OfPart (λ t. rank void t ≤ x) h → All (λ t. rank void t ≤ x) ps →
+    OfPart (λ t. rank void t ≤ y) g → All (λ t. rank void t ≤ y) qs → AreBelow n (parts_of h ps g qs)
+parts_are_below n void x y h ps g qs v l m a b c d k e w =
+    let i = parts_are (λ t. rank void t ≤ x) (λ t. rank void t ≤ y) h ps g qs a b c d k e w in
+    (rank_below void x n _ v (omega arith) i.0, rank_below void y n _ v (omega arith) i.1)
 
-pub parts_are_below : (n : ℕ) (h : Head) (ps : List ℕ) (g : Head) (qs : List ℕ) → PartStandsBefore h n →
-    AllBefore ps n → PartStandsBefore g n → AllBefore qs n → AreBelow n (parts_of h ps g qs)
-parts_are_below n (heads.Pointer s) ps (heads.Pointer t) qs a b c d = pair_below n s t a c
-parts_are_below n (heads.Array s i) ps (heads.Array t j) qs a b c d = pair_below n s t a c
-parts_are_below n (heads.Function r) ps (heads.Function s) qs a b c d =
-    below_also n (r, s) (pairs_of ps qs) a c (pairs_below n ps qs b d)
-parts_are_below n (heads.Const s) ps (heads.Const t) qs a b c d = pair_below n s t a c
-parts_are_below n h ps g qs a b c d = none_below n
+fall : (types : List CType) (void x : ℕ) (rs : List (ℕ × ℕ)) → type_in types void ≡ Void →
+    (type_in types x ≡ Void → ⊥) → RankBelow void (x + 1) rs → RankBelow void (rank void x) rs
+fall types void x rs v n h k d l =
+    let i = h k d l in rank_rises types void x (rank void (get_or rs k d).0) v n (omega arith)
+
+falls : (types : List CType) (void x : ℕ) (h : Head) (ps : List ℕ) (g : Head) (qs : List ℕ) →
+    type_in types void ≡ Void → type_in types x ≡ built h ps (type_in types) →
+    RankBelow void (x + 1) (parts_of h ps g qs) → RankBelow void (rank void x) (parts_of h ps g qs)
+falls types void x (heads.Pointer s) ps (heads.Pointer t) qs v e b = fall types void x ((s, t) ∷ []) v (λ u. cc) b
+falls types void x (heads.Array s i) ps (heads.Array t j) qs v e b = fall types void x ((s, t) ∷ []) v (λ u. cc) b
+falls types void x (heads.Function r) ps (heads.Function s) qs v e b =
+    fall types void x ((r, s) ∷ pairs_of ps qs) v (λ u. cc) b
+falls types void x (heads.Const s) ps (heads.Const t) qs v e b = fall types void x ((s, t) ∷ []) v (λ u. cc) b
+falls types void x h ps g qs v e b = All-nil (λ (q : ℕ × ℕ). rank void q.0 < rank void x)
+
+-- the parts of two types nest less deep than the first
+pub parts_fall : (types : List CType) (void x y : ℕ) (h : Head) (ps : List ℕ) (g : Head) (qs : List ℕ) →
+    type_in types void ≡ Void → type_in types x ≡ built h ps (type_in types) →
+    OfPart (λ t. rank void t ≤ x) h → All (λ t. rank void t ≤ x) ps →
+    OfPart (λ t. rank void t ≤ y) g → All (λ t. rank void t ≤ y) qs → RankBelow void (rank void x) (parts_of h ps g qs)
+parts_fall types void x y h ps g qs v e a b c d =
+    falls types void x h ps g qs v e (λ k f w.
+    let i = parts_are (λ t. rank void t ≤ x) (λ t. rank void t ≤ y) h ps g qs a b c d k f w in
+    let j = i.0 in omega arith)
 
 pub below_end : (n : ℕ) (qs : List (ℕ × ℕ)) (q : ℕ × ℕ) → q.0 < n → q.1 < n → AreBelow n qs → AreBelow n (qs ++ q ∷ [])
 below_end n qs q a b h = All-append (λ (x : ℕ × ℕ). (x.0 < n) × (x.1 < n)) qs (q ∷ []) h
-    (below_also n q [] a b (none_below n))
+    (All-cons (λ (x : ℕ × ℕ). (x.0 < n) × (x.1 < n)) q [] (a, b) (All-nil (λ (x : ℕ × ℕ). (x.0 < n) × (x.1 < n))))

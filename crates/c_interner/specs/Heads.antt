@@ -23,13 +23,17 @@ abbrev pub params_of : CType → List ℕ
 params_of (ctypes.Function t ps) = ps
 params_of c = []
 
+-- what holds of a type that the level names, but for the parameters
+abbrev pub OfPart : (ℕ → Type 0) → Head → Type 0
+OfPart P (Pointer t) = P t
+OfPart P (Array t n) = P t
+OfPart P (Function t) = P t
+OfPart P (Const t) = P t
+OfPart P h = Unit {0}
+
 -- a type that the level names stands before a number
 abbrev pub PartStandsBefore : Head → ℕ → Type 0
-PartStandsBefore (Pointer t) k = t < k
-PartStandsBefore (Array t n) k = t < k
-PartStandsBefore (Function t) k = t < k
-PartStandsBefore (Const t) k = t < k
-PartStandsBefore h k = Unit {0}
+PartStandsBefore h k = OfPart (λ t. t < k) h
 
 abbrev pub AllBefore : List ℕ → ℕ → Type 0
 AllBefore ps k = (j p : ℕ) → slice_get ps j ≡ Some p → p < k

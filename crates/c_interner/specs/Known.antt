@@ -1,5 +1,7 @@
 -- What is known of pairs of types.
-use Rattle.std.specs.Prelude.{◌≡◌, ℕ, ◌<◌, Bool, List, length, map, All, Some}
+use Rattle.std.specs.Prelude.{◌≡◌, ℕ, ◌-◌, ◌^◌, ◌<◌, Bool, false, ◌||◌, ◌==◌, List, [], ◌∷◌, ◌++◌, length, map, All}
+use Rattle.std.specs.Prelude.{Some}
+use Rattle.std.specs.Prelude.{is_some}
 use Rattle.std.specs.Map.{lookup}
 use Rattle.c_tree.specs.declared.typed.CType.{CType}
 use Rattle.c_tree.specs.Types.{Ty, Void, agree}
@@ -7,11 +9,27 @@ use Rattle.c_tree.specs.Views.{type_at, types_of}
 use Rattle.c_interner.specs.declared.agreement.Agreements.{Agreements}
 use Rattle.c_interner.specs.declared.composites.Composites.{Composites}
 use Rattle.c_interner.specs.Agreement.{lengths_of}
-use Rattle.c_interner.specs.Levels.{same_pair, pair_composite}
+use Rattle.c_interner.specs.Levels.{rank, same_pair, pair_composite}
 
 -- the type that a number names in a list
 abbrev pub type_in : List CType → ℕ → Ty
 type_in types k = type_at (types_of types) k
+
+-- a pair has an answer: that of equal numbers is plain, others are kept
+abbrev pub has_answer : {V : Type 0} → List ((ℕ × ℕ) × V) → ℕ × ℕ → Bool
+has_answer es q = q.0 == q.1 || is_some (lookup (same_pair q) es)
+
+-- how many more answers may be kept
+abbrev pub answers_left : {V : Type 0} → List ((ℕ × ℕ) × V) → ℕ
+answers_left es = 2 ^ 63 - length es
+
+-- The last of some pairs has no answer, and nests less deep than a number says
+pub record LastIsOpen {V : Type 0} (es : List ((ℕ × ℕ) × V)) (void n : ℕ) (qs : List (ℕ × ℕ)) : Type 0 where
+  pub others : List (ℕ × ℕ)
+  pub last : ℕ × ℕ
+  pub are : qs ≡ others ++ last ∷ []
+  pub unknown : has_answer es last ≡ false
+  pub below : rank void last.0 < n
 
 -- the answers that are kept are right
 pub record AreRight (a : Agreements) : Type 0 where

@@ -1,15 +1,15 @@
 //! Whether types agree (C11 6.2.7). The answer for a pair of types is made of those for the pairs of their parts, and
 //! each is found once, since types share parts.
 
-ghost use Rattle.std.specs.Prelude.{◌≡◌, ◌<◌, length, IfOk, IfSome, OnOk};
+ghost use Rattle.std.specs.Prelude.{◌≡◌, ℕ, ◌<◌, length, false, is_some, IfOk, IfSome, IfNone, OnOk};
 ghost use Rattle.c_tree.specs.Types.{agree, same_kind};
 ghost use Rattle.c_interner.specs.Agreement.{lengths_of};
-ghost use Rattle.c_interner.specs.Known.{type_in, AreRight};
-ghost use Rattle.c_interner.specs.Levels.{levels_agree, pairs_agree};
+ghost use Rattle.c_interner.specs.Known.{type_in, has_answer, answers_left, LastIsOpen, AreRight};
+ghost use Rattle.c_interner.specs.Levels.{levels_agree, pairs_agree, rank, RankBelow};
 ghost use Rattle.c_interner.specs.Numbers.{type_named};
 
 use crate::heads::Head;
-use crate::levels::{Level, level_at, parts_of};
+use crate::levels::{Level, level_at, parts_of, take_last};
 use crate::numbers::next_number;
 use c_tree::{CType, Typed};
 use ck_base::NoMemory;
@@ -97,8 +97,9 @@ impl<'t> Agreements<'t> {
     /// Whether two types agree, if it is known.
     fn look(&self, pair: (u32, u32)) -> Option<bool>
         requires { AreRight self.now }
-        ensures { IfSome result (λ r. agree (lengths_of self.now.how) (type_in self.now.types.now pair.0)
+        ensures agree { IfSome result (λ r. agree (lengths_of self.now.how) (type_in self.now.types.now pair.0)
             (type_in self.now.types.now pair.1) ≡ r) }
+        ensures known { is_some result ≡ has_answer self.now.known.entries pair }
     {
         if pair.0 == pair.1 {
             return Some(true);
@@ -113,8 +114,10 @@ impl<'t> Agreements<'t> {
         waiting: &mut Vec<(u32, u32)>,
     ) -> Result<Option<bool>, NoMemory>
         requires { AreRight self.now }
-        ensures { IfOk result (λ o. IfSome o (λ r.
+        ensures agree { IfOk result (λ o. IfSome o (λ r.
             pairs_agree (lengths_of self.now.how) (type_in self.now.types.now) pairs.now ≡ r)) }
+        ensures last { IfOk result (λ o. IfNone o ((void n : ℕ) → RankBelow void n pairs.now →
+            LastIsOpen self.now.known.entries void n waiting.new.items)) }
     {
         let mut all_known = true;
         for pair in pairs {
@@ -137,9 +140,11 @@ impl<'t> Agreements<'t> {
         waiting: &mut Vec<(u32, u32)>,
     ) -> Result<Option<bool>, NoMemory>
         requires { AreRight self.now }
-        ensures { IfOk result (λ o. IfSome o (λ r.
+        ensures agree { IfOk result (λ o. IfSome o (λ r.
             agree (lengths_of self.now.how) (type_in self.now.types.now pair.0)
             (type_in self.now.types.now pair.1) ≡ r)) }
+        ensures last { IfOk result (λ o. IfNone o (LastIsOpen self.now.known.entries self.now.void
+            (rank self.now.void pair.0) waiting.new.items)) }
     {
         let c = level_at(self.alloc, self.types, self.void, pair.0)?;
         let d = level_at(self.alloc, self.types, self.void, pair.1)?;
@@ -150,22 +155,60 @@ impl<'t> Agreements<'t> {
         self.look_all(parts.as_slice(), waiting)
     }
 
-    /// Finds whether two types agree, or lets them wait for their parts.
+    /// The answer for two types or, before it, for parts of them: the first that can be told. The pairs that want it
+    /// wait.
+    fn answer_in(
+        &self,
+        pair: (u32, u32),
+        waiting: &mut Vec<(u32, u32)>,
+    ) -> Result<((u32, u32), bool), NoMemory>
+        requires right { AreRight self.now }
+        requires unknown { has_answer self.now.known.entries pair ≡ false }
+        ensures agree { IfOk result (λ r. agree (lengths_of self.now.how) (type_in self.now.types.now r.0.0)
+            (type_in self.now.types.now r.0.1) ≡ r.1) }
+        ensures unknown { IfOk result (λ r. has_answer self.now.known.entries r.0 ≡ false) }
+    {
+        let mut part = pair;
+        'parts: loop {
+            let others = waiting.len();
+            waiting.push(part)?;
+            match self.judge(part, waiting)? {
+                Some(agree) => {
+                    waiting.truncate(others);
+                    return Ok((part, agree));
+                }
+                None => part = take_last(waiting),
+            }
+        }
+    }
+
+    /// Keeps the answer for two types or, before it, for parts of them.
     fn settle(&mut self, pair: (u32, u32), waiting: &mut Vec<(u32, u32)>) -> Result<(), NoMemory>
-        requires { AreRight self.old }
+        requires right { AreRight self.old }
+        requires unknown { has_answer self.old.known.entries pair ≡ false }
         ensures right { OnOk result (AreRight self.new) }
         ensures rest { OnOk result (self.new ≡ record self.old { known = self.new.known }) }
+        ensures more { OnOk result (answers_left self.new.known.entries < answers_left self.old.known.entries) }
     {
-        if self.look(pair).is_some() {
-            return Ok(());
-        }
-        let others = waiting.len();
-        waiting.push(pair)?;
-        if let Some(agree) = self.judge(pair, waiting)? {
-            waiting.truncate(others);
-            self.known.insert(pair, agree)?;
-        }
+        let found = self.answer_in(pair, waiting)?;
+        prove!(self.known.len() < usize::MAX);
+        self.known.insert(found.0, found.1)?;
         Ok(())
+    }
+
+    /// The last pair that waits and has no answer yet, or the first of all where none waits.
+    fn next_open(&self, first: (u32, u32), waiting: &mut Vec<(u32, u32)>) -> (u32, u32)
+        requires right { AreRight self.now }
+        requires unknown { has_answer self.now.known.entries first ≡ false }
+        ensures { has_answer self.now.known.entries result ≡ false }
+    {
+        'pairs: while let Some(pair) = waiting.pop() {
+            match self.look(pair) {
+                None => return pair,
+                Some(_) => {}
+            }
+        }
+        first
     }
 }
 
@@ -177,13 +220,13 @@ pub fn agree(alloc: Global, p: &Typed, how: Lengths, a: u32, b: u32) -> Result<b
 {
     let mut agreements = Agreements::new(alloc, p.types.as_slice(), how)?;
     let mut waiting = Vec::new(alloc);
-    waiting.push((a, b))?;
-    // Memory ends before so many steps are taken.
-    'steps: for _ in 0..usize::MAX {
-        match waiting.pop() {
-            None => return agreements.look((a, b)).ok_or(NoMemory),
-            Some(pair) => agreements.settle(pair, &mut waiting)?,
+    'steps: loop {
+        match agreements.look((a, b)) {
+            Some(agree) => return Ok(agree),
+            None => {
+                let pair = agreements.next_open((a, b), &mut waiting);
+                agreements.settle(pair, &mut waiting)?;
+            }
         }
     }
-    Err(NoMemory)
 }

@@ -1,10 +1,10 @@
 //! One level of a type with the numbers of its parts, and the parts of two types in pairs.
 
-ghost use Rattle.std.specs.Prelude.{◌≡◌, ℕ, ◌<◌, ◌≤◌, List, map, ◌++◌, IfOk, OnOk};
+ghost use Rattle.std.specs.Prelude.{◌≡◌, ℕ, ◌<◌, ◌≤◌, List, [], ◌∷◌, map, ◌++◌, length, All, IfOk, OnOk};
 ghost use Rattle.c_tree.specs.Types.{Ty, Void};
-ghost use Rattle.c_interner.specs.Heads.{built, PartStandsBefore, AllBefore};
+ghost use Rattle.c_interner.specs.Heads.{built, OfPart};
 ghost use Rattle.c_interner.specs.Known.{type_in};
-ghost use Rattle.c_interner.specs.Levels.{part_of, pairs_of, parts_of};
+ghost use Rattle.c_interner.specs.Levels.{part_of, rank, pairs_of, parts_of};
 
 use crate::heads::{Head, head_of, params_of};
 use c_tree::CType;
@@ -28,7 +28,7 @@ fn part_of(void: u32, k: u32, part: u32) -> u32
 fn with_part(head: Head, void: u32, k: u32) -> Head
     ensures is { (go : ℕ → Ty) (ps : List ℕ) →
         built head ps (λ j. go (part_of void k j)) ≡ built result (map (part_of void k) ps) go }
-    ensures there { (n : ℕ) → void < n → k ≤ n → PartStandsBefore result n }
+    ensures rank { OfPart (λ t. rank void t ≤ k) result }
 {
     match head {
         Head::Void => Head::Void,
@@ -46,8 +46,8 @@ fn with_part(head: Head, void: u32, k: u32) -> Head
 pub(crate) fn level_at(alloc: Global, types: &[CType], void: u32, k: u32) -> Result<Level, NoMemory>
     requires { type_in types.now void ≡ Void }
     ensures is { IfOk result (λ l. type_in types.now k ≡ built l.head l.params.items (type_in types.now)) }
-    ensures part { IfOk result (λ l. (n : ℕ) → void < n → k ≤ n → PartStandsBefore l.head n) }
-    ensures params { IfOk result (λ l. (n : ℕ) → void < n → k ≤ n → AllBefore l.params.items n) }
+    ensures part { IfOk result (λ l. OfPart (λ t. rank void t ≤ k) l.head) }
+    ensures params { IfOk result (λ l. All (λ t. rank void t ≤ k) l.params.items) }
 {
     match types.get(k as usize) {
         None => Ok(Level {
@@ -92,4 +92,15 @@ pub(crate) fn parts_of(alloc: Global, c: &Level, d: &Level) -> Result<Vec<(u32, 
         _ => {}
     }
     Ok(pairs)
+}
+
+/// Takes the last of some pairs.
+pub(crate) fn take_last(pairs: &mut Vec<(u32, u32)>) -> (u32, u32)
+    requires { 0 < length pairs.old.items }
+    ensures { pairs.old.items ≡ pairs.new.items ++ result ∷ [] }
+{
+    match pairs.pop() {
+        Some(pair) => pair,
+        None => unreachable!(),
+    }
 }

@@ -1,5 +1,5 @@
 use Rattle.std.proofs.Common.{◌≡◌}
-use Rattle.c_interner.specs.Known.{AreRight}
+use Rattle.c_interner.specs.Known.{AreRight, answers_left}
 use Rattle.c_interner.proofs.agreement.agree.Given as goal
 
 abbrev pub invariant-steps : goal.invariant-steps
@@ -9,3 +9,6 @@ invariant-steps l = record {
   how :
       l.agreements.how ≡ l.fn.how;
 }
+
+abbrev pub decreases-steps : goal.decreases-steps
+decreases-steps l = answers_left l.agreements.known.entries

@@ -1,6 +1,6 @@
 use Rattle.std.proofs.Common.{length}
 use Rattle.c_interner.specs.Levels.{AreBelow}
-use Rattle.c_interner.specs.Known.{AreComposites}
+use Rattle.c_interner.specs.Known.{AreComposites, answers_left}
 use Rattle.c_interner.specs.Numbers.{AddsTypes}
 use Rattle.c_interner.proofs.composites.Composites.find.Given as goal
 
@@ -11,3 +11,6 @@ invariant-steps l = record {
   waiting :
       AreBelow (length l.p.types) l.waiting.items;
 }
+
+abbrev pub decreases-steps : goal.decreases-steps
+decreases-steps l = answers_left l.self.known.entries

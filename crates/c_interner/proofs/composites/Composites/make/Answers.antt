@@ -1,24 +1,38 @@
-use Rattle.std.proofs.Common.{◌≡◌, ℕ, ◌<◌, ◌≤◌, length, map, List, sym, ap, subst, ◌∙◌, arith}
+use Rattle.std.proofs.Common.{◌≡◌, ℕ, ◌<◌, ◌≤◌, length, map, List, sym, ap, subst, ◌∙◌}
+use Rattle.std.specs.Prelude.{All}
 use Rattle.c_tree.specs.Types.{composite}
 use Rattle.c_tree.specs.Views.{type_from}
 use Rattle.c_interner.specs.declared.heads.Head.{Head}
-use Rattle.c_interner.specs.Heads.{built, PartStandsBefore, AllBefore}
-use Rattle.c_interner.specs.Levels.{parts_of, pair_composite, AreBelow}
-use Rattle.c_interner.specs.Known.{type_in}
-use Rattle.c_interner.proofs.Pairing.{parts_are_below}
-use Rattle.c_interner.proofs.Keeping.{adds_none, first_composite, new_composite}
+use Rattle.c_interner.specs.Heads.{built, OfPart}
+use Rattle.c_interner.specs.Levels.{parts_of, pair_composite, rank, RankBelow, AreBelow}
+use Rattle.c_interner.specs.Known.{type_in, LastIsOpen}
+use Rattle.c_interner.proofs.Pairing.{parts_are_below, parts_fall}
+use Rattle.c_interner.proofs.Keeping.{adds_none, first_composite, new_composite, if_none}
 use Rattle.c_interner.proofs.composites.Composites.make.Goals as goal
 
 -- the parts of two types of the list are types of the list
 parts_below : (n void x y : ℕ) (h g : Head) (ps qs : List ℕ) (parts items : List (ℕ × ℕ)) → void < n → x < n → y < n →
-    ((m : ℕ) → void < m → x ≤ m → PartStandsBefore h m) → ((m : ℕ) → void < m → x ≤ m → AllBefore ps m) →
-    ((m : ℕ) → void < m → y ≤ m → PartStandsBefore g m) → ((m : ℕ) → void < m → y ≤ m → AllBefore qs m) →
-    parts ≡ items → items ≡ parts_of h ps g qs → AreBelow n parts
+    OfPart (λ t. rank void t ≤ x) h → All (λ t. rank void t ≤ x) ps → OfPart (λ t. rank void t ≤ y) g →
+    All (λ t. rank void t ≤ y) qs → parts ≡ items → items ≡ parts_of h ps g qs → AreBelow n parts
 parts_below n void x y h g ps qs parts items v a b hp ha gp ga e f =
-    let l : x ≤ n = omega arith in
-    let m : y ≤ n = omega arith in
     subst (λ (rs : List (ℕ × ℕ)). AreBelow n rs) (sym (e ∙ f))
-    (parts_are_below n h ps g qs (hp n v l) (ha n v l) (gp n v m) (ga n v m))
+    (parts_are_below n void x y h ps g qs v a b hp ha gp ga)
+
+pub returns-in_default-clause-last : goal.returns-in_default-clause-last
+returns-in_default-clause-last c =
+    let void = c.args.self.now.void in
+    let n = rank void c.args.pair.0 in
+    let types = c.args.p.now.types in
+    let a : type_in types c.args.pair.0 ≡ built c.in_ok-c.c.head c.in_ok-c.c.params.items (type_in types) =
+    rw c.as_slice.ensures at c.in_ok-c.ensures.is in
+    let fall : RankBelow void n c.as_slice-3.result.now =
+    subst (λ (qs : List (ℕ × ℕ)). RankBelow void n qs) (sym (c.as_slice-3.ensures.value ∙ c.in_ok-parts.ensures))
+    (parts_fall types void c.args.pair.0 c.args.pair.1 c.in_ok-c.c.head c.in_ok-c.c.params.items c.in_ok-d.d.head
+    c.in_ok-d.d.params.items c.requires.known.void a c.in_ok-c.ensures.part c.in_ok-c.ensures.params
+    c.in_ok-d.ensures.part c.in_ok-d.ensures.params) in
+    if_none c.in_ok-made.field-0 ((v m : ℕ) → RankBelow v m c.as_slice-3.result.now →
+    LastIsOpen c.args.self.now.known.entries v m c.look_all.new.waiting.items) c.in_default.not-Some
+    c.in_ok-made.ensures.last void n fall
 
 pub returns-in_default-clause-waiting : goal.returns-in_default-clause-waiting
 returns-in_default-clause-waiting c =
