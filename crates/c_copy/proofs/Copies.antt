@@ -334,19 +334,6 @@ action_copies_kept t oe os ne me ns ms ks js x y c = record {
       ∙ c.are ts n (x.0 ++ xs) (y.0 ++ more) a;
 }
 
-pub action_copy_kept : (t : Numbers) (oe : List Expr) (os : List Stmt) (ne me : List Expr) (ns ms : List Stmt)
-    (k j : ℕ) → Extends ne me → Extends ns ms → IsActionCopy t oe os ne ns k j → IsActionCopy t oe os me ms k j
-action_copy_kept t oe os ne me ns ms k j x y c = record {
-  is = λ ts n xs more a.
-      ap (λ zs. action_at (actions_in ts zs (ms ++ more)) j) (longer ne me xs x)
-      ∙ ap (λ zs. action_at (actions_in ts (ne ++ (x.0 ++ xs)) zs) j) (longer ns ms more y)
-      ∙ c.is ts n (x.0 ++ xs) (y.0 ++ more) a;
-}
-
-pub no_action_copies : (t : Numbers) (oe : List Expr) (os : List Stmt) (ne : List Expr) (ns : List Stmt) →
-    AreActionCopies t oe os ne ns [] []
-no_action_copies t oe os ne ns = record { are = λ ts n xs more a. refl }
-
 pub action_copies_push : (t : Numbers) (oe : List Expr) (os : List Stmt) (ne me : List Expr) (ns ms : List Stmt)
     (ks js ls : List ℕ) (k j : ℕ) → Extends ne me → Extends ns ms → AreActionCopies t oe os ne ns ks js →
     IsActionCopy t oe os me ms k j →

@@ -27,4 +27,5 @@ parts_push ss ts d h b e = λ k j a s g q.
     (get-push ss d k s (ap (λ zs. slice_get zs k) (sym e) ∙ g))
 
 pub at_end : {A : Type 0} (xs ys : List A) (x : A) (k : ℕ) → k ≡ length xs → ys ≡ xs ++ x ∷ [] → k < length ys
-at_end xs ys x k n e = let l : length ys ≡ length (xs ++ x ∷ []) = ap length e in omega (arith, length-append xs (x ∷ []))
+at_end xs ys x k n e =
+    let l : length ys ≡ length (xs ++ x ∷ []) = ap length e in omega (arith, length-append xs (x ∷ []))

@@ -1,10 +1,10 @@
 -- Values and their conversion.
-use Rattle.std.proofs.Common.{◌≡◌, Bool, true, false, Some, None, refl, ap}
-use Rattle.std.specs.Prelude.{◌&&◌, ◌||◌}
+use Rattle.std.proofs.Common.{◌≡◌, Bool, true, false, None, refl}
+use Rattle.std.specs.Prelude.{◌&&◌}
 use Rattle.c_tree.specs.Types.{Ty, Pointer, is_integer, target_of, same}
 use Rattle.c_tree.specs.Terms.{Term, type_of}
 use Rattle.c_tree.specs.Constants.{is_null_constant}
-use Rattle.c_tree.specs.Conversions.{converted_term, designates, targets_agree, goes_to}
+use Rattle.c_tree.specs.Conversions.{converted_term, designates, goes_to}
 use Rattle.c_expressions.specs.Values.{loaded}
 
 pub converted-same : (t : Ty) (x : Term) (b : Bool) → same (type_of x) t ≡ b → b ≡ true → x ≡ converted_term t x
@@ -17,8 +17,3 @@ pub goes_to-null : (a t : Ty) (x : Term) (r : Bool) → target_of t ≡ None →
     goes_to (Pointer a) t x ≡ r
 goes_to-null a (Pointer b) x r e h = absurd cc
 goes_to-null a _ x r e h = h
-
-pub goes_to-pointer : (a b t : Ty) (x : Term) → target_of t ≡ Some b →
-    goes_to (Pointer a) t x ≡ (targets_agree a b || is_null_constant x)
-goes_to-pointer a b (Pointer c) x e = let i : c ≡ b = cc in ap (λ d. targets_agree a d || is_null_constant x) i
-goes_to-pointer a b _ x e = absurd cc

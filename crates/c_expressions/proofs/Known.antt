@@ -144,7 +144,8 @@ conversion_known c x t p a plain constant value zero of_zero null fx h hp hc hv 
     let kc : (is_integer (bare t) && (is_constant x && true)) ≡ constant = rw (integer, k) hc in
     let vc : with_value (value_of x) (λ w. Some (converted (kind_of (bare (type_of x))) (kind_of (bare t)) w)) ≡ value =
     rw (kind, from_kind, v) hv in
-    let z : null_at (is_integer (bare t) && (is_constant x && true)) (is_integer (bare t)) (with_value (value_of x) (λ w. Some (converted (kind_of (bare (type_of x))) (kind_of (bare t)) w))) ≡ zero =
+    let z : null_at (is_integer (bare t) && (is_constant x && true)) (is_integer (bare t))
+    (with_value (value_of x) (λ w. Some (converted (kind_of (bare (type_of x))) (kind_of (bare t)) w))) ≡ zero =
     rw (kc, vc, integer) (sym hz) in
     let o : null_at (is_constant x) (is_integer (bare (type_of x))) (value_of x) ≡ of_zero =
     rw (k, from_integer, v) (sym ho) in

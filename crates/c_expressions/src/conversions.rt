@@ -82,12 +82,12 @@ impl Nodes<'_> {
         match self.class(of) {
             Class::Array(element, _) => self.decayed(node, element),
             Class::Function(_) => self.decayed(node, of),
-            Class::Void => self.loaded(node),
-            Class::Int(_, _) => self.loaded(node),
-            Class::Cap(_) => self.loaded(node),
-            Class::Pointer(_) => self.loaded(node),
-            Class::Tagged(_) => self.loaded(node),
-            Class::Const(_) => self.loaded(node),
+            Class::Void
+            | Class::Int(_, _)
+            | Class::Cap(_)
+            | Class::Pointer(_)
+            | Class::Tagged(_)
+            | Class::Const(_) => self.loaded(node),
         }
     }
 
@@ -159,7 +159,8 @@ impl Nodes<'_> {
         requires whole { IsWhole self.old }
         requires first { s < type_count self.old }
         requires second { t < type_count self.old }
-        ensures { IfOk result (λ b. Tells self.old self.new (targets_agree (type_in self.old s) (type_in self.old t)) b) }
+        ensures { IfOk result (λ b. Tells self.old self.new
+            (targets_agree (type_in self.old s) (type_in self.old t)) b) }
     {
         let void = self.is_bare_void(s) || self.is_bare_void(t);
         let compatible = self.compatible_bare(s, t)?;

@@ -78,10 +78,10 @@ impl<'a> Nodes<'a> {
         ensures { IfOk result (λ k. HasTerm self.old self.new k
             (expr_from (types_of self.old.p.types) e (term_in self.old))) }
     {
-        let k = next_number(self.p.exprs.as_slice())?;
+        let number = next_number(self.p.exprs.as_slice());
         append(self.alloc, &mut self.p.exprs, e)?;
         self.facts.push(fact)?;
-        Ok(k)
+        number
     }
 
     /// One level of a type.

@@ -53,12 +53,6 @@ const_of s t u b e d = rw (e ∙ d) refl
 pub const_of-plain : (s t u : Ty) (b : Bool) → (is_const s || is_const t) ≡ b → b ≡ false → with_const_of s t u ≡ u
 const_of-plain s t u b e d = rw (e ∙ d) refl
 
-pub arms_pointers : (s t x y : Ty) → target_of s ≡ Some x → target_of t ≡ Some y → pointer_arms s t ≡ target_arms x y
-arms_pointers (Pointer a) (Pointer b) x y d e =
-    let i : a ≡ x = cc in let j : b ≡ y = cc in ap (λ u. target_arms u b) i ∙ ap (target_arms x) j
-arms_pointers (Pointer a) _ x y d e = absurd cc
-arms_pointers _ t x y d e = absurd cc
-
 pub arms_left : (s t : Ty) → target_of s ≡ None → pointer_arms s t ≡ None
 arms_left (Pointer a) t e = absurd cc
 arms_left _ t e = refl

@@ -96,11 +96,6 @@ digits_length : (base : ℕ) (digits : List ℕ) → are_digits base digits ≡ 
 digits_length base [] e = absurd (false≢true e)
 digits_length base (d ∷ ds) e = omega arith
 
-escape_length : (bytes : List ℕ) {value n : ℕ} → BeginsWithEscape bytes value n → 1 ≤ n
-escape_length bytes (BeginsWithEscape.simple b rest e f) = omega arith
-escape_length bytes (BeginsWithEscape.octal digits e all small) = digits_length 8 digits all
-escape_length bytes (BeginsWithEscape.hexadecimal digits rest e f all small) = omega arith
-
 record IsSome (bytes : List ℕ) (n : ℕ) : Type 0 where
   count : 1 ≤ n
   there : 1 ≤ length bytes

@@ -53,13 +53,13 @@ fn callee(nodes: &Nodes<'_>, t: u32) -> Result<Option<Signature>, NoMemory>
 {
     match nodes.class(t) {
         Class::Pointer(of) => function(nodes, of),
-        Class::Void => Ok(None),
-        Class::Int(_, _) => Ok(None),
-        Class::Cap(_) => Ok(None),
-        Class::Array(_, _) => Ok(None),
-        Class::Tagged(_) => Ok(None),
-        Class::Function(_) => Ok(None),
-        Class::Const(_) => Ok(None),
+        Class::Void
+        | Class::Int(_, _)
+        | Class::Cap(_)
+        | Class::Array(_, _)
+        | Class::Tagged(_)
+        | Class::Function(_)
+        | Class::Const(_) => Ok(None),
     }
 }
 
@@ -73,13 +73,13 @@ fn function(nodes: &Nodes<'_>, t: u32) -> Result<Option<Signature>, NoMemory>
             let params = nodes.params(t)?;
             Ok(Some(Signature { gives, params }))
         }
-        Class::Void => Ok(None),
-        Class::Int(_, _) => Ok(None),
-        Class::Cap(_) => Ok(None),
-        Class::Pointer(_) => Ok(None),
-        Class::Array(_, _) => Ok(None),
-        Class::Tagged(_) => Ok(None),
-        Class::Const(_) => Ok(None),
+        Class::Void
+        | Class::Int(_, _)
+        | Class::Cap(_)
+        | Class::Pointer(_)
+        | Class::Array(_, _)
+        | Class::Tagged(_)
+        | Class::Const(_) => Ok(None),
     }
 }
 

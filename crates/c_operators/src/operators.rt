@@ -46,13 +46,13 @@ fn integer_node(
             let from_right = is_from_right(nodes, a, b);
             nodes.join(Join::Capability(op, from_right), a, b, of, pos)
         }
-        Class::Void => nodes.join(Join::Int(op), a, b, of, pos),
-        Class::Int(_, _) => nodes.join(Join::Int(op), a, b, of, pos),
-        Class::Pointer(_) => nodes.join(Join::Int(op), a, b, of, pos),
-        Class::Array(_, _) => nodes.join(Join::Int(op), a, b, of, pos),
-        Class::Tagged(_) => nodes.join(Join::Int(op), a, b, of, pos),
-        Class::Function(_) => nodes.join(Join::Int(op), a, b, of, pos),
-        Class::Const(_) => nodes.join(Join::Int(op), a, b, of, pos),
+        Class::Void
+        | Class::Int(_, _)
+        | Class::Pointer(_)
+        | Class::Array(_, _)
+        | Class::Tagged(_)
+        | Class::Function(_)
+        | Class::Const(_) => nodes.join(Join::Int(op), a, b, of, pos),
     }
 }
 
@@ -102,13 +102,13 @@ fn shift_node(
 {
     match nodes.class(of) {
         Class::Cap(_) => nodes.join(Join::Capability(op, false), a, b, of, pos),
-        Class::Void => nodes.join(Join::Int(op), a, b, of, pos),
-        Class::Int(_, _) => nodes.join(Join::Int(op), a, b, of, pos),
-        Class::Pointer(_) => nodes.join(Join::Int(op), a, b, of, pos),
-        Class::Array(_, _) => nodes.join(Join::Int(op), a, b, of, pos),
-        Class::Tagged(_) => nodes.join(Join::Int(op), a, b, of, pos),
-        Class::Function(_) => nodes.join(Join::Int(op), a, b, of, pos),
-        Class::Const(_) => nodes.join(Join::Int(op), a, b, of, pos),
+        Class::Void
+        | Class::Int(_, _)
+        | Class::Pointer(_)
+        | Class::Array(_, _)
+        | Class::Tagged(_)
+        | Class::Function(_)
+        | Class::Const(_) => nodes.join(Join::Int(op), a, b, of, pos),
     }
 }
 

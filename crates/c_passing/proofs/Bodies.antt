@@ -276,7 +276,8 @@ functions_push w rs r old a b fs gs g h is e =
           ap (λ ss. action_at (actions_in ts (b.exprs.items ++ more) ss) f.body) sext.1
           ∙ forest_front (stmt_from (terms_in ts (b.exprs.items ++ more))) no_action a.stmts.items sext.0 f.body
           (h.there k f q)
-          ∙ ap (λ zs. action_at (actions_in ts zs a.stmts.items) f.body) (longer a.exprs.items b.exprs.items more ext)) in
+          ∙ ap (λ zs. action_at (actions_in ts zs a.stmts.items) f.body) (longer a.exprs.items b.exprs.items more ext))
+          in
           ap (map (routine_of ts now)) e ∙ map-append (routine_of ts now) fs (g ∷ [])
           ∙ ap (λ zs. zs ++ routine_of ts now g ∷ []) (kept ∙ h.are ts names (ext.0 ++ more) fits nm)
           ∙ ap (λ z. map (passed_routine names) rs ++ z ∷ []) (is.is ts names more fits nm)

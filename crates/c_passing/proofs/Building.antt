@@ -136,7 +136,8 @@ statement_passed s old a b c new k j d r vs js ls h = record {
       ∙ rw (take-map (written_action s) n ps, drop-map (written_action s) n ps, ← v_is, ← w_is) refl) in
       subst (λ z. HasAction ts new.exprs.items new.stmts.items j z) is (rw (ap (λ (m : Made). m.exprs) h.rest) made);
   ordered = λ t us ws o.
-      in_stmt (length s.types.now.list.items) c new r j vs ls h.pushed (ap (λ (m : Made). m.exprs.items) h.rest) h.number
+      in_stmt (length s.types.now.list.items) c new r j vs ls h.pushed
+      (ap (λ (m : Made). m.exprs.items) h.rest) h.number
       h.values_are h.parts_are us ws
       (h.back.is.ordered t (vs ++ us) ws (h.mid.is.ordered t us (js ++ ws) (h.front.is.ordered t us ws o)));
 }

@@ -1,5 +1,6 @@
 -- Hidden locals, arguments that go by pointers, and calls.
-use Rattle.std.proofs.Common.{◌≡◌, ℕ, ◌+◌, ◌<◌, true, false, List, [], ◌∷◌, ◌++◌, length, get_or, map, Some, None, refl, sym}
+use Rattle.std.proofs.Common.{◌≡◌, ℕ, ◌+◌, ◌<◌, true, false, List, [], ◌∷◌, ◌++◌, length, get_or, map, Some, None, refl}
+use Rattle.std.proofs.Common.{sym}
 use Rattle.std.proofs.Common.{ap, subst, ◌∙◌, length-append, append_assoc}
 use Rattle.std.specs.Prelude.{slice_get}
 use Rattle.std.proofs.lemmas.List.{append-nil, map-append, length-map}

@@ -266,7 +266,11 @@ arguments_by_address s a b c d first p ks i h k e t value before js ls j all lt 
 -- ---- statements
 
 pub no_actions : (s : Source) (a : Made) (js : List ℕ) → ArePassedActions s a a [] js js
-no_actions s a js = record { count = omega arith; are = λ ts e ys fits h. rw (append-nil ys) h; ordered = λ t us vs o. o }
+no_actions s a js = record {
+  count = omega arith;
+  are = λ ts e ys fits h. rw (append-nil ys) h;
+  ordered = λ t us vs o. o;
+}
 
 pub actions_passed_push : (s : Source) (a b c : Made) (xs : List Action) (x : Action) (before js ls : List ℕ) (j : ℕ) →
     Hides s a b (λ names. hidden_of_each names xs) →

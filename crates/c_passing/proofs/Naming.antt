@@ -123,13 +123,6 @@ name_added old new p name n u = λ ts t q r k. record {
 abbrev pub own_calls_is : NodeKind → Bool → Type 0
 own_calls_is k b = (t : Lexeme) → own_calls k t ≡ cond b (t ∷ []) []
 
-pub call_added : (old new : Names) (n : Node) → own_calls_is n.kind true → AddsName old new n.pos n.text →
-    AddsCall old new n
-call_added old new n b a = λ ts t p s k. rw (b t) (a ts t p s k)
-
-pub call_none : (m : Names) (n : Node) → own_calls_is n.kind false → AddsCall m m n
-call_none m n b = λ ts t p s k. rw (b t, append-nil ts) k
-
 -- ---- the calls of a tree
 
 pub calls-node : (k : NodeKind) (t : Lexeme) (xs : Syns) → calls_in (node k t xs) ≡ own_calls k t ++ all_calls_in xs

@@ -19,7 +19,8 @@ use Rattle.c_copy.proofs.Items.{get-push}
 use Rattle.c_copy.proofs.Order.{below_push}
 use Rattle.c_passing.specs.declared.types.Types.{Types}
 use Rattle.c_passing.specs.Numbered.{type_in, is_record, const_of, gives_of, IsGivenIn, IsBare, IsNumber, IsPointer}
-use Rattle.c_passing.specs.Numbered.{StartsVoid, IsKept, IsBehind, Follows, AddsType, Keeps, passed_parameter, AreParameters}
+use Rattle.c_passing.specs.Numbered.{StartsVoid, IsKept, IsBehind, Follows, AddsType, Keeps, passed_parameter}
+use Rattle.c_passing.specs.Numbered.{AreParameters}
 use Rattle.c_passing.specs.Numbered.{AreRenumbered, IsWithMembers, AreListed, TypesFit}
 
 -- ---- lists of types
@@ -779,9 +780,6 @@ with_members_same numbers (ctypes.Array t n) d go h = ap (λ x. type_from x go) 
 with_members_same numbers (ctypes.Function t ps) d go h = ap (λ x. type_from x go) h
 with_members_same numbers (ctypes.Const t) d go h = ap (λ x. type_from x go) h
 with_members_same numbers (ctypes.Incomplete tag) d go h = ap (λ x. type_from x go) h
-
-pub none_listed : (numbers : List ℕ) → AreListed numbers [] []
-none_listed numbers = record { types = refl; each = λ k d e. absurd cc }
 
 -- one type more of the list
 pub listed_push : (numbers : List ℕ) (cs ds after : List CType) (c d : CType) → length cs ≡ length ds →

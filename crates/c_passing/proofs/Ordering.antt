@@ -1,5 +1,6 @@
 -- How often numbers are named, as expressions and statements are added.
-use Rattle.std.proofs.Common.{◌≡◌, ℕ, zero, suc, ◌+◌, ◌<◌, ◌≤◌, Bool, true, false, List, [], ◌∷◌, ◌++◌, length, Some, refl}
+use Rattle.std.proofs.Common.{◌≡◌, ℕ, zero, suc, ◌+◌, ◌<◌, ◌≤◌, Bool, true, false, List, [], ◌∷◌, ◌++◌, length, Some}
+use Rattle.std.proofs.Common.{refl}
 use Rattle.std.proofs.Common.{sym, ap, subst, ◌∙◌, ⊎_elim, arith, length-append, append_assoc}
 use Rattle.std.specs.Prelude.{slice_get, flat_map, if◌then◌else◌, ◌==◌}
 use Rattle.std.proofs.lemmas.Bool.{cases_lt, eq-eqb, eqb-true, ne_eqb}
@@ -36,7 +37,8 @@ counts_past k x xs h = counts_first k x xs ∙ ap (λ b. once_if b + times_in k 
 
 named : (xs : List ℕ) (j a : ℕ) → slice_get xs j ≡ Some a → 1 ≤ times_in a xs
 named [] j a e = absurd cc
-named (x ∷ xs) zero a e = let same : x ≡ a = cc in subst (λ y. 1 ≤ times_in y (x ∷ xs)) same (omega (arith, counts_here x xs))
+named (x ∷ xs) zero a e =
+    let same : x ≡ a = cc in subst (λ y. 1 ≤ times_in y (x ∷ xs)) same (omega (arith, counts_here x xs))
 named (x ∷ xs) (suc j) a e = let h : 1 ≤ times_in a xs = named xs j a e in omega (arith, counts_first a x xs)
 
 there : (n k : ℕ) (xs : List ℕ) → AllBelow n xs → 1 ≤ times_in k xs → k < n

@@ -247,7 +247,8 @@ pub plain_call_passed : (s : Source) (old a b c new : Made) (e : Expr) (f : ℕ)
     AddsTerms s old new (λ names. hidden_in names (written_call s e f xs))
     (IsPassed s old new (written_call s e f xs) j)
 plain_call_passed s old a b c new e f xs called j st n h =
-    call_adds s old a b c new e f xs called j (IsPlainCall s c new e called (length a.vars.items) xs j) st h h.is.ordered
+    call_adds s old a b c new e f xs called j
+    (IsPlainCall s c new e called (length a.vars.items) xs j) st h h.is.ordered
     (λ ts g fits y.
     let z = h.is.is ts g (passed_term g (length old.vars.items) (written_term s f)) fits y in
     let ys = map (written_term s) xs in
@@ -324,7 +325,8 @@ plain_call_made s old a new e called own of xs list j g args q rest r =
         ordered = λ z.
             let n = length s.types.now.list.items in
             in_first n old a new called list (j ∷ []) [] (args.is.ordered z)
-            (in_push n a new d j (called ∷ list) q (ap (λ (m : Made). m.stmts.items) rest) r (z.numbers e.of of g) refl);
+            (in_push n a new d j (called ∷ list) q (ap (λ (m : Made). m.stmts.items) rest) r
+            (z.numbers e.of of g) refl);
       };
     }
 

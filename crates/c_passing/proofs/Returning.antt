@@ -32,7 +32,8 @@ abbrev pub pointed : (k pointer of : ℕ) → Pos → List Ty → Term
 pointed k pointer of p = λ ts. step tree.Deref
     (step tree.Load (leaf (tree.Var k) (type_at ts pointer) p) (type_at ts pointer) p) (type_at ts of) p
 
-pub behind_made : (s : Source) (ts : List Ty) (e : Passing) (old a : Made) (k t n m : ℕ) (p : Pos) (j : ℕ) → Fits s ts e →
+pub behind_made : (s : Source) (ts : List Ty) (e : Passing) (old a : Made) (k t n m : ℕ) (p : Pos) (j : ℕ) →
+    Fits s ts e →
     is_tagged (written_type s t) ≡ true → get_or s.types.now.numbers.items t 0 ≡ n →
     get_or s.types.now.pointers.items t 0 ≡ m → Makes old a m n (pointed k m n p) j →
     HasTerm ts a.exprs.items j (behind k (written_type s t) p)
@@ -110,7 +111,8 @@ given_back_made s old a b c d new value t n m place assigned first second j p g 
           let one =
           action_made ts es b.stmts.items c.stmts.items (record { kind = stmts.Expr assigned; pos = p }) first
           (join tree.Assign (behind 0 w p) y w p ∷ []) [] st.evaluate st.first_is
-          (one_has ts es assigned (join tree.Assign (behind 0 w p) y w p) assign) (no_actions_have ts es b.stmts.items) in
+          (one_has ts es assigned (join tree.Assign (behind 0 w p) y w p) assign)
+          (no_actions_have ts es b.stmts.items) in
           let two = action_made ts es c.stmts.items d.stmts.items (record { kind = stmts.Return None; pos = p }) second []
           [] st.leave st.second_is (no_terms_have ts es) (no_actions_have ts es c.stmts.items) in
           let one-d = action_more ts es es c.stmts.items d.stmts.items first _ ([], sym (append-nil es))
@@ -182,7 +184,8 @@ param_copy_made s old a b new v from to t n m place value j g st =
           let all =
           action_made ts es b.stmts.items new.stmts.items (record { kind = stmts.Init to 0 value; pos = v.pos }) j
           (step tree.Load (behind from u v.pos) u v.pos ∷ []) [] st.init st.number_is
-          (one_has ts es value (step tree.Load (behind from u v.pos) u v.pos) load) (no_actions_have ts es b.stmts.items) in
+          (one_has ts es value (step tree.Load (behind from u v.pos) u v.pos) load)
+          (no_actions_have ts es b.stmts.items) in
           rw (same, ← is) all;
       ordered = λ z us vs o.
           let k = length s.types.now.list.items in
@@ -232,7 +235,8 @@ no_copies s a from to js = record {
 }
 
 pub pointed_copied : (s : Source) (a b c : Made) (from to k j : ℕ) (vs : List Variable) (v : VarDef)
-    (before js ls : List ℕ) (i : ℕ) → AreParamCopies s a b from to vs before js → IsParamCopy s b c v k j i → by_pointer (written_type s v.of) ≡ true → k ≡ from + length vs →
+    (before js ls : List ℕ) (i : ℕ) → AreParamCopies s a b from to vs before js → IsParamCopy s b c v k j i →
+    by_pointer (written_type s v.of) ≡ true → k ≡ from + length vs →
     j ≡ to + length (flat_map copied_param vs) → ls ≡ js ++ i ∷ [] →
     AreParamCopies s a c from to (vs ++ source_variable s v ∷ []) before ls
 pointed_copied s a b c from to k j vs v before js ls i h copy g p q l = record {
@@ -246,7 +250,8 @@ pointed_copied s a b c from to k j vs v before js ls i h copy g p q l = record {
       ap (λ zs. ys ++ zs) (copies_push from to k j vs x p q ∙ ap (λ zs. copies_of from to vs ++ zs) one)
       ∙ sym (append_assoc ys (copies_of from to vs) (param_copy k j x ∷ [])) in
       rw all (actions_push ts c.exprs.items c.stmts.items js ls i (ys ++ copies_of from to vs) (param_copy k j x) l
-      (actions_more ts b.exprs.items c.exprs.items b.stmts.items c.stmts.items js (ys ++ copies_of from to vs) copy.exprs copy.stmts
+      (actions_more ts b.exprs.items c.exprs.items b.stmts.items c.stmts.items js
+      (ys ++ copies_of from to vs) copy.exprs copy.stmts
       (h.are ts e ys fits had)) (copy.is ts e fits));
   ordered = λ t. in_stmts (length s.types.now.list.items) a b c [] before [] js ls i (h.ordered t) (copy.ordered t) l;
 }

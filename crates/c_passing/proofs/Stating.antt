@@ -1,10 +1,9 @@
 -- Statements as they are run.
-use Rattle.std.proofs.Common.{◌≡◌, ℕ, ◌+◌, ◌≤◌, true, false, List, [], ◌∷◌, ◌++◌, length, get_or, take, drop, map, Some}
-use Rattle.std.proofs.Common.{refl, ap, ◌∙◌, arith, length-append}
+use Rattle.std.proofs.Common.{◌≡◌, ℕ, ◌+◌, true, false, List, [], ◌∷◌, ◌++◌, length, get_or, take, drop, map, Some}
+use Rattle.std.proofs.Common.{refl, ap, ◌∙◌, arith}
 use Rattle.std.specs.Prelude.{slice_get}
 use Rattle.ck_base.specs.declared.positions.Pos.{Pos}
 use Rattle.c_tree.specs.declared.typed.Stmt.{Stmt}
-use Rattle.c_tree.specs.declared.typed.StmtKind.{StmtKind}
 use Rattle.c_tree.specs.declared.typed.StmtKind.TheVariants as stmts
 use Rattle.c_tree.specs.Types.{bare}
 use Rattle.c_tree.specs.Terms as tree
@@ -38,21 +37,6 @@ written_action_is s k d g b =
     (map_seen seen (written_action s) (parts d.kind) k b r.before)
 
 -- ---- what is made of one
-
--- the parts ahead of the expressions are there
-pub ahead_there : (k : StmtKind) → ahead (stmt_form k) ≤ length (parts k)
-ahead_there (stmts.Expr a) = omega arith
-ahead_there (stmts.Init var offset a) = omega arith
-ahead_there (stmts.Block vars body) = omega arith
-ahead_there (stmts.If a x y) = omega arith
-ahead_there (stmts.While a x) = omega arith
-ahead_there (stmts.Do x a) = omega arith
-ahead_there (stmts.For vars first a b x) = omega (arith, length-append first (x ∷ []))
-ahead_there (stmts.Switch a vars labels body) = omega arith
-ahead_there stmts.Break = omega arith
-ahead_there stmts.Continue = omega arith
-ahead_there (stmts.Return a) = omega arith
-ahead_there stmts.Empty = omega arith
 
 -- its hidden locals, over lists
 pub hidden_action : (names : Names) (f : Form) (xs : List Term) (ys : List Action) (p : Pos) →

@@ -1,5 +1,5 @@
 -- A name is bound in a map.
-use Rattle.std.proofs.Common.{◌≡◌, ℕ, zero, suc, ◌-◌, ◌≤◌, ◌++◌, length, set, take, get_or, arith, Bool, true, false}
+use Rattle.std.proofs.Common.{◌≡◌, ℕ, zero, suc, ◌-◌, ◌++◌, length, set, take, get_or, arith, Bool, true, false}
 use Rattle.std.proofs.Common.{cond, List, [], ◌∷◌, Option, Some, None, Bor, refl, sym, ap, subst, ◌∙◌}
 use Rattle.std.specs.Prelude.{bytes_eq}
 use Rattle.std.specs.Map.{lookup}
@@ -20,7 +20,7 @@ use Rattle.c_tree.specs.declared.typed.Typed.{Typed}
 use Rattle.c_tree.specs.Views.{types_of}
 use Rattle.c_types.specs.declared.entries.Entry.TheVariants as entries
 use Rattle.c_types.specs.declared.scopes.Scopes.{Scopes}
-use Rattle.c_types.specs.Calls.{Given, Fails, IsDeclared}
+use Rattle.c_types.specs.Calls.{Given, IsDeclared}
 use Rattle.c_types.specs.Declares.{declares_constant}
 use Rattle.c_types.specs.declared.entries.Entity.{Entity}
 use Rattle.c_types.specs.declared.entries.Tagging.{Tagging}
@@ -141,12 +141,6 @@ scopes_changed ts k items (suc n) c d f ms p l e g h =
     ap reverse (last_set items n d l) ∙ reverse-append (take n items) (d ∷ []) in
     rw (z, b) (innermost_changed ts k (reverse (take n items)) c d f ms g (rw a at h))
 
-pub none_changed : (ts : List Ty) (k : ℕ) (items : List Scope) (f : meant.Scope → meant.Scope) (ms : List meant.Scope) →
-    length items ≤ 0 → ShowScopes ts k (reverse items) ms → ShowScopes ts k (reverse items) (in_innermost f ms)
-none_changed ts k [] f [] le h = h
-none_changed ts k [] f (m ∷ ms) le h = absurd h
-none_changed ts k (c ∷ cs) f ms le h = absurd (omega arith)
-
 -- ---- names in force
 
 abbrev pub with_name : List ℕ → meant.Entity → meant.Scope → meant.Scope
@@ -213,14 +207,6 @@ constant_given sd p s t z e h = record {
   is = rw e refl;
   stands = h;
   fits = refl;
-}
-
-pub constant_fails : (sc : Scopes) (p : Typed) (t : Lexeme) (z : ℤ) →
-    ((s : State) → Stands sc p s → is_new s t.text ≡ false) → Fails sc p sc p (declares_constant t z) 131 t.pos
-constant_fails sc p t z f = record {
-  refused = λ s h. rw (f s h) refl;
-  program = refl;
-  keeps = λ s h. h;
 }
 
 -- a name is new where the innermost scope does not keep it

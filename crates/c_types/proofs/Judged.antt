@@ -1,7 +1,7 @@
 -- Tests come before a step.
 use Rattle.std.proofs.Common.{◌≡◌, ℕ, zero, suc, Bool, true, false, Result, Ok, Err, refl, sym, ap, subst, ◌∙◌}
 use Rattle.std.proofs.Common.{◌<◌, ◌≤◌, length, Some, None, arith}
-use Rattle.std.specs.Prelude.{nat_eq, not, ◌||◌, ◌&&◌}
+use Rattle.std.specs.Prelude.{nat_eq, ◌||◌, ◌&&◌}
 use Rattle.std.proofs.Math.Dec.{eqb-suc-zero}
 use Rattle.std.proofs.lemmas.Option.{slice_get-get_or, slice_get_past}
 use Rattle.ck_base.specs.declared.positions.Pos.{Pos}
@@ -95,6 +95,3 @@ open_is t (suc n) = sym (eqb-suc-zero n)
 
 pub ready_alike : (a b o u d : Bool) → a ≡ b → o ≡ u → (a || (o && d)) ≡ (b || (u && d))
 ready_alike a b o u d e f = cc
-
-pub waits_alike : (a b o u d : Bool) → a ≡ b → o ≡ u → (a || o || not d) ≡ (b || u || not d)
-waits_alike a b o u d e f = cc

@@ -68,7 +68,8 @@ push_cases [] x y zero e = inr (refl, same_Some x y e)
 push_cases [] x y (suc k) e = absurd (none-some y e)
 push_cases (a ∷ xs) x y zero e = inl e
 push_cases (a ∷ xs) x y (suc k) e =
-    elim (push_cases xs x y k e) as (λ _. (slice_get (a ∷ xs) (suc k) ≡ Some y) ⊎ ((suc k ≡ length (a ∷ xs)) × (x ≡ y))) [
+    elim (push_cases xs x y k e) as
+    (λ _. (slice_get (a ∷ xs) (suc k) ≡ Some y) ⊎ ((suc k ≡ length (a ∷ xs)) × (x ≡ y))) [
       | inl h ↦ inl h
       | inr h ↦ inr (ap suc h.0, h.1)
     ]

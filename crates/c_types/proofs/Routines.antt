@@ -23,14 +23,12 @@ use Rattle.c_types.specs.declared.entries.Entry.TheVariants as entries
 use Rattle.c_types.specs.declared.scopes.Scopes.{Scopes}
 use Rattle.c_types.specs.Calls.{Given, IsEntity}
 use Rattle.c_types.specs.Declares.{name_of, function_of}
-use Rattle.c_types.specs.Fitting.{seen_routine, routine_seen_by}
 use Rattle.c_types.specs.Naming.{IsNumber, begins, function_entry}
 use Rattle.c_types.specs.Stands.{Stands, Declared, entity_kept, entity_seen, routine_seen, fun_kept, declared_at, named}
 use Rattle.c_types.specs.Stands.{Seen, library, text_at}
 use Rattle.c_types.proofs.Looking.{seen_at}
 use Rattle.c_types.proofs.Judged.{named_there}
 use Rattle.c_types.proofs.Changing.{changed_same, routines_changed}
-use Rattle.c_types.proofs.Seeing.{routine_seen_is}
 use Rattle.c_types.proofs.Added.{locals_taken}
 
 -- ---- new functions
@@ -139,17 +137,6 @@ again_given sd q s k t h = record {
 }
 
 -- ---- the function of a name
-
-pub library_given : (sc : Scopes) (p : Typed) (s : State) (t : Lexeme) (of : Ty) (x : Entity)
-    (e : Option meant.Entity) → Stands sc p s → Some (entity_kept (types_of p.types) x) ≡ option_map entity_seen e →
-    seen_routine (entity_kept (types_of p.types) x) ≡ None → Given sc p (linked_routine t of e s) (IsNumber 0)
-library_given sc p s t of x e h g n = record {
-  value = 0;
-  state = s;
-  is = ap (λ d. d s) (routine_seen_is t of e ∙ ap (routine_seen_by t of) (sym g)) ∙ rw n refl;
-  stands = h;
-  fits = refl;
-}
 
 -- what is seen of the name of a function tells whether it is a library function's
 abbrev library_in : Option Seen → Option ℕ

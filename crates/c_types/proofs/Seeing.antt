@@ -142,12 +142,6 @@ library_is (Some u) q t b false e f = rw (f, e) refl
 
 -- ---- what was declared
 
-pub static_none : (sc : Scopes) (p : Typed) (s : State) (k : ℕ) (t : Ty) (b : Bool) → Stands sc p s →
-    slice_get p.globals k ≡ None → agrees_static (slice_get s.statics k) t b ≡ false
-static_none sc p s k t b h e =
-    ap (λ o. agrees_static o t b) (seen_none (global_kept sc.file.now (types_of p.types)) static_seen p.globals
-    s.statics k h.globals e)
-
 pub static_some : (sc : Scopes) (p : Typed) (s : State) (k : ℕ) (g : GlobalDef) (q : Option Ty) (t : Ty)
     (b given defines : Bool) → Stands sc p s → slice_get p.globals k ≡ Some g → q ≡ Some t →
     b ≡ both_agree (lengths_of Compatible) (named (types_of p.types) g.of) q →
@@ -161,12 +155,6 @@ static_some sc p s k g q t b given defines h e f a i =
     i ∙ ap given_at (ap (λ xs. slice_get xs k) h.objects ∙ slice_get-map object_of s.statics k
     ∙ ap (option_map object_of) y.1) in
     rw (c, o, y.1) refl
-
-pub routine_none : (sc : Scopes) (p : Typed) (s : State) (k : ℕ) (t : Ty) (b : Bool) → Stands sc p s →
-    slice_get p.funs k ≡ None → agrees_routine (slice_get s.routines k) t b ≡ false
-routine_none sc p s k t b h e =
-    ap (λ o. agrees_routine o t b) (seen_none
-    (fun_kept sc.file.now (types_of p.types)) routine_seen p.funs s.routines k h.routines e)
 
 pub routine_some : (sc : Scopes) (p : Typed) (s : State) (k : ℕ) (f : FunDef) (q : Option Ty) (t : Ty)
     (b begun defines : Bool) → Stands sc p s → slice_get p.funs k ≡ Some f → q ≡ Some t →

@@ -1,9 +1,8 @@
 -- Tags that are declared.
-use Rattle.std.proofs.Common.{◌≡◌, ℕ, ◌<◌, ◌-◌, length, get_or, Bool, true, false, List, [], ◌∷◌, ◌++◌, Option, Some}
-use Rattle.std.proofs.Common.{None, Result, Ok, Err, refl, sym, ap, subst, ◌∙◌, arith, length-append}
-use Rattle.std.specs.Prelude.{slice_get, IsOk}
+use Rattle.std.proofs.Common.{◌≡◌, ℕ, ◌-◌, Bool, true, false, Option, Some}
+use Rattle.std.proofs.Common.{None, Ok, Err, refl, sym, ap, subst, ◌∙◌}
+use Rattle.std.specs.Prelude.{slice_get}
 use Rattle.std.proofs.lemmas.Bool.{false≢true}
-use Rattle.indexmap.specs.IndexMap.{spare}
 use Rattle.ck_base.specs.declared.positions.Pos.{Pos}
 use Rattle.ck_base.specs.Tokens.{Lexeme}
 use Rattle.c_tree.specs.declared.syntax.RecordKind.{RecordKind}
@@ -11,10 +10,9 @@ use Rattle.c_tree.specs.declared.syntax.RecordKind.TheVariants as records
 use Rattle.c_tree.specs.declared.typed.Typed.{Typed}
 use Rattle.c_tree.specs.Views.{types_of}
 use Rattle.c_tree.specs.Scopes as meant
-use Rattle.c_tree.specs.Scopes.{State, TagState, Recorded, Enumerated, find_in, find_tag, innermost, bind_tag, give}
+use Rattle.c_tree.specs.Scopes.{State, TagState, Recorded, Enumerated, find_in, find_tag, innermost, give}
 use Rattle.c_tree.specs.Scopes.{◌>>◌, continued, changed_at, with_changed}
-use Rattle.c_tree.specs.Declarators.{new_tag, declare_tag, begin_tag, kind_at, has_kind, is_begun, same_record}
-use Rattle.c_types.specs.declared.scopes.Scope.{Scope}
+use Rattle.c_tree.specs.Declarators.{declare_tag, begin_tag, kind_at, has_kind, is_begun, same_record}
 use Rattle.c_types.specs.declared.scopes.TagInfo.{TagInfo}
 use Rattle.c_types.specs.declared.scopes.Scopes.{Scopes}
 use Rattle.ck_base.specs.declared.refusal.Refusal.{Refusal}
@@ -22,10 +20,9 @@ use Rattle.ck_base.specs.declared.refusal.Refusal.TheVariants.{Code, NoMemory}
 use Rattle.c_types.specs.Calls.{Given, Answers}
 use Rattle.c_types.specs.Declares.{declares_record}
 use Rattle.c_types.specs.Naming.{IsTagOf, IsNewTag, names_record}
-use Rattle.c_types.specs.Rooms.{HasTagRoom}
 use Rattle.c_types.specs.Stands.{Stands, SeenTag, tag_kept, tag_seen}
 use Rattle.c_types.proofs.Looking.{seen_at}
-use Rattle.c_types.proofs.Records.{seen_none, slice_get-push, slice_get-slice_set}
+use Rattle.c_types.proofs.Records.{seen_none, slice_get-slice_set}
 use Rattle.c_types.proofs.Steps.{same_result}
 
 -- ---- of which kind
@@ -41,41 +38,7 @@ kind_some sc p s n k i h e =
     let t = seen_at (tag_kept p.types (types_of p.types)) tag_seen sc.tags.items s.tags n i h.tags e in
     ap (λ o. has_kind o k) t.1 ∙ ap (λ j. same_record j k) (sym (ap (λ (x : SeenTag). x.kind) t.2))
 
-same_record_refl : (k : RecordKind) → same_record k k ≡ true
-same_record_refl records.Struct = refl
-same_record_refl records.Union = refl
-
 -- ---- a new one
-
-pub new_given : (sd : Scopes) (q : Typed) (s : State) (k : RecordKind) (n : ℕ) (t : Lexeme) →
-    Given sd q (new_tag k s) (λ u m. m ≡ n) → (sc : Scopes) →
-    ((u : State) → Stands sd q u → n < length u.tags → Stands sc q (bind_tag t.text (Recorded n) u)) →
-    Given sc q (declare_tag k t s) (IsNewTag k n)
-new_given sd q s k n t g sc h =
-    let z = same_result (g.value, g.state) (
-      length s.tags,
-      record s { tags = s.tags ++ record { kind = k; begun = false; members = None; extent = None } ∷ [] },
-    )
-    (new_tag k s) g.is refl in
-    let l : length s.tags ≡ n = sym (ap (λ x. x.0) z) ∙ g.fits in
-    let u : record s { tags = s.tags ++ record { kind = k; begun = false; members = None; extent = None } ∷ [] }
-    ≡ g.state = sym (ap (λ x. x.1) z) in
-    let at : slice_get g.state.tags n ≡ Some (record { kind = k; begun = false; members = None; extent = None }) =
-    rw (← u, ← l) (slice_get-push s.tags _) in
-    let lt : n < length g.state.tags = rw (← u, ← l) (omega (arith, length-append {A = TagState})) in
-    record {
-      value = n;
-      state = bind_tag t.text (Recorded n) g.state;
-      is = rw (← u, ← l) refl;
-      stands = h g.state g.stands lt;
-      fits = (refl, ap (λ o. has_kind o k) at ∙ same_record_refl k, ap is_begun at);
-    }
-
-pub bound_for_room : {T E : Type 0} (cs : List Scope) (n : ℕ) (c : Scope) (r : Result T E) → HasTagRoom cs → 0 < n →
-    n ≡ length cs → c ≡ get_or cs (n - 1) c → (0 < spare c.tags → IsOk r) → IsOk r
-bound_for_room cs n c r h lt e g f =
-    let w : 0 < spare (get_or cs (length cs - 1) c).tags = h c (rw (← e) lt) in
-    f (rw (← e, ← g) at w)
 
 -- ---- named here
 

@@ -9,20 +9,20 @@ ghost use Rattle.c_types.specs.Calls.{Extends};
 ghost use Rattle.c_types.specs.Fitting.{both_agree};
 ghost use Rattle.c_types.specs.Stands.{Stands, named};
 
+use crate::lists::{put, taken};
 use crate::scopes::Scopes;
 use c_interner::{Lengths, agree};
 use c_tree::{CType, Typed};
 use ck_base::{NoMemory, Sequence};
 use std::alloc::Global;
-use std::mem;
 
 // Only the first so many types of a list stay. It takes no memory.
 fn keep_first(alloc: Global, types: &mut Sequence<CType>, count: usize)
     ensures { types.new ≡ take count types.old }
 {
-    let mut items = mem::replace(types, Sequence::from_vec(Vec::new(alloc))).into_vec();
+    let mut items = taken(alloc, types);
     items.truncate(count);
-    *types = Sequence::from_vec(items);
+    put(types, items);
 }
 
 impl<'a> Scopes<'a> {

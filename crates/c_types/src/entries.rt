@@ -3,7 +3,7 @@
 use ck_base::{Pos, Span};
 
 /// The kinds of tags (C11 6.7.2.3).
-#[derive(Clone, Copy, Debug, PartialEq, Eq)]
+#[derive(Clone, Copy, PartialEq, Eq)]
 pub enum TagKind {
     Struct,
     Union,
@@ -57,7 +57,7 @@ pub struct Decl {
 }
 
 /// What a name denotes.
-#[derive(Clone, Copy, Debug, PartialEq, Eq)]
+#[derive(Clone, Copy, PartialEq, Eq)]
 pub enum Entry {
     /// A parameter or another local of the function, by its number there.
     Var(u32),

@@ -10,12 +10,12 @@ ghost use Rattle.c_types.specs.Calls.{Extends};
 ghost use Rattle.c_types.specs.Stands.{Stands, named};
 ghost use Rattle.c_types.specs.declared.scopes.ObjectInfo.{ObjectInfo};
 
+use crate::lists::{put, taken};
 use crate::scopes::Scopes;
 use crate::statics::set_type;
 use c_tree::{FunDef, GlobalDef, Link, Typed, VarDef};
 use ck_base::Sequence;
 use std::alloc::Global;
-use std::mem;
 
 // An object gets its initial bytes and pointers. It takes no memory.
 fn set_contents(
@@ -28,13 +28,13 @@ fn set_contents(
     ensures { globals.new ≡ changed_at (λ (g : GlobalDef). record g { bytes = bytes.items; links = links.items })
         globals.old k }
 {
-    let mut items = mem::replace(globals, Sequence::from_vec(Vec::new(alloc))).into_vec();
+    let mut items = taken(alloc, globals);
     if (k as usize) < items.len() {
         let global = &mut items[k as usize];
         global.bytes = Sequence::from_vec(bytes);
         global.links = Sequence::from_vec(links);
     }
-    *globals = Sequence::from_vec(items);
+    put(globals, items);
 }
 
 // A function gets its parameters, its variables and its body. It takes no memory.
@@ -49,14 +49,14 @@ fn set_body(
     ensures { funs.new ≡ changed_at (λ (f : FunDef). record f { params = params.items; vars = vars.items; body = body })
         funs.old k }
 {
-    let mut items = mem::replace(funs, Sequence::from_vec(Vec::new(alloc))).into_vec();
+    let mut items = taken(alloc, funs);
     if (k as usize) < items.len() {
         let function = &mut items[k as usize];
         function.params = Sequence::from_vec(params);
         function.vars = Sequence::from_vec(vars);
         function.body = body;
     }
-    *funs = Sequence::from_vec(items);
+    put(funs, items);
 }
 
 impl<'a> Scopes<'a> {

@@ -19,13 +19,13 @@ ghost use Rattle.c_types.specs.Stands.{Stands, named, fun_kept, declared_at, ent
 
 use crate::entries::{Decl, Entity, Entry, Storage};
 use crate::judging::{admit, either, is_function};
+use crate::lists::{put, taken};
 use crate::scopes::Scopes;
 use crate::statics::agree_with;
 use c_interner::{Lengths, append, next_number};
 use c_tree::{FunDef, Typed};
 use ck_base::{NoMemory, Pos, Refusal, Sequence, Span};
 use std::alloc::Global;
-use std::mem;
 
 fn routine(k: u32) -> Entity
     ensures { result ≡ Entity.Routine k }
@@ -105,24 +105,24 @@ fn without_body(alloc: Global, d: Decl) -> FunDef
 fn set_type(alloc: Global, funs: &mut Sequence<FunDef>, k: u32, of: u32)
     ensures { funs.new ≡ changed_at (λ (f : FunDef). record f { of = of }) funs.old k }
 {
-    let mut items = mem::replace(funs, Sequence::from_vec(Vec::new(alloc))).into_vec();
+    let mut items = taken(alloc, funs);
     if (k as usize) < items.len() {
         items[k as usize].of = of;
     }
-    *funs = Sequence::from_vec(items);
+    put(funs, items);
 }
 
 // A function gets another name and place. It takes no memory.
 fn set_name(alloc: Global, funs: &mut Sequence<FunDef>, k: u32, name: Span, pos: Pos)
     ensures { funs.new ≡ changed_at (λ (f : FunDef). record f { name = name; pos = pos }) funs.old k }
 {
-    let mut items = mem::replace(funs, Sequence::from_vec(Vec::new(alloc))).into_vec();
+    let mut items = taken(alloc, funs);
     if (k as usize) < items.len() {
         let function = &mut items[k as usize];
         function.name = name;
         function.pos = pos;
     }
-    *funs = Sequence::from_vec(items);
+    put(funs, items);
 }
 
 impl<'a> Scopes<'a> {

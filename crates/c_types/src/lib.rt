@@ -15,6 +15,7 @@ mod extents;
 mod filling;
 mod functions;
 mod judging;
+mod lists;
 mod locals;
 mod measuring;
 mod members;

@@ -94,7 +94,7 @@ impl<'a> Scopes<'a> {
         }
     }
 
-    fn object(&self, k: u32) -> Option<ObjectInfo>
+    pub(crate) fn object(&self, k: u32) -> Option<ObjectInfo>
         ensures { result ≡ slice_get self.now.objects.items k }
     {
         self.objects.get(k as usize).copied()

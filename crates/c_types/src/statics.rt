@@ -21,12 +21,12 @@ ghost use Rattle.c_types.specs.declared.scopes.ObjectInfo.{ObjectInfo};
 
 use crate::entries::{Decl, Entity, Entry, Storage};
 use crate::judging::{admit, either};
+use crate::lists::{put, taken};
 use crate::scopes::{ObjectInfo, Scopes};
 use c_interner::{Lengths, append, next_number};
 use c_tree::{GlobalDef, Typed};
 use ck_base::{NoMemory, Refusal, Sequence};
 use std::alloc::Global;
-use std::mem;
 
 fn object(k: u32) -> Entity
     ensures { result ≡ Entity.Static k }
@@ -114,11 +114,11 @@ fn zeros(alloc: Global, d: Decl) -> GlobalDef
 pub(crate) fn set_type(alloc: Global, globals: &mut Sequence<GlobalDef>, k: u32, of: u32)
     ensures { globals.new ≡ changed_at (λ (g : GlobalDef). record g { of = of }) globals.old k }
 {
-    let mut items = mem::replace(globals, Sequence::from_vec(Vec::new(alloc))).into_vec();
+    let mut items = taken(alloc, globals);
     if (k as usize) < items.len() {
         items[k as usize].of = of;
     }
-    *globals = Sequence::from_vec(items);
+    put(globals, items);
 }
 
 impl<'a> Scopes<'a> {
@@ -164,7 +164,7 @@ impl<'a> Scopes<'a> {
     fn is_given(&self, k: u32) -> bool
         ensures { result ≡ given_at (slice_get self.now.objects.items k) }
     {
-        match self.objects.get(k as usize) {
+        match self.object(k) {
             None => false,
             Some(object) => object.given,
         }

@@ -39,24 +39,31 @@ fn completed(kind: RecordKind, tag: u32, members: Vec<Member>) -> CType
     }
 }
 
+// Whether a type is the struct or union with this tag.
+fn is_tagged(c: &CType, tag: u32) -> bool
+    ensures { result ≡ has_tag (Some c.now) tag }
+{
+    match c {
+        CType::Struct(found, _) | CType::Union(found, _) | CType::Incomplete(found) => {
+            *found == tag
+        }
+        CType::Void
+        | CType::Int(_, _)
+        | CType::Cap(_)
+        | CType::Pointer(_)
+        | CType::Array(_, _)
+        | CType::Function(_, _)
+        | CType::Const(_) => false,
+    }
+}
+
 // Whether a number names the type of a struct or union.
 fn is_type_of(p: &Typed, of: u32, tag: u32) -> bool
     ensures { result ≡ has_tag (slice_get p.now.types of) tag }
 {
     match p.types.as_slice().get(of as usize) {
-        Some(CType::Struct(found, _) | CType::Union(found, _) | CType::Incomplete(found)) => {
-            *found == tag
-        }
-        Some(
-            CType::Void
-            | CType::Int(_, _)
-            | CType::Cap(_)
-            | CType::Pointer(_)
-            | CType::Array(_, _)
-            | CType::Function(_, _)
-            | CType::Const(_),
-        )
-        | None => false,
+        None => false,
+        Some(c) => is_tagged(c, tag),
     }
 }
 

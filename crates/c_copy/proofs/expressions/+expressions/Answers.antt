@@ -14,7 +14,8 @@ expression-expr_at-e-requires t c =
 pub expression-expressions-requires : goal.expression-expressions-requires
 expression-expressions-requires t c =
     let s = c.args.source.now in
-    let all : (j a : ℕ) → slice_get c.as_slice.result.now j ≡ Some a → (a < c.args.k) × StandsIn (NamesThere s.numbers.now) s.exprs.now a = λ j a q.
+    let all : (j a : ℕ) → slice_get c.as_slice.result.now j ≡ Some a →
+    (a < c.args.k) × StandsIn (NamesThere s.numbers.now) s.exprs.now a = λ j a q.
     operand_stands (NamesThere s.numbers.now) s.exprs.now c.args.k c.expr_at-e.result.now c.requires c.expr_at-e.ensures
     j a (ap (λ xs. slice_get xs j) (sym (c.as_slice.ensures.value ∙ c.in_ok-ks.ensures)) ∙ q) in
     (omega arith, (λ j a q. (all j a q).0, λ j a q. (all j a q).1))

@@ -22,8 +22,9 @@ statement-expressions-requires-clause-below t c = λ j a q.
 pub statement-expressions-requires-clause-stand : goal.statement-expressions-requires-clause-stand
 statement-expressions-requires-clause-stand t c = λ j a q.
     let s = c.args.source.now in
-    value_stands (NamesThere s.numbers.now) AnyForm s.exprs.now s.stmts.now c.args.k c.stmt_at-s.result.now c.requires.stands
-    c.stmt_at-s.ensures j a (ap (λ xs. slice_get xs j) (sym (c.as_slice.ensures.value ∙ c.in_ok-xs.ensures)) ∙ q)
+    value_stands (NamesThere s.numbers.now) AnyForm s.exprs.now s.stmts.now c.args.k c.stmt_at-s.result.now
+    c.requires.stands c.stmt_at-s.ensures j a
+    (ap (λ xs. slice_get xs j) (sym (c.as_slice.ensures.value ∙ c.in_ok-xs.ensures)) ∙ q)
 
 pub statement-statements-requires : goal.statement-statements-requires
 statement-statements-requires t c =
@@ -43,12 +44,14 @@ statement-returns-clause-before t c =
     let mid = c.statements.new.into.stmts.items in
     let d : Stmt = record { kind = c.in_ok-kind.kind; pos = c.stmt_at-s.result.now.pos } in
     let below : AllBelow (length mid) (parts d.kind) =
-    subst (AllBelow (length mid)) (sym (c.in_ok-kind.ensures.parts ∙ c.as_slice-4.ensures.value)) c.in_ok-js.ensures.there in
+    subst (AllBelow (length mid)) (sym (c.in_ok-kind.ensures.parts ∙ c.as_slice-4.ensures.value))
+    c.in_ok-js.ensures.there in
     on_ok_weaker c.push_stmt.result (λ items h. parts_push mid _ d (c.in_ok-js.ensures.before h) below items)
     c.push_stmt.ensures.items
 
 pub statement-returns-clause-there : goal.statement-returns-clause-there
-statement-returns-clause-there t c = pushed c.push_stmt.result _ _ _ c.push_stmt.ensures.items c.push_stmt.ensures.number
+statement-returns-clause-there t c =
+    pushed c.push_stmt.result _ _ _ c.push_stmt.ensures.items c.push_stmt.ensures.number
     (λ items. at_end c.statements.new.into.stmts.items _ _ _ refl items)
 
 pub statement-returns-clause-is : goal.statement-returns-clause-is
@@ -102,7 +105,7 @@ statements-loop-k-preserved t c =
       there = below_push (length c.loop-k.into.stmts.items) _ c.loop-k.js.items _ c.in_ok-j.j
           (extends_length _ _ c.in_ok-j.ensures.stmts) c.loop-k.invariant.there c.in_ok-j.ensures.there
           c.in_ok-push.ensures.items;
-      copies = action_turn s.numbers.now s.exprs.now (take c.args.limit s.stmts.now) _ _ _ _ c.args.ks.now c.loop-k.js.items _
-          c.loop-k.k-index _ c.in_ok-j.j lt refl c.in_ok-j.ensures.exprs c.in_ok-j.ensures.stmts
+      copies = action_turn s.numbers.now s.exprs.now (take c.args.limit s.stmts.now) _ _ _ _ c.args.ks.now
+          c.loop-k.js.items _ c.loop-k.k-index _ c.in_ok-j.j lt refl c.in_ok-j.ensures.exprs c.in_ok-j.ensures.stmts
           c.loop-k.invariant.copies c.in_ok-j.ensures.is c.in_ok-push.ensures.items;
     }

@@ -22,7 +22,8 @@ loop-f-preserved c =
     ∙ map-append (written_routine w) (take i fs) (f ∷ []) in
     subst (λ rs. AreFunctions w rs c.args.out.now c.function.new.out c.push.new.self.items) (sym turn)
     (functions_push w (map (written_routine w) (take i fs))
-    (written_routine w f) c.args.out.now c.loop-f.out c.function.new.out c.loop-f.list.items c.push.new.self.items c.in_ok-f.f
+    (written_routine w f) c.args.out.now c.loop-f.out c.function.new.out c.loop-f.list.items c.push.new.self.items
+    c.in_ok-f.f
     c.loop-f.invariant c.in_ok-f.ensures c.in_ok-push.ensures.items)
 
 pub returns : goal.returns

@@ -16,7 +16,8 @@ returns c =
     let a = c.args in
     let place = c.in_ok-place.place in
     let d : Expr = record { kind = exprs.Address place; of = a.pointer; pos = a.pos } in
-    pushed c.push_expr-2.result _ _ _ (on_both c.push_expr-2.result _ _ c.push_expr-2.ensures.exprs c.push_expr-2.ensures.rest) c.push_expr-2.ensures.number
+    pushed c.push_expr-2.result _ _ _ (on_both c.push_expr-2.result _ _ c.push_expr-2.ensures.exprs
+    c.push_expr-2.ensures.rest) c.push_expr-2.ensures.number
     (λ x. record {
       extends =
           extends_push a.self.now.exprs.items c.push_expr.new.self.exprs.items c.push_expr-2.new.self.exprs.items _

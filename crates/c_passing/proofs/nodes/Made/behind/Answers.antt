@@ -18,7 +18,8 @@ returns c =
     let value = c.in_ok-value.value in
     let load : Expr = record { kind = exprs.Load place; of = a.pointer; pos = a.pos } in
     let d : Expr = record { kind = exprs.Deref value; of = a.of; pos = a.pos } in
-    pushed c.push_expr-3.result _ _ _ (on_both c.push_expr-3.result _ _ c.push_expr-3.ensures.exprs c.push_expr-3.ensures.rest) c.push_expr-3.ensures.number
+    pushed c.push_expr-3.result _ _ _ (on_both c.push_expr-3.result _ _ c.push_expr-3.ensures.exprs
+    c.push_expr-3.ensures.rest) c.push_expr-3.ensures.number
     (λ x. record {
       extends =
           extends_push a.self.now.exprs.items c.push_expr-2.new.self.exprs.items c.push_expr-3.new.self.exprs.items _
@@ -31,11 +32,13 @@ returns c =
       ordered = λ n p q.
           in_then n a.self.now c.push_expr-2.new.self c.push_expr-3.new.self [] [] (value ∷ []) [] (_ ∷ []) []
           (in_then n a.self.now c.push_expr.new.self c.push_expr-2.new.self [] [] (place ∷ []) [] (value ∷ []) []
-          (in_push n a.self.now c.push_expr.new.self (record { kind = exprs.Var a.k; of = a.pointer; pos = a.pos }) place []
+          (in_push n a.self.now c.push_expr.new.self
+          (record { kind = exprs.Var a.k; of = a.pointer; pos = a.pos }) place []
           c.in_ok-place.ensures.exprs (ap (λ (m : Made). m.stmts.items) c.in_ok-place.ensures.rest)
           c.in_ok-place.ensures.number p refl)
           (in_push n c.push_expr.new.self c.push_expr-2.new.self
-          (record { kind = exprs.Load place; of = a.pointer; pos = a.pos }) value (place ∷ []) c.in_ok-value.ensures.exprs
+          (record { kind = exprs.Load place; of = a.pointer; pos = a.pos }) value
+          (place ∷ []) c.in_ok-value.ensures.exprs
           (ap (λ (m : Made). m.stmts.items) c.in_ok-value.ensures.rest) c.in_ok-value.ensures.number p refl))
           (in_push n c.push_expr-2.new.self c.push_expr-3.new.self
           (record { kind = exprs.Deref value; of = a.of; pos = a.pos }) _ (value ∷ []) x.0

@@ -1,10 +1,11 @@
-use Rattle.std.proofs.Common.{refl, sym, ap, set, subst, ◌∙◌}
+use Rattle.std.proofs.Common.{refl, sym, ap, set, subst, ◌∙◌, ◌<◌, length}
 use Rattle.std.specs.Prelude.{◌||◌, is_some}
 use Rattle.c_types.specs.declared.scopes.Scopes.{Scopes}
 use Rattle.cap_layout.specs.Answers.{Exceeds}
 use Rattle.c_tree.specs.Declarators.{record_extent}
 use Rattle.c_types.proofs.Extending.{completed_extends}
 use Rattle.std.proofs.lemmas.Bool.{false≢true}
+use Rattle.std.proofs.lemmas.Option.{slice_get_within}
 use Rattle.std.proofs.lemmas.Result.{err_from_is_err_and}
 use Rattle.c_types.proofs.Records.{over_fails, tag_there, none_there, named_same, completed_now, kind_is}
 use Rattle.c_types.proofs.scopes.Scopes.complete_tag.Goals as goal
@@ -61,3 +62,8 @@ returns-in_err-note_members-in-Ok-clause-answers c kind parts has =
       λ s h. named_same c.args.self.now c.note_members.new.self c.args.p.now s
           c.note_members.ensures.others c.in_err-note_members-in-Ok.ensures.err h,
     )
+
+pub index_mut-requires : goal.index_mut-requires
+index_mut-requires c = subst (λ n. c.args.tag < n) (sym c.note_members.new.self.tags.ok.0)
+    (subst (λ (x : Scopes). c.args.tag < length x.tags.items) (sym c.note_members.ensures.others)
+    (slice_get_within c.args.self.now.tags.items c.args.tag c.in-Some.info (sym c.in-Some.ensures)))

@@ -49,3 +49,7 @@ returns-clause-extends c =
     (extends_types c.args.p.now c.merged_object.new.p c.in_ok-of.ensures.adds)
     (global_changed c.merged_object.new.p _ (λ (g : GlobalDef). record g { of = c.in_ok-of.of }) c.args.k
     c.set_type.ensures (λ x. refl))
+
+pub returns-in_err-of-clause-extends : goal.returns-in_err-of-clause-extends
+returns-in_err-of-clause-extends c =
+    extends_types c.args.p.now c.merged_object.new.p c.in_err-of.ensures.adds

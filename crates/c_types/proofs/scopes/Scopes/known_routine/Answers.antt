@@ -27,3 +27,7 @@ returns-clause-extends c =
     (extends_types c.args.p.now c.merged_routine.new.p c.in_ok-of.ensures.adds)
     (fun_changed c.merged_routine.new.p _ (λ (f : FunDef). record f { of = c.in_ok-of.of }) c.args.k c.set_type.ensures
     (λ x. refl))
+
+pub returns-in_err-of-clause-extends : goal.returns-in_err-of-clause-extends
+returns-in_err-of-clause-extends c =
+    extends_types c.args.p.now c.merged_routine.new.p c.in_err-of.ensures.adds

@@ -6,7 +6,7 @@ use Rattle.c_tree.specs.Scopes.{bind_name}
 use Rattle.c_tree.specs.Views.{types_of}
 use Rattle.c_types.specs.declared.scopes.Scopes.{Scopes}
 use Rattle.c_types.specs.Stands.{Stands, entity_kept, text_at}
-use Rattle.c_types.proofs.Extending.{global_added}
+use Rattle.c_types.proofs.Extending.{extends_same, global_added}
 use Rattle.c_types.proofs.Objects.{object_given, objects_same, linked_same}
 use Rattle.c_types.proofs.scopes.Scopes.new_object.Goals as goal
 
@@ -43,3 +43,7 @@ returns-clause-ok c s h lt u =
 
 pub returns-clause-extends : goal.returns-clause-extends
 returns-clause-extends c = global_added c.args.p.now _ c.zeros.result c.in_ok-append.ensures.ok
+
+pub returns-in_err-append-clause-extends : goal.returns-in_err-append-clause-extends
+returns-in_err-append-clause-extends c =
+    extends_same c.args.p.now _ (ap (λ gs. record c.args.p.now { globals = gs }) c.in_err-append.ensures.err)

@@ -4,7 +4,7 @@ use Rattle.c_tree.specs.Scopes.{bind_name}
 use Rattle.c_tree.specs.Views.{types_of}
 use Rattle.c_types.specs.declared.scopes.Scopes.{Scopes}
 use Rattle.c_types.specs.Stands.{Stands, entity_kept, text_at}
-use Rattle.c_types.proofs.Extending.{fun_added}
+use Rattle.c_types.proofs.Extending.{extends_same, fun_added}
 use Rattle.c_types.proofs.Routines.{routine_given, begun_same}
 use Rattle.c_types.proofs.scopes.Scopes.new_routine.Goals as goal
 
@@ -27,3 +27,7 @@ returns-clause-ok c s h lt =
 
 pub returns-clause-extends : goal.returns-clause-extends
 returns-clause-extends c = fun_added c.args.p.now _ c.without_body.result c.in_ok-append.ensures.ok
+
+pub returns-in_err-append-clause-extends : goal.returns-in_err-append-clause-extends
+returns-in_err-append-clause-extends c =
+    extends_same c.args.p.now _ (ap (λ fs. record c.args.p.now { funs = fs }) c.in_err-append.ensures.err)

@@ -27,3 +27,10 @@ loop-m-preserved c =
 
 pub returns : goal.returns
 returns c s parts h has k z e = rw (c.loop-m.invariant.starts s parts h has) (slice_get-longer _ _ k z e)
+
+pub returns-in-Err : goal.returns-in-Err
+returns-in-Err c s parts h has k z e = rw (c.loop-m.invariant.starts s parts h has) (slice_get-longer _ _ k z e)
+
+pub returns-then-end-gt-LIMIT : goal.returns-then-end-gt-LIMIT
+returns-then-end-gt-LIMIT c s parts h has k z e =
+    rw (c.loop-m.invariant.starts s parts h has) (slice_get-longer _ _ k z e)
