@@ -134,7 +134,3 @@ enumerated t z p s b i = rw (b, i) refl
 pub named_again : (t : Lexeme) (z : ℤ) (p : Pos) (s : State) → is_new s t.text ≡ false →
     enumerate t z p s ≡ Err (record { code = 131; place = t.pos })
 named_again t z p s b = rw b refl
-
-pub out_of_int : (t : Lexeme) (z : ℤ) (p : Pos) (s : State) → is_new s t.text ≡ true → in_int z ≡ false →
-    enumerate t z p s ≡ Err (record { code = 134; place = p })
-out_of_int t z p s b i = rw (b, i) refl

@@ -28,7 +28,7 @@ use Rattle.c_declarators.specs.declared.parts.Wrap.TheVariants.{Point, Row, Give
 use Rattle.c_declarators.specs.declared.parts.Derived.{Derived}
 use Rattle.c_declarators.specs.declared.parts.Specified.{Specified}
 use Rattle.c_declarators.specs.Forming.{ParamIsThere, WrapIsThere}
-use Rattle.c_declarators.specs.Parts.{SpecifiedThere, IsSpecified, name_token, param_in, ParamThere, shown_in, IsWrap}
+use Rattle.c_declarators.specs.Parts.{SpecifiedThere, name_token, param_in, ParamThere, shown_in, IsWrap}
 use Rattle.c_declarators.specs.Parts.{AreWraps, IsDerived, DerivedThere, ShowsDerived}
 use Rattle.c_declarators.proofs.Making.{All_weaker}
 
@@ -121,11 +121,6 @@ name_lasts v w (Some n) k =
 
 pub specified_there : (v w : Work) (s : Specified) → Keeps v w → SpecifiedThere v s → SpecifiedThere w s
 specified_there v w s k h = let m : type_count v.nodes ≤ type_count w.nodes = k.more_types in omega arith
-
-pub specified_lasts : (v w : Work) (s : Specified) (x : meant.Specified) → Keeps v w → SpecifiedThere v s →
-    IsSpecified v s x → IsSpecified w s x
-specified_lasts v w s x k h i =
-    record { first = i.first; stored = i.stored; storage = i.storage; of = i.of ∙ sym (k.types s.of h) }
 
 -- ---- declarators
 

@@ -17,8 +17,8 @@ use Rattle.c_tree.specs.Types.{Ty, Void}
 use Rattle.c_tree.specs.Views.{types_of}
 use Rattle.c_tree.specs.Scopes as meant
 use Rattle.c_tree.specs.Scopes.{State, TagState, Part, Doing, Fault, Tagging, Recorded, Enumerated, Enumerator, give}
-use Rattle.c_tree.specs.Scopes.{need, look, change, continued, enter, leave, innermost, changed_at, find_in, find_tag}
-use Rattle.c_tree.specs.Scopes.{or_else, bind_name, bind_tag, ◌>>=◌, ◌>>◌}
+use Rattle.c_tree.specs.Scopes.{need, change, continued, leave, innermost, changed_at, find_in}
+use Rattle.c_tree.specs.Scopes.{or_else, bind_name, bind_tag, ◌>>◌}
 use Rattle.c_tree.specs.Readings as meant_parts
 use Rattle.c_tree.specs.Declarators.{is_new, in_int, enumerate, new_tag, declare_tag, as_record, named_tag, kind_at}
 use Rattle.c_tree.specs.Declarators.{has_kind, same_record, is_begun, begin_tag, complete_tag, completed}
@@ -35,7 +35,7 @@ use Rattle.c_types.specs.declared.scopes.Scope.{Scope}
 use Rattle.c_types.specs.declared.scopes.Scopes.{Scopes}
 use Rattle.c_types.specs.Calls.{Given, HasParts, Completes}
 use Rattle.c_types.specs.Declares.{name_of, declares_tag}
-use Rattle.c_types.specs.Looks.{tag_kind_of, ShowsInnermost}
+use Rattle.c_types.specs.Looks.{tag_kind_of}
 use Rattle.c_types.specs.Naming.{IsTagOf}
 use Rattle.c_types.specs.Stands.{Stands, ShowsScope, named, part_seen, member_kept, text_at, name_in, tag_in}
 use Rattle.c_types.specs.Stands.{entity_kept, tagging_of}
@@ -125,11 +125,6 @@ enumerate_declares file t z p =
     (λ y. changing_declares file (bind_name t.text (Enumerator z))
     (λ u. declares_scopes file u (bind_name t.text (Enumerator z) u).scopes)))
     (λ y. giving_declares file (z +ℤ pos 1)))
-
-pub enter_declares : (file : List ℕ) → IsDeclaring file enter
-enter_declares file = changing_declares file
-    (λ (s : State). record s { scopes = record { names = []; tags = [] } ∷ s.scopes })
-    (λ u. declares_scopes file u (record { names = []; tags = [] } ∷ u.scopes))
 
 pub leave_declares : (file : List ℕ) → IsDeclaring file leave
 leave_declares file = changing_declares file (λ (s : State). record s { scopes = meant.outer_scopes s.scopes })
@@ -229,16 +224,6 @@ first_none : {A : Type 0} (o p : Option A) → or_else o p ≡ None → o ≡ No
 first_none None p e = refl
 first_none (Some a) p e = absurd cc
 
-pub none_here : (here : Bool) (t : Lexeme) (s : State) → tag_there here t s ≡ None →
-    find_in (innermost s.scopes).tags t.text ≡ None
-none_here true t s e = e
-none_here false t s e = none_among s.scopes t.text e
-  where
-    none_among : (cs : List meant.Scope) (name : List ℕ) → find_tag cs name ≡ None →
-        find_in (innermost cs).tags name ≡ None
-    none_among [] name e = refl
-    none_among (c ∷ cs) name e = first_none (find_in c.tags name) (find_tag cs name) e
-
 pub named_is : (here : Bool) (k : RecordKind) (t : Lexeme) (s : State) (o : Option Tagging) → tag_there here t s ≡ o →
     named_tag here k t s ≡ as_record k t o s
 named_is here k t s o e = ap (λ x. as_record k t x s) e
@@ -249,10 +234,6 @@ none_found f o e = sym e
 pub of_kind : (k : RecordKind) (t : Lexeme) (n : ℕ) (s : State) → kind_at s n k ≡ true →
     as_record k t (Some (Recorded n)) s ≡ Ok (n, s)
 of_kind k t n s e = rw e refl
-
-pub of_another : (k : RecordKind) (t : Lexeme) (n : ℕ) (s : State) → kind_at s n k ≡ false →
-    as_record k t (Some (Recorded n)) s ≡ Err (record { code = 133; place = t.pos })
-of_another k t n s e = rw e refl
 
 -- ---- enumerations
 
@@ -352,12 +333,6 @@ completes w m k n parts place (Err (Code code at)) whole d f a = λ s h i e.
 completes w m k n parts place (Err NoMemory) whole d f a = tt
 
 -- ---- scopes of parameters
-
--- the scope that was closed
-pub closed_shows : (ts : List Ty) (n : ℕ) (c : Scope) (ms : List meant.Scope) → ShowsInnermost ts n (Some c) ms →
-    ShowsScope ts n c (innermost ms)
-closed_shows ts n c [] h = absurd h
-closed_shows ts n c (m ∷ ms) h = h
 
 -- where none is in force, an empty one is closed
 pub empty_shows : (ts : List Ty) (n : ℕ) (c : Scope) (ms : List meant.Scope) → ((x : List ℕ) → name_in c x ≡ None) →

@@ -9,6 +9,7 @@ use Rattle.std.proofs.lemmas.List.Sums.{fold-append}
 use Rattle.c_tree.specs.declared.typed.Typed.{Typed}
 use Rattle.c_tree.specs.declared.typed.VarDef.{VarDef}
 use Rattle.ck_base.specs.declared.positions.Pos.{Pos}
+use Rattle.ck_base.specs.declared.positions.Span.{Span}
 use Rattle.ck_base.specs.declared.refusal.Refusal.{Refusal}
 use Rattle.c_tree.specs.declared.syntax.Node.{Node}
 use Rattle.c_tree.specs.Syntax.{Syn, Syns, first_token}
@@ -23,7 +24,7 @@ use Rattle.c_tree.specs.Scopes as scopes
 use Rattle.c_tree.specs.Scopes.{State, LocalState, RoutineState, Body, Doing, with_changed, changed_at, change_routine}
 use Rattle.c_tree.specs.Scopes.{outer_scopes}
 use Rattle.c_tree.specs.Views as views
-use Rattle.c_tree.specs.Views.{types_of, type_at, actions_of, action_at}
+use Rattle.c_tree.specs.Views.{types_of, actions_of}
 use Rattle.c_types.specs.declared.scopes.Scopes.{Scopes}
 use Rattle.c_types.specs.Stands.{Stands, Declared, named, var_kept, local_seen, routine_seen}
 use Rattle.c_types.specs.Calls.{Does}
@@ -66,7 +67,8 @@ pub variable_shown : (w : Work) (k of : ℕ) (v : VarDef) (b : Bool) → type_in
     ≡ variable_seen w (variable_in w k v)
 variable_shown w k of v b e f =
     ap (λ (t : Ty). (let x : Variable = record { name = v.name; place = v.pos; of = t; simple = b } in x)) e
-    ∙ ap (λ (c : Bool). (let x : Variable = record { name = v.name; place = v.pos; of = type_in w.nodes v.of; simple = c } in x)) f
+    ∙ ap (λ (c : Bool).
+    (let x : Variable = record { name = v.name; place = v.pos; of = type_in w.nodes v.of; simple = c } in x)) f
 
 pub one_variable : (w : Work) (vs : List VarDef) (k : ℕ) (v x : VarDef) (done : List VarDef) → length vs ≡ k →
     map (variable_seen w) done ≡ map (variable_seen w) (variables_from w 0 vs) →
@@ -80,6 +82,10 @@ one_variable w vs k v x done l e f =
     ∙ sym (map-append (variable_seen w) (variables_from w 0 vs) (variable_in w (0 + length vs) v ∷ []))
     ∙ ap (map (variable_seen w)) (sym (variables-push w 0 vs v))
 
+-- a local named so, at such a place, of such a type, and whether its address is taken
+abbrev local_as : Span → Pos → Ty → Bool → Variable
+local_as n p t b = record { name = n; place = p; of = t; simple = is_scalar (bare t) && not b }
+
 -- they are those of the state
 variable_is : (w : Work) (k : ℕ) (v : VarDef) (l : LocalState) →
     var_kept w.nodes.scopes.file.now (types_of w.nodes.p.types) v ≡ local_seen l →
@@ -89,11 +95,10 @@ variable_is w k v l e a =
     let span : v.name ≡ l.name.span = ap (λ (d : Declared). d.span) e in
     let place : v.pos ≡ l.name.pos = ap (λ (d : Declared). d.place) e in
     let of : type_in w.nodes v.of ≡ l.of = type_is w.nodes.p v.of l.of (ap (λ (d : Declared). d.of) e) in
-    ap (λ n. (let x : Variable = record { name = n; place = v.pos; of = type_in w.nodes v.of; simple = is_scalar (bare (type_in w.nodes v.of)) && not (is_among k w.addressed.items) } in x)) span
-    ∙ ap (λ p. (let x : Variable = record { name = l.name.span; place = p; of = type_in w.nodes v.of; simple = is_scalar (bare (type_in w.nodes v.of)) && not (is_among k w.addressed.items) } in x)) place
-    ∙ ap (λ (t : Ty).
-    (let x : Variable = record { name = l.name.span; place = l.name.pos; of = t; simple = is_scalar (bare t) && not (is_among k w.addressed.items) } in x)) of
-    ∙ ap (λ b. (let x : Variable = record { name = l.name.span; place = l.name.pos; of = l.of; simple = is_scalar (bare l.of) && not b } in x)) (sym a)
+    let b = is_among k w.addressed.items in
+    ap (λ n. local_as n v.pos (type_in w.nodes v.of) b) span
+    ∙ ap (λ p. local_as l.name.span p (type_in w.nodes v.of) b) place
+    ∙ ap (λ (t : Ty). local_as l.name.span l.name.pos t b) of ∙ ap (local_as l.name.span l.name.pos l.of) (sym a)
 
 variables_are : (w : Work) (k : ℕ) (vs : List VarDef) (ls : List LocalState) →
     map (var_kept w.nodes.scopes.file.now (types_of w.nodes.p.types)) vs ≡ map local_seen ls →
@@ -198,7 +203,8 @@ module _ (w : Work) (sc : Scopes) (ds : Vec Definition) (ks : Vec ℕ) (s : Stat
         Some (let x : Seen = record { params = d.params.items; vars = vs; body = action_in w body } in x))
         (sym vars)
         ∙ ap (λ (n : ℕ).
-        Some (let x : Seen = record { params = d.params.items; vars = map (views.variable_of (types_of w.nodes.p.types)) d.vars.items; body = action_in w n } in x)) (sym same)
+        let vs = map (views.variable_of (types_of w.nodes.p.types)) d.vars.items in
+        Some (let x : Seen = record { params = d.params.items; vars = vs; body = action_in w n } in x)) (sym same)
 
     this_one : definition_of k ds.items ≡ Some d
     this_one = ap (definition_of k) is ∙ fold-append _ None w.definitions.items (d ∷ [])
@@ -388,8 +394,8 @@ body_left w sc sd ks k count body whole f none fa fb taken left = record {
       let change : RoutineState → RoutineState = λ r. record r { body = Some (body_of count (action_in w body) s) } in
       let after : State = record s { scopes = outer_scopes s.scopes; locals = [] } in
       let same : ended_in k count (action_in w body) s ≡ after =
-      ap (λ (o : Option RoutineState). (let z : State = record after { routines = with_changed change o s.routines k } in z))
-      (f s h) in
+      ap (λ (o : Option RoutineState).
+      (let z : State = record after { routines = with_changed change o s.routines k } in z)) (f s h) in
       record {
         value = tt;
         state = ended_in k count (action_in w body) s;

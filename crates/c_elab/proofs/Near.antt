@@ -1,6 +1,6 @@
 -- Where no rule fails at the end of a file, initial pointers are near what they point to.
-use Rattle.std.proofs.Common.{◌≡◌, ℕ, zero, suc, ◌+◌, ◌≤◌, ◌^◌, Bool, true, false, not, List, [], ◌∷◌, ◌++◌, length, Option}
-use Rattle.std.proofs.Common.{Some, None, refl, sym, ap, subst, ◌∙◌, ⊎_elim, arith}
+use Rattle.std.proofs.Common.{◌≡◌, ℕ, zero, suc, ◌+◌, ◌≤◌, ◌^◌, Bool, true, false, not, List, [], ◌∷◌, ◌++◌, length}
+use Rattle.std.proofs.Common.{Option, Some, None, refl, sym, ap, subst, ◌∙◌, ⊎_elim, arith}
 use Rattle.std.specs.Prelude.{ℤ, pos, neg_ℤ, ◌+ℤ◌, ◌-ℤ◌, ◌≤ℤ◌, int_lt, slice_get, flat_map, if◌then◌else◌}
 use Rattle.std.proofs.lemmas.Bool.{and_parts, not-true}
 use Rattle.std.proofs.lemmas.Int.{ints}
@@ -13,8 +13,8 @@ use Rattle.c_tree.specs.Terms.{Aim, To_global, To_literal, To_function}
 use Rattle.c_tree.specs.Scopes.{Reach, All, Within, StaticState, Pending, State, Fault, is_complete, type_extent}
 use Rattle.c_tree.specs.Scopes.{has_extent}
 use Rattle.c_tree.specs.Statics.{aim_length, static_length, text_length, is_near}
-use Rattle.c_tree.specs.Programs.{static_faults, routine_faults, pending_faults, last_faults, earlier, earliest, reaches}
-use Rattle.c_tree.specs.Programs.{fault, undefined_use, stands_before}
+use Rattle.c_tree.specs.Programs.{static_faults, routine_faults, pending_faults, last_faults, earlier, earliest}
+use Rattle.c_tree.specs.Programs.{reaches, fault, undefined_use, stands_before}
 use Rattle.typing_laws.proofs.Placed.{IsWaiting, Awaits, Reaches, Aims}
 use Rattle.typing_laws.proofs.Started.{IsThere}
 use Rattle.c_finish.specs.Finished.{IsNear}
@@ -79,7 +79,8 @@ complete_length : (s : State) (k : ℕ) (g : StaticState) → flat_map (static_f
 complete_length s k g e h =
     let f = none_flat (static_faults s) s.statics e k g h in
     let c = holds_if (is_complete s g.of) (fault 132 g.name.pos)
-    (empty_both (if is_complete s g.of then [] else fault 132 g.name.pos ∷ []) (undefined_use g.defined g.used) f).0 in (
+    (empty_both (if is_complete s g.of then [] else fault 132 g.name.pos ∷ [])
+    (undefined_use g.defined g.used) f).0 in (
       owned (size_of (type_extent s.tags g.of)),
       ap (static_length s) h
           ∙ ap (λ (b : Bool). if b then Some (owned (size_of (type_extent s.tags g.of))) else None) c,

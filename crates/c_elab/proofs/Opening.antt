@@ -58,7 +58,8 @@ parameter_is w p n v h i a b c =
     ∙ ap (λ (s : Span).
     (let d : Declared = record { text = l.name.text; span = s; place = n.pos; of = Some (type_in w.nodes p.of) }
     in d)) i.span
-    ∙ ap (λ q. (let d : Declared = record { text = l.name.text; span = l.name.span; place = q; of = Some (type_in w.nodes p.of) } in d)) i.place
+    ∙ ap (λ q. (let t = Some (type_in w.nodes p.of) in
+    let d : Declared = record { text = l.name.text; span = l.name.span; place = q; of = t } in d)) i.place
 
 abbrev pub locals_of : Work → List Param → List LocalState
 locals_of w ps = map (λ (p : Param). parameter_local (param_in w p)) ps

@@ -1,7 +1,7 @@
 -- What typing sees to of the state at the end of a file.
 use Rattle.std.proofs.Common.{◌≡◌, ℕ, zero, suc, ◌+◌, ◌≤◌, true, false, List, [], ◌∷◌, length, Some}
 use Rattle.std.proofs.Common.{Ok, refl, ap, subst, ◌∙◌, arith}
-use Rattle.std.specs.Prelude.{slice_get, ◌&&◌}
+use Rattle.std.specs.Prelude.{slice_get}
 use Rattle.std.proofs.lemmas.Bool.{false≢true}
 use Rattle.std.proofs.lemmas.Option.{same_Some, slice_get_within}
 use Rattle.c_tree.specs.declared.syntax.Tree.{Tree}
@@ -95,7 +95,8 @@ mutual
       (is n xs t h.1, terms_stand P s is xs h.0, λ e. let w = subst (TermOk true s) e h in false≢true w.1.1)
 
   terms_stand : (P : Shape → Type 0) (s : State) →
-      ((n : Shape) (xs : Terms) (t : Ty) → ShapeOk true s n xs t → P n) → (xs : Terms) → TermsOk true s xs → StandAll P xs
+      ((n : Shape) (xs : Terms) (t : Ty) → ShapeOk true s n xs t → P n) → (xs : Terms) → TermsOk true s xs →
+      StandAll P xs
   terms_stand P s is no_terms h = tt
   terms_stand P s is (with_term x xs) h = (term_stands P s is x h.0, terms_stand P s is xs h.1)
 

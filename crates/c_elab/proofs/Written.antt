@@ -258,7 +258,8 @@ are_parameters (Grammar.listed a s) = all s
 
 -- a declarator is one part at most, and the parameters stand behind it
 parameters_last : {types : List (List ℕ)} {m : Naming} {starred : Bool} {a : List Lexeme} {xs : Syns} →
-    Declares types m starred a xs → (o : Lexeme) (ys : Syns) → HasParameters (joined xs (one (node Kinds.Parameters o ys)))
+    Declares types m starred a xs → (o : Lexeme) (ys : Syns) →
+    HasParameters (joined xs (one (node Kinds.Parameters o ys)))
 parameters_last (Grammar.empty e) o ys = refl
 parameters_last (Grammar.declared n e) o ys = refl
 parameters_last (Grammar.enclosed p c a e f d) o ys = refl
@@ -417,8 +418,10 @@ module _ (Is : Lexeme → Type 0) where
         ((number_token t.kind t.text (from_head Heads.Number (symbol t) e) h.0.0, h.0.1, tt), tt)
     read (Grammar.character t l e) h =
         ((character_token t.kind t.text (from_head Heads.Character (symbol t) e) h.0.0, h.0.1, tt), tt)
-    read (Grammar.text t a l e ds) h =
-        ((text_token t.kind t.text (from_head Heads.Text (symbol t) e) h.0.0, h.0.1, are_pieces ds), repeated_read ds h.1)
+    read (Grammar.text t a l e ds) h = (
+      (text_token t.kind t.text (from_head Heads.Text (symbol t) e) h.0.0, h.0.1, are_pieces ds),
+      repeated_read ds h.1,
+    )
     read (Grammar.piece t e) h =
         ((text_token t.kind t.text (from_head Heads.Text (symbol t) (ap head_of e)) h.0.0, h.0.1, tt), tt)
     read (Grammar.parenthesized o c a l e f d) h = ((tt, h.0.1, tt), (read d (split a (c ∷ []) h.1).0, tt))
@@ -466,7 +469,8 @@ module _ (Is : Lexeme → Type 0) where
           joined_from ns xs (tags_from tags p.0) (separated_read ds (split a (z ++ (c ∷ [])) p.1.1).0),
         )
     read (Grammar.enumerator n e) h = ((declared_wordy Grammar.Plain _ n e, h.0.1, tt), tt)
-    read (Grammar.enumerator_value n o a e f d) h = ((declared_wordy Grammar.Plain _ n e, h.0.1, tt), (read d h.1.1, tt))
+    read (Grammar.enumerator_value n o a e f d) h =
+        ((declared_wordy Grammar.Plain _ n e, h.0.1, tt), (read d h.1.1, tt))
     read (Grammar.qualifier t e f) h = ((tt, h.0.1, tt), tt)
     read (Grammar.declarator a d) h = (declares_read d h).0
     read (Grammar.parameter a b {s = s} d q) h =

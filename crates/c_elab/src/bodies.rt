@@ -1,7 +1,7 @@
 //! The bodies of functions (C11 6.9.1).
 
-ghost use Rattle.std.specs.Prelude.{◌≡◌, true, Some, None, Ok, ◌+◌, ◌<◌, ◌∷◌, ◌++◌, [], All, IfOk, OnOk, length, map, slice_get};
-ghost use Rattle.std.specs.Prelude.{slice_set, ◌&&◌, not};
+ghost use Rattle.std.specs.Prelude.{◌≡◌, true, Some, None, Ok, ◌+◌, ◌<◌, ◌∷◌, ◌++◌, [], All, IfOk, OnOk, length, map};
+ghost use Rattle.std.specs.Prelude.{slice_get, slice_set, ◌&&◌, not};
 ghost use Rattle.c_tree.specs.Syntax.{Syn};
 ghost use Rattle.c_tree.specs.Expressions.{routine_type};
 ghost use Rattle.c_tree.specs.Programs.{body_context, first_incomplete};

@@ -1,5 +1,5 @@
 -- Rules that begin with a test.
-use Rattle.std.proofs.Common.{◌≡◌, ℕ, Bool, true, false, Option, Some, None, Result, Ok, Err, refl, sym, ap, subst}
+use Rattle.std.proofs.Common.{◌≡◌, ℕ, Bool, true, false, Option, Result, Ok, Err, refl, sym, ap, subst}
 use Rattle.std.proofs.Common.{◌∙◌}
 use Rattle.std.specs.Prelude.{◌&&◌, not}
 use Rattle.ck_int.specs.declared.kinds.IntOp.{IntOp}
@@ -7,7 +7,7 @@ use Rattle.c_tree.specs.declared.syntax.StepOperator.{StepOperator}
 use Rattle.c_operators.specs.Rules.{compound_of, stepped_of}
 use Rattle.ck_base.specs.declared.positions.Pos.{Pos}
 use Rattle.ck_base.specs.declared.refusal.Refusal.{Refusal}
-use Rattle.c_tree.specs.Types.{Ty, bare, is_scalar, Pointer, target_of, unsigned_long}
+use Rattle.c_tree.specs.Types.{Ty, bare, is_scalar, unsigned_long}
 use Rattle.cap_layout.specs.declared.answers.Layout.{Layout}
 use Rattle.cap_layout.specs.declared.answers.LayoutFault.{LayoutFault}
 use Rattle.cap_layout.specs.declared.answers.LayoutFault.TheVariants.{TooLarge}
@@ -16,8 +16,8 @@ use Rattle.c_tree.specs.Layout.{Extent}
 use Rattle.c_tree.specs.Terms.{leaf, Constant, Term, Compound, Step, Deref, join, step}
 use Rattle.c_tree.specs.Conversions as meant
 use Rattle.c_tree.specs.Conversions.{operand_type}
-use Rattle.c_tree.specs.Scopes.{State, Doing, need, give, refuse, ◌>>=◌, ◌>>◌, type_extent, has_extent, size}
-use Rattle.c_tree.specs.Expressions.{gives, sized, pointed, dereference, compound, compounds, computed_in, right_of}
+use Rattle.c_tree.specs.Scopes.{State, Doing, need, give, ◌>>=◌, ◌>>◌, type_extent, has_extent, size}
+use Rattle.c_tree.specs.Expressions.{gives, sized, compound, compounds, computed_in, right_of}
 use Rattle.c_tree.specs.Expressions.{is_modifiable, stepped, increments, points_to_function, is_counted, sum, sum_of}
 use Rattle.c_tree.specs.Expressions.{difference, difference_of}
 use Rattle.c_types.proofs.Sizing.{size_fits, size_over}
@@ -109,24 +109,6 @@ pub one_told : (f : State → Ty → Bool) (w : Work) (s : ℕ) (x : Ty) (r v : 
 one_told f w s x r v h e d st q = ap (f st) (sym h.is) ∙ e st q ∙ d
 
 -- ---- what a pointer points to
-
-pub dereference_to : (a : meant.Operand) (u : Ty) (p first : Pos) → target_of (operand_type a) ≡ Some u →
-    dereference a p first ≡ dereferencing u a.is p first
-dereference_to a u p first e =
-    ap (λ (d : Doing Ty). d >>= λ t. gives (step Deref a.is t p) first) (pointed_to (operand_type a) u first e)
-  where
-    pointed_to : (t u : Ty) (first : Pos) → target_of t ≡ Some u → pointed t first ≡ pointed (Pointer u) first
-    pointed_to (Pointer t) u first e = ap (λ v. pointed (Pointer v) first) (let f : t ≡ u = cc in f)
-    pointed_to t u first e = absurd cc
-
-pub dereference_none : (a : meant.Operand) (p first : Pos) → target_of (operand_type a) ≡ None →
-    dereference a p first ≡ refuse 133 first
-dereference_none a p first e =
-    ap (λ (d : Doing Ty). d >>= λ t. gives (step Deref a.is t p) first) (pointed_none (operand_type a) first e)
-  where
-    pointed_none : (t : Ty) (first : Pos) → target_of t ≡ None → pointed t first ≡ refuse 133 first
-    pointed_none (Pointer t) first e = absurd cc
-    pointed_none t first e = refl
 
 pub dereferencing_is : (u : Ty) (x : Term) (p first : Pos) (s : State) →
     dereferencing u x p first s ≡ (need (is_sized s u) 132 first >> gives (step Deref x u p) first) s

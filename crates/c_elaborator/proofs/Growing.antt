@@ -16,7 +16,7 @@ use Rattle.c_tree.specs.Views.{grow, stmt_from, kind_action, term_at, terms_of, 
 use Rattle.c_tree.specs.Views.{actions_of, no_action, values, variable_of, text_of, listed, label_of}
 use Rattle.c_tree.specs.Scopes.{State}
 use Rattle.c_expressions.specs.declared.nodes.Nodes.{Nodes}
-use Rattle.c_expressions.specs.Nodes.{IsWhole, type_in, term_in, type_count, term_count}
+use Rattle.c_expressions.specs.Nodes.{type_count, term_count}
 use Rattle.c_expressions.specs.Nodes as nodes
 use Rattle.c_elaborator.specs.declared.work.Work.{Work}
 use Rattle.c_elaborator.specs.declared.work.Definition.{Definition}

@@ -1,5 +1,5 @@
 -- What is known of types, objects and functions by their numbers.
-use Rattle.std.proofs.Common.{◌≡◌, ℕ, ◌<◌, ◌≤◌, Option, Some, None, refl, sym, ap, ◌∙◌}
+use Rattle.std.proofs.Common.{◌≡◌, ℕ, ◌≤◌, Option, Some, None, refl, sym, ap, ◌∙◌}
 use Rattle.std.specs.Prelude.{option_map, slice_get}
 use Rattle.c_interner.proofs.Growing.{type_at-past}
 use Rattle.c_tree.specs.declared.typed.Typed.{Typed}

@@ -8,6 +8,7 @@ pub mod Growing
 pub mod Kept
 pub mod Knowing
 pub mod Naming
+pub mod Owning
 pub mod Parting
 pub mod Reading
 pub mod Scoping

@@ -3,7 +3,6 @@ use Rattle.std.proofs.Common.{◌≡◌, ℕ, ◌≤◌, length, Bool, true, fal
 use Rattle.ck_base.specs.declared.positions.Pos.{Pos}
 use Rattle.ck_base.specs.declared.refusal.Refusal.{Refusal}
 use Rattle.ck_base.specs.declared.refusal.Refusal.TheVariants.{Code, NoMemory}
-use Rattle.c_tree.specs.Types.{Ty}
 use Rattle.c_tree.specs.Terms.{Term}
 use Rattle.c_tree.specs.Conversions as meant
 use Rattle.c_tree.specs.Scopes.{State, Doing, give, need, continued, ◌>>=◌, ◌>>◌}
@@ -11,11 +10,11 @@ use Rattle.c_expressions.specs.declared.nodes.Nodes.{Nodes}
 use Rattle.c_expressions.specs.declared.nodes.Operand.{Operand}
 use Rattle.c_expressions.specs.Answers as nodes
 use Rattle.c_expressions.specs.Nodes as nodes_are
-use Rattle.c_expressions.specs.Nodes.{IsWhole, type_in, term_in, type_count, term_count}
+use Rattle.c_expressions.specs.Nodes.{IsWhole, type_count, term_count}
 use Rattle.c_elaborator.specs.declared.work.Work.{Work}
 use Rattle.c_elaborator.specs.Work.{Shows}
 use Rattle.c_elaborator.specs.Answers.{Keeps, Quiet, Still, Way, quietly, freely, Done, Refuses, Answers, OperandThere}
-use Rattle.c_elaborator.specs.Answers.{operand_in, IsOperand, TypeThere, IsType, TermThere, IsTerm, action_count}
+use Rattle.c_elaborator.specs.Answers.{operand_in, IsOperand, TypeThere, TermThere, IsTerm, action_count}
 use Rattle.c_elaborator.proofs.Growing.{begins_same, begins_then, quiet_nodes, shows_nodes}
 
 -- ---- ways to grow
@@ -304,10 +303,6 @@ lift_operand w n d r a = lift w n d nodes_are.IsOperand OperandThere IsOperand r
 pub lift_term : (w : Work) (n : Nodes) (d : Doing Term) (r : Result ℕ Refusal) →
     nodes.Answers w.nodes n d nodes_are.IsTerm r → Answers quietly w (record w { nodes = n }) d TermThere IsTerm r
 lift_term w n d r a = lift w n d nodes_are.IsTerm TermThere IsTerm r (λ x o h. h.there) (λ x o s h. sym h.is) a
-
-pub lift_type : (w : Work) (n : Nodes) (d : Doing Ty) (r : Result ℕ Refusal) →
-    nodes.Answers w.nodes n d nodes_are.IsType r → Answers quietly w (record w { nodes = n }) d TypeThere IsType r
-lift_type w n d r a = lift w n d nodes_are.IsType TypeThere IsType r (λ x o h. h.there) (λ x o s h. sym h.is) a
 
 -- ---- what goes on being named
 

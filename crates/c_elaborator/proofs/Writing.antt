@@ -1,15 +1,15 @@
 -- String literals that are added.
-use Rattle.std.proofs.Common.{◌≡◌, ℕ, ◌<◌, ◌≤◌, true, false, List, [], ◌∷◌, ◌++◌, length, map, Result, Err, refl, sym}
+use Rattle.std.proofs.Common.{◌≡◌, ℕ, ◌≤◌, true, List, [], ◌∷◌, ◌++◌, length, map, Result, refl, sym}
 use Rattle.std.proofs.Common.{ap, subst, ◌∙◌, arith}
 use Rattle.std.specs.Prelude.{nat_le}
-use Rattle.std.proofs.lemmas.Bool.{le-leb, lt-leb}
+use Rattle.std.proofs.lemmas.Bool.{le-leb}
 use Rattle.std.proofs.lemmas.List.{length-map}
 use Rattle.ck_base.specs.declared.positions.Pos.{Pos}
 use Rattle.ck_base.specs.Tokens.{Lexeme}
 use Rattle.c_tree.specs.declared.typed.Literal.{Literal}
 use Rattle.c_tree.specs.Types.{Ty, Array, char}
 use Rattle.c_tree.specs.Terms as tree
-use Rattle.c_tree.specs.Terms.{Text, Term, leaf}
+use Rattle.c_tree.specs.Terms.{Text, leaf}
 use Rattle.c_tree.specs.Layout.{size_limit}
 use Rattle.c_tree.specs.Syntax.{Syns}
 use Rattle.c_tree.specs.Views.{text_of}
@@ -124,13 +124,6 @@ writing_is bs p k s h e =
     >> gives (leaf (tree.Literal (length s.texts)) (Array char (length bs)) p) p) s) test
     ∙ ap (λ (n : ℕ). giving_leaf (tree.Literal n) (Array char (length bs)) p
     (with_text (record { place = p; bytes = bs }) s)) (sym e)
-
-pub writing_over : (bs : List ℕ) (p : Pos) (s : State) → size_limit < length bs →
-    writing bs p s ≡ Err (record { code = 140; place = p })
-writing_over bs p s h =
-    let test : nat_le (length bs) size_limit ≡ false = lt-leb (length bs) size_limit h in
-    ap (λ b. (need b 140 p >> change (with_text (record { place = p; bytes = bs }))
-    >> gives (leaf (tree.Literal (length s.texts)) (Array char (length bs)) p) p) s) test
 
 -- a literal by its bytes
 pub text_is : (t : Lexeme) (xs : Syns) (bs : List ℕ) (s : State) → bs ≡ text_bytes t xs →

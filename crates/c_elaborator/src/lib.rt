@@ -10,6 +10,7 @@ mod beginning;
 mod declared;
 mod items;
 mod leaves;
+mod lengths;
 mod literals;
 mod marks;
 mod members;

@@ -16,7 +16,7 @@ use Rattle.c_tree.specs.Scopes.{Fault, State}
 use Rattle.c_tree.specs.Passed.{Names, passed_program, call_name, calls_in}
 use Rattle.c_tree.specs.Views.{types_of, routine_of}
 use Rattle.c_tree.specs.Views as views
-use Rattle.c_tree.specs.Programs.{fault, file_begins, has_main, is_main, numbers_of, program_of, ended}
+use Rattle.c_tree.specs.Programs.{fault, file_begins, numbers_of, program_of, ended}
 use Rattle.c_tree.specs.Programs as programs
 use Rattle.c_elaborator.specs.declared.work.Work.{Work}
 use Rattle.c_elaborator.specs.Work.{Shows}

@@ -6,5 +6,4 @@ pub mod Firsts
 pub mod Functions
 pub mod Globals
 pub mod MainFunction
-pub mod Owning
 pub mod Records

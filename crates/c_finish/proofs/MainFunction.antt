@@ -107,7 +107,8 @@ first_place x xs e = ap (λ (b : Bool). if not b then 1 + position_or_len is_mai
 later_place : (x : RoutineState) (xs : List RoutineState) (j k : ℕ) → is_main x ≡ false →
     position_or_len is_main xs + (j + 1) ≡ k → position_or_len is_main (x ∷ xs) + j ≡ k
 later_place x xs j k e h =
-    let p : position_or_len is_main (x ∷ xs) ≡ 1 + position_or_len is_main xs = ap (λ (b : Bool). if not b then 1 + position_or_len is_main xs else 0) e in omega arith
+    let n = position_or_len is_main xs in
+    let p : position_or_len is_main (x ∷ xs) ≡ 1 + n = ap (λ (b : Bool). if not b then 1 + n else 0) e in omega arith
 
 one_first : (x : RoutineState) (xs : List RoutineState) (b : Bool) → is_main x ≡ b →
     has_main (x ∷ xs) ≡ (b || has_main xs)
@@ -128,7 +129,8 @@ main_turn xs n i x b o q lt e t f h =
     let m : MainFrom (drop (n - i) xs) ((n - 1 - i) + 1) o = subst (λ j. MainFrom (drop (n - i) xs) j o) c h in
     let g : MainFrom (x ∷ drop (n - i) xs) (n - 1 - i) (if b then Some (n - 1 - i) else o) =
     main_cons x (drop (n - i) xs) (n - 1 - i) b o t m in
-    let d : drop (n - 1 - i) xs ≡ x ∷ drop (n - i) xs = drop_step xs (n - 1 - i) x e ∙ ap (λ j. x ∷ drop j xs) (let z : suc (n - 1 - i) ≡ n - i = omega arith in z) in
+    let z : suc (n - 1 - i) ≡ n - i = omega arith in
+    let d : drop (n - 1 - i) xs ≡ x ∷ drop (n - i) xs = drop_step xs (n - 1 - i) x e ∙ ap (λ j. x ∷ drop j xs) z in
     subst (λ j. MainFrom (drop j xs) j q) a (subst (λ ys. MainFrom ys (n - 1 - i) q) (sym d)
     (subst (MainFrom (x ∷ drop (n - i) xs) (n - 1 - i)) (sym f) g))
 

@@ -8,7 +8,6 @@ ghost use Rattle.c_finish.specs.Faults.{found, onto};
 ghost use Rattle.c_finish.specs.Tables.{AreUses, HasDefinitions};
 
 use crate::found::{Found, earlier, undefined};
-use crate::lengths::object_length;
 use crate::tables::{Uses, count, definition, global_at};
 use c_elaborator::{Waiting, Work};
 use ck_base::NoMemory;
@@ -101,7 +100,7 @@ fn reaches(length: Option<u64>, least: i128) -> bool
 fn waiting_fault(work: &Work<'_>, x: Waiting, rest: Option<Found>) -> Option<Found>
     ensures { (s : State) → Shows work.now s → found result ≡ onto (pending_faults s (pending_of x)) (found rest) }
 {
-    let length = object_length(work, x.object);
+    let length = work.object_length(x.object);
     if reaches(length, x.least) {
         rest
     } else {

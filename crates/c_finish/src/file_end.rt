@@ -8,7 +8,8 @@ ghost use Rattle.c_tree.specs.Programs.{last_faults, earliest, ended};
 ghost use Rattle.c_expressions.specs.Nodes.{IsWhole};
 ghost use Rattle.c_elaborator.specs.Work.{Shows};
 ghost use Rattle.c_passing.specs.Named.{HasSyntax};
-ghost use Rattle.c_finish.specs.Finished.{Finished, IsShown, IsFaultless, IsMain, IsSyntax, program_with, AreParts, EndsIn};
+ghost use Rattle.c_finish.specs.Finished.{Finished, IsShown, IsFaultless, IsMain, IsSyntax, program_with, AreParts};
+ghost use Rattle.c_finish.specs.Finished.{EndsIn};
 ghost use Rattle.c_finish.specs.Tables.{HasDefinitions};
 
 use crate::faults::last_fault;

@@ -8,7 +8,6 @@
 mod faults;
 mod file_end;
 mod found;
-mod lengths;
 mod main_function;
 mod numbering;
 mod objects;

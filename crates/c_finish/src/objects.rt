@@ -1,6 +1,7 @@
 //! The objects of the finished program (C11 6.9.2).
 
-ghost use Rattle.std.specs.Prelude.{◌≡◌, ◌<◌, ◌∷◌, [], true, Some, IfOk, OnOk, length, map, option_map, slice_get, ◌≤◌, ◌^◌, pos, neg_ℤ, ◌≤ℤ◌};
+ghost use Rattle.std.specs.Prelude.{◌≡◌, ◌<◌, ◌∷◌, [], true, Some, IfOk, OnOk, length, map, option_map, slice_get};
+ghost use Rattle.std.specs.Prelude.{◌≤◌, ◌^◌, pos, neg_ℤ, ◌≤ℤ◌};
 ghost use Rattle.std.specs.Borrow.{Bor};
 ghost use Rattle.c_tree.specs.Scopes.{State, StaticState};
 ghost use Rattle.c_tree.specs.Programs.{reach_of, pointing_of, initial_of, object_of};
@@ -9,10 +10,10 @@ ghost use Rattle.c_tree.specs.Views as views;
 ghost use Rattle.c_elaborator.specs.declared.work.Filling.{Filling as Given};
 ghost use Rattle.c_elaborator.specs.Work.{Shows, aiming_of};
 ghost use Rattle.c_elaborator.specs.Work as works;
-ghost use Rattle.c_finish.specs.Finished.{IsShown, IsFaultless, IsNear, AreNear, TargetFits, StartsFit, HaveNumbers, AreObjects, AddsObject, filled};
+ghost use Rattle.c_finish.specs.Finished.{IsShown, IsFaultless, IsNear, AreNear, TargetFits, StartsFit, HaveNumbers};
+ghost use Rattle.c_finish.specs.Finished.{AreObjects, AddsObject, filled};
 ghost use Rattle.c_finish.specs.Tables.{HasFillings};
 
-use crate::lengths::aim_length;
 use crate::tables::{count, filling, global_at};
 use c_copy::Numbers;
 use c_elaborator::{Bounds, Filling, Start, Work};
@@ -53,7 +54,7 @@ fn link_of(work: &Work<'_>, numbers: &Numbers, start: Start) -> Link
     requires near { IsNear (works.reach_of start.bounds) start.offset }
     ensures { (s : State) → Shows work.now s → views.pointing_of result ≡ pointing_of s (aiming_of start) }
 {
-    let known = aim_length(work, start.target);
+    let known = work.aim_length(start.target);
     let target = numbers.target(start.target);
     let (from, length) = reach(known, start.bounds);
     let low = low_of(from);

@@ -1,7 +1,7 @@
 -- The bytes of numbers that stand in an object.
 use Rattle.std.proofs.Common.{◌≡◌, ℕ, zero, suc, ◌+◌, ◌-◌, ◌*◌, ◌/◌, ◌%◌, ◌^◌, ◌<◌, ◌≤◌, ◌≢◌, min, max, Bool, true}
 use Rattle.std.proofs.Common.{false}
-use Rattle.std.proofs.Common.{cond, eqb, List, [], ◌∷◌, length, get_or, map, fold, refl, sym, ap, subst, ◌∙◌, inl, inr}
+use Rattle.std.proofs.Common.{cond, eqb, List, [], ◌∷◌, length, get_or, map, refl, sym, ap, subst, ◌∙◌, inl, inr}
 use Rattle.std.proofs.Common.{arith, take, ◌++◌}
 use Rattle.std.specs.Prelude.{nat_lt, nat_le, replicate}
 use Rattle.std.specs.List.{All}
@@ -67,16 +67,6 @@ put-done x count room k b h l = by_start (nat_le x.at k) refl
         rw (e, f) refl
 
 -- ---- all the numbers
-
-fold-max-from : {A : Type 0} (f : A → ℕ) (xs : List A) (n : ℕ) → n ≤ fold (λ n x. max n (f x)) n xs
-fold-max-from f [] n = omega arith
-fold-max-from f (x ∷ xs) n = let h = fold-max-from f xs (max n (f x)) in omega (arith, h)
-
-pub fold-max-each : {A : Type 0} (f : A → ℕ) (xs : List A) (n k : ℕ) (d : A) → k < length xs →
-    f (get_or xs k d) ≤ fold (λ n x. max n (f x)) n xs
-fold-max-each f [] n k d h = absurd (omega arith)
-fold-max-each f (x ∷ xs) n zero d h = let i = fold-max-from f xs (max n (f x)) in omega (arith, i)
-fold-max-each f (x ∷ xs) n (suc k) d h = fold-max-each f xs (max n (f x)) k d (omega arith)
 
 pub bytes-are : (bs : List ℕ) (xs : List meant.Placed) (from : ℕ) →
     ((k : ℕ) → k < length bs → get_or bs k 0 ≡ byte_at xs (from + k)) → bs ≡ bytes_from xs from (length bs)

@@ -12,8 +12,7 @@ use Rattle.c_tree.specs.Scopes.{RoutineState, State, Local, Aiming, with_changed
 use Rattle.ck_base.specs.declared.positions.Pos.{Pos}
 use Rattle.ck_base.specs.Tokens.{Lexeme}
 use Rattle.c_tree.specs.Readings as meant
-use Rattle.c_tree.specs.Readings.{Reading}
-use Rattle.c_tree.specs.Declarations.{static_of, complete_now, fill_local, init_action}
+use Rattle.c_tree.specs.Declarations.{static_of, complete_now}
 use Rattle.c_tree.specs.Initializers.{every_slot, with_count}
 use Rattle.c_tree.specs.Statics.{start_slots, initial_bytes}
 use Rattle.c_tree.specs.Statics as statics
@@ -420,20 +419,6 @@ local_steps u v w k of t name whole f r d there a =
     (λ s h. ap (λ ys. local_rest name.pos whole ys (type_in v.nodes t) s)
     (sym (work_slots_kept u v f.slots.items d.grows there))) a))
 
-pub local_fails : (u v : Work) (k of : ℕ) (name : Name) (whole : Pos) (f : Filled) (e : Refusal) →
-    Answers freely u v (completes_local k (with_count (type_in u.nodes of) f.count) (token_of u name).text) TypeThere
-    IsType (Err e) →
-    Answers freely u v (local_filled k (token_of u name) (type_in u.nodes of) whole (filled_in u.nodes f)) SlotsThere
-    AreSlots (Err e)
-local_fails u v k of name whole f e a =
-    let x = token_of u name in
-    let c = completes_local k (with_count (type_in u.nodes of) f.count) x.text in
-    let xs = slots_in u.nodes f.slots.items in
-    answers_at freely u v (local_filled k x (type_in u.nodes of) whole (filled_in u.nodes f))
-    (c >>= local_rest name.pos whole xs) SlotsThere AreSlots (Err e)
-    (λ s h. local-split k x (type_in u.nodes of) whole (filled_in u.nodes f) s)
-    (failed freely u v v c (local_rest name.pos whole xs) TypeThere IsType SlotsThere AreSlots e a)
-
 pub slots_step : (v w : Work) (p whole : Pos) (xs : List meant.Slot) (u : Ty) (r : Result (Vec Slot) Refusal) →
     Done quietly v v (complete_now u p) (NothingThere v tt) (IsNothing v tt) →
     Answers quietly v w (every_slot_of whole u xs) SlotsThere AreSlots r →
@@ -442,32 +427,3 @@ slots_step v w p whole xs u r d a =
     also_then freely free_law v v w (complete_now u p) (every_slot_of whole u xs) (NothingThere v tt)
     (IsNothing v tt) SlotsThere AreSlots r (freed v v (complete_now u p) NothingThere IsNothing (Ok tt) d)
     (freed v w (every_slot_of whole u xs) SlotsThere AreSlots r a)
-
-pub slots_fail : (v w : Work) (p whole : Pos) (xs : List meant.Slot) (u : Ty) (e : Refusal) →
-    Answers quietly v v (complete_now u p) NothingThere IsNothing (Err e) →
-    Answers freely v w (local_rest p whole xs u) SlotsThere AreSlots (Err e)
-slots_fail v w p whole xs u e a =
-    failed freely v v w (complete_now u p) (λ x. every_slot_of whole u xs) NothingThere IsNothing SlotsThere AreSlots e
-    (freed v v (complete_now u p) NothingThere IsNothing (Err e) a)
-
--- the statements of a local are made of these values
-pub fill_local_is : (k : ℕ) (t : Lexeme) (of : Ty) (r : Reading × Pos) (s : State) →
-    fill_local k t of r s ≡ (r.0.initializer (λ x. give tt) r.1 of 0 >>= λ f. local_filled k t of r.1 f
-    >>= λ xs. give (map (init_action k t.pos) xs)) s
-fill_local_is k t of r s = first (r.0.initializer (λ x. give tt) r.1 of 0 s)
-  where
-    second : (f : meant.Filled) (u : Ty) (o : Result (Unit {0} × State) Fault) →
-        continued (continued o (λ x. look)) (λ s. give (map (init_action k t.pos) (every_slot s r.1 u f.slots))) ≡
-        continued (continued (continued o (λ x. look)) (λ s. give (every_slot s r.1 u f.slots)))
-        (λ xs. give (map (init_action k t.pos) xs))
-    second f u (Ok x) = refl
-    second f u (Err e) = refl
-
-    first : (o : Result (meant.Filled × State) Fault) →
-        continued o (λ f. (let u = with_count of f.count in
-        change (local_completed k u t.text) >> complete_now u t.pos >> look
-        >>= λ s. give (map (init_action k t.pos) (every_slot s r.1 u f.slots))))
-        ≡ continued o (λ f. local_filled k t of r.1 f >>= λ xs. give (map (init_action k t.pos) xs))
-    first (Ok x) = let u = with_count of x.0.count in
-        second x.0 u (complete_now u t.pos (local_completed k u t.text x.1))
-    first (Err e) = refl

@@ -18,7 +18,7 @@ use Rattle.c_elaborator.specs.declared.work.Work.{Work}
 use Rattle.c_elaborator.specs.Work.{Shows}
 use Rattle.c_initializers.specs.declared.places.Place.{Place}
 use Rattle.c_initializers.specs.declared.scalars.Row.{Row}
-use Rattle.c_initializers.specs.Places.{place_in, IsPlaceThere, IsTagCount, ArePartsOf}
+use Rattle.c_initializers.specs.Places.{place_in, IsPlaceThere, IsTagCount}
 use Rattle.c_initializers.specs.Rows.{IsRowThere, row_scalars, rows_scalars, row_steps, rows_steps, AddsRows, Walks}
 use Rattle.c_initializers.specs.declared.covering.Extent.{Extent}
 use Rattle.c_initializers.specs.Slots.{is_needed, needed}
@@ -215,17 +215,6 @@ walked-first w es rows r places of tags e l p q k = record {
   are = λ s h. ap (λ x. map (place_in w) x ++ needed es (rows_scalars w s rows)) p
       ∙ ap (λ x. needed es (rows_scalars w s x)) e ∙ ap (needed es) (single-row w s r of 0 tags q)
       ∙ ap (needed es) (scalars-all w s (type_in w.nodes of) tags [] refl (k s h));
-}
-
--- nothing is left to walk
-pub walked-all : (w : Work) (es : List Extent) (rows : List Row) (places : List Place) (all : State → List (ℕ × Ty)) →
-    rows ≡ [] →
-    AllWalked w es rows places all → ArePartsOf w places (λ s. needed es (all s))
-walked-all w es rows places all e a = record {
-  there = a.places_there;
-  are = λ s h. sym (append-nil (map (place_in w) places))
-      ∙ ap (λ x. map (place_in w) places ++ needed es (rows_scalars w s x)) (sym e)
-      ∙ a.are s h;
 }
 
 -- fewer steps are left

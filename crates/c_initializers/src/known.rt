@@ -3,9 +3,9 @@
 ghost use Rattle.std.specs.Prelude.{◌≡◌, ℕ, ◌+◌, ◌<◌, ◌≤◌, ◌^◌, ◌&&◌, nat_le, Some, None, pos, ◌≤ℤ◌, neg_ℤ, reverse};
 ghost use Rattle.std.specs.Prelude.{option_map, slice_get, if◌then◌else◌, IfOk};
 ghost use Rattle.cap_concentrate.specs.Rounding.{owned};
-ghost use Rattle.c_tree.specs.Layout.{size_limit, fitting};
+ghost use Rattle.c_tree.specs.Layout.{size_limit};
 ghost use Rattle.c_tree.specs.Scopes.{State};
-ghost use Rattle.c_tree.specs.Statics.{There, static_length, text_length, aim_length, near_all, moved_to, inside};
+ghost use Rattle.c_tree.specs.Statics.{There, near_all, moved_to, inside};
 ghost use Rattle.c_tree.specs.Statics.{narrowed_in, narrowed, member_offset, move_by, pointed_at, target_size};
 ghost use Rattle.c_tree.specs.Views.{aim_of};
 ghost use Rattle.c_expressions.specs.Nodes.{IsWhole, type_in, term_in, type_count, term_count};
@@ -20,7 +20,7 @@ use crate::starts::{Known, Pointer, Value, is_exact, is_near};
 use c_elaborator::{Bounds, Work};
 use c_expressions::Class;
 use c_tree::{RecordKind, Target};
-use cap_layout::{LIMIT, owned};
+use cap_layout::owned;
 use ck_base::NoMemory;
 
 // What an object of so many bytes owns.
@@ -30,51 +30,6 @@ fn owned_bytes(n: u64) -> u64
     ensures small { result < 2 ^ 62 }
 {
     owned(n).length
-}
-
-// What an object of static storage duration owns, where its type is complete.
-fn object_length(work: &Work, k: u32) -> Option<u64>
-    ensures { (s : State) → Shows work.now s → static_length s (slice_get s.statics k) ≡ result }
-{
-    match work.nodes.p.globals.as_slice().get(k as usize) {
-        None => None,
-        Some(g) => {
-            if work.nodes.scopes.is_complete(&work.nodes.p, g.of) {
-                Some(owned_bytes(size_of(work, g.of)))
-            } else {
-                None
-            }
-        }
-    }
-}
-
-// So many bytes, within the limit of a size.
-fn fitting(n: u64) -> u64
-    ensures is { result ≡ fitting n }
-    ensures small { result ≤ size_limit }
-{
-    if n <= LIMIT { n } else { 0 }
-}
-
-// What a string literal owns.
-fn literal_length(work: &Work, k: u32) -> Option<u64>
-    ensures { (s : State) → Shows work.now s → text_length (slice_get s.texts k) ≡ result }
-{
-    match work.nodes.p.literals.as_slice().get(k as usize) {
-        None => None,
-        Some(text) => Some(owned_bytes(fitting(text.bytes.as_slice().len() as u64))),
-    }
-}
-
-// The bytes that an object or a literal owns, where its type is complete.
-fn aim_length(work: &Work, target: Target) -> Option<u64>
-    ensures { (s : State) → Shows work.now s → aim_length s (aim_of target) ≡ result }
-{
-    match target {
-        Target::Fun(_) => None,
-        Target::Literal(k) => literal_length(work, k),
-        Target::Global(k) => object_length(work, k),
-    }
 }
 
 // A pointer.
@@ -146,7 +101,7 @@ fn moved_to(
             let near = is_near(low, length, offset);
             Ok(place_if(near, target, bounds, offset, asks))
         }
-        Bounds::Whole => match aim_length(work, target) {
+        Bounds::Whole => match work.aim_length(target) {
             Some(length) => {
                 let near = is_near(0, length, offset);
                 Ok(place_if(near, target, bounds, offset, asks))
@@ -216,7 +171,7 @@ fn narrowed_in(
             let lies = lies_in(low, length, at, n);
             Ok(place_if(lies, target, part, offset, asks))
         }
-        Bounds::Whole => match aim_length(work, target) {
+        Bounds::Whole => match work.aim_length(target) {
             Some(length) => {
                 let lies = at + u128::from(n) <= u128::from(length);
                 Ok(place_if(lies, target, part, offset, asks))

@@ -1,5 +1,5 @@
 -- Steps whose values are not known from the work alone, one after another.
-use Rattle.std.proofs.Common.{◌≡◌, Result, Ok, Err, refl, sym, ap, ◌∙◌}
+use Rattle.std.proofs.Common.{◌≡◌, Result, Ok, Err, refl, ap, ◌∙◌}
 use Rattle.ck_base.specs.declared.refusal.Refusal.{Refusal}
 use Rattle.ck_base.specs.declared.refusal.Refusal.TheVariants.{Code, NoMemory}
 use Rattle.c_tree.specs.Scopes.{State, Doing, Fault, give, continued, ◌>>=◌, ◌>>◌}

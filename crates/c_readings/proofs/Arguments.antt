@@ -1,14 +1,12 @@
 -- The values of arguments, one behind another.
-use Rattle.std.proofs.Common.{◌≡◌, ℕ, ◌+◌, ◌<◌, ◌≤◌, List, [], ◌∷◌, ◌++◌, length, map, Option, Some, None, Result, Ok}
-use Rattle.std.proofs.Common.{Err, refl, sym, ap, subst, ◌∙◌, arith, append_assoc}
+use Rattle.std.proofs.Common.{◌≡◌, ℕ, ◌+◌, ◌<◌, List, [], ◌∷◌, ◌++◌, map, Result, Ok}
+use Rattle.std.proofs.Common.{Err, refl, sym, ap, subst, ◌∙◌, append_assoc}
 use Rattle.std.proofs.lemmas.List.{map-append, append-nil}
 use Rattle.std.specs.Global.{Vec}
-use Rattle.ck_base.specs.declared.positions.Pos.{Pos}
 use Rattle.ck_base.specs.declared.refusal.Refusal.{Refusal}
-use Rattle.ck_base.specs.Tokens.{Lexeme}
 use Rattle.c_tree.specs.declared.syntax.NodeKind.TheVariants as Kinds
-use Rattle.c_tree.specs.Syntax.{Syn, Syns, nil, more}
-use Rattle.c_tree.specs.Scopes.{State, Doing, Fault, give, refuse, continued, ◌>>=◌}
+use Rattle.c_tree.specs.Syntax.{Syn, Syns, nil}
+use Rattle.c_tree.specs.Scopes.{State, Doing, Fault, give, continued, ◌>>=◌}
 use Rattle.c_tree.specs.Conversions as meant
 use Rattle.c_tree.specs.Readings.{Reading}
 use Rattle.c_tree.specs.Expressions.{read_value, read_values}
@@ -21,7 +19,7 @@ use Rattle.c_elaborator.specs.Answers.{quietly, Answers, Done, Keeps, OperandThe
 use Rattle.c_elaborator.specs.Parts.{IsPart, AreParts}
 use Rattle.c_elaborator.proofs.Sequencing.{quiet_law, then, gave, answers_at, operand_kept, operand_there}
 use Rattle.c_readings.specs.Gathered.{AllThere, AreOperands, ReadSoFar}
-use Rattle.c_readings.proofs.Kids.{Cut, cut, no_parts, parts_kept}
+use Rattle.c_readings.proofs.Kids.{cut, no_parts, parts_kept}
 use Rattle.c_readings.proofs.Gathering.{step_then, step_failed, readings_more, readings_nil}
 
 -- ---- lists of operands

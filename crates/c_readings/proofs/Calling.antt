@@ -1,18 +1,18 @@
 -- Calls (C11 6.5.2.2).
-use Rattle.std.proofs.Common.{◌≡◌, ℕ, suc, List, [], ◌∷◌, length, Option, Some, None, refl, sym, ap, subst, ◌∙◌}
+use Rattle.std.proofs.Common.{◌≡◌, ℕ, List, [], ◌∷◌, length, Option, Some, None, refl, sym, ap, subst, ◌∙◌}
 use Rattle.ck_base.specs.declared.positions.Pos.{Pos}
 use Rattle.ck_base.specs.Tokens.{Lexeme}
 use Rattle.c_tree.specs.declared.syntax.NodeKind.{NodeKind}
 use Rattle.c_tree.specs.declared.syntax.NodeKind.TheVariants as Kinds
 use Rattle.c_tree.specs.Syntax.{Syn, Syns, node, nil, more}
-use Rattle.c_tree.specs.Scopes.{State, Doing, refuse}
+use Rattle.c_tree.specs.Scopes.{State, refuse}
 use Rattle.c_tree.specs.Readings.{Reading}
 use Rattle.c_tree.specs.Expressions.{expression_of, called, called_library, called_name, first_of}
 use Rattle.c_tree.specs.Programs.{reading, readings}
 use Rattle.c_elaborator.specs.declared.work.Work.{Work}
 use Rattle.c_elaborator.specs.Parts.{IsPart, AreParts}
 use Rattle.c_readings.specs.Gathered.{called_service, called_value}
-use Rattle.c_readings.proofs.Kids.{Cut, cut, no_parts, count, counted}
+use Rattle.c_readings.proofs.Kids.{cut, no_parts, count, counted}
 use Rattle.c_readings.proofs.Gathering.{readings_more}
 
 pub no_call : (w : Work) (t : Lexeme) (p : Pos) → t.pos ≡ p → (ks : List ℕ) → ks ≡ [] → (xs : Syns) → AreParts w ks xs →

@@ -1,17 +1,15 @@
 -- Declarators, by the production that each is (C11 6.7.6).
-use Rattle.std.proofs.Common.{◌≡◌, ℕ, suc, List, [], ◌∷◌, length, Option, Some, None, Result, Ok, Err, refl, sym, ap}
+use Rattle.std.proofs.Common.{◌≡◌, ℕ, List, [], ◌∷◌, Some, refl, sym, ap}
 use Rattle.std.proofs.Common.{subst, ◌∙◌}
 use Rattle.ck_base.specs.declared.positions.Pos.{Pos}
 use Rattle.ck_base.specs.Tokens.{Lexeme}
 use Rattle.c_tree.specs.declared.syntax.NodeKind.{NodeKind}
 use Rattle.c_tree.specs.declared.syntax.NodeKind.TheVariants as Kinds
-use Rattle.c_tree.specs.Syntax.{Syn, Syns, node, nil, more}
-use Rattle.c_tree.specs.Types.{Ty}
-use Rattle.c_tree.specs.Scopes.{State, Doing, refuse, give, ◌>>=◌}
-use Rattle.c_tree.specs.Readings.{Reading, Point, Row, Gives, Derived}
-use Rattle.c_tree.specs.Declarators.{declarator_of, parts_const, wrapped, array_length, typedef_name, type_name}
-use Rattle.c_tree.specs.Declarators.{record_specifier, enum_specifier}
-use Rattle.c_tree.specs.Programs.{reading, readings, type_of_kind}
+use Rattle.c_tree.specs.Syntax.{Syn, Syns, more}
+use Rattle.c_tree.specs.Scopes.{State, refuse, give, ◌>>=◌}
+use Rattle.c_tree.specs.Readings.{Reading, Point, Row, Derived}
+use Rattle.c_tree.specs.Declarators.{declarator_of, parts_const, wrapped}
+use Rattle.c_tree.specs.Programs.{reading, readings}
 use Rattle.c_elaborator.specs.declared.work.Work.{Work}
 use Rattle.c_elaborator.specs.Parts.{IsPart, AreParts}
 use Rattle.c_readings.specs.Kids.{HasEnds}

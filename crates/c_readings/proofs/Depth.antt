@@ -1,6 +1,6 @@
 -- A tree that stands in a list of nodes is no deeper than the list is long.
-use Rattle.std.proofs.Common.{◌≡◌, ℕ, suc, ◌+◌, ◌<◌, ◌≤◌, true, false, List, [], ◌∷◌, length, refl, sym, ap, subst, ◌∙◌}
-use Rattle.std.proofs.Common.{arith, ⊎_elim}
+use Rattle.std.proofs.Common.{◌≡◌, ℕ, suc, ◌+◌, ◌<◌, ◌≤◌, true, false, List, [], ◌∷◌, length, refl, sym, ap, subst}
+use Rattle.std.proofs.Common.{arith}
 use Rattle.std.specs.Prelude.{Bool, ◌||◌, max, ◌==◌}
 use Rattle.std.specs.List.{AllByRecursion, IsDistinct, list_any}
 use Rattle.std.proofs.lemmas.Bool.{eqb-true}
@@ -71,7 +71,8 @@ mutual
       AreDeeper nodes (depth x) qs → depth x + length qs ≤ length nodes
   fits nodes i x qs (stands {n = n} {t = t} {xs = xs} e p s f a) d h =
       let own : StandsAt nodes i (node n.kind t xs) = stands e p s f a in
-      let all = all_fit nodes n.kids xs (i ∷ qs) a (IsDistinct-cons (λ j k. j == k) i qs (apart nodes i (node n.kind t xs) qs own h) d) (
+      let alone = IsDistinct-cons (λ j k. j == k) i qs (apart nodes i (node n.kind t xs) qs own h) d in
+      let all = all_fit nodes n.kids xs (i ∷ qs) a alone (
         record {
           there = slice_get_within nodes i n e;
           deeper = λ y z. let same = same_depth nodes i (node n.kind t xs) y own z in omega arith;

@@ -1,5 +1,5 @@
 -- Parts that are read one behind another.
-use Rattle.std.proofs.Common.{◌≡◌, ℕ, List, [], ◌∷◌, Ok, Err, refl, sym, ap, subst, ◌∙◌}
+use Rattle.std.proofs.Common.{◌≡◌, ℕ, List, [], ◌∷◌, Ok, Err, sym, ap, subst, ◌∙◌}
 use Rattle.ck_base.specs.declared.refusal.Refusal.{Refusal}
 use Rattle.c_tree.specs.Syntax.{Syn, Syns, nil, more}
 use Rattle.c_tree.specs.Scopes.{State, Doing, give, ◌>>=◌}

@@ -13,7 +13,6 @@ use Rattle.c_tree.specs.declared.syntax.StepOperator.{StepOperator}
 use Rattle.c_tree.specs.declared.syntax.PrefixOperator.TheVariants as prefixes
 use Rattle.c_tree.specs.declared.typed.UnaryOp.{UnaryOp}
 use Rattle.c_tree.specs.Syntax.{Syn, Syns, node, nil, more}
-use Rattle.c_tree.specs.Types.{Ty}
 use Rattle.c_tree.specs.Scopes.{State, Doing, Fault, give, refuse, continued, ◌>>=◌}
 use Rattle.c_tree.specs.Conversions as meant
 use Rattle.c_tree.specs.Conversions.{operand_type}
@@ -103,13 +102,11 @@ pub both_done : {A B : Type 0} (u v w : Work) (d : Doing A) (e : Doing B) (a c :
     U → Done quietly u v d T (λ s z. z ≡ a) → Done quietly v w e S (λ s z. z ≡ b) →
     Done quietly u w (both d e) U (λ s z. z ≡ (let p : Two A B = record { left = c; right = b } in p))
 both_done {A} {B} u v w d e a c b T S U h t p q =
-    let Is : Work → Unit {0} → State → Two A B → Type 0 = λ x y s z. z ≡ (let r : Two A B = record { left = c; right = b } in r) in
-    then quietly quiet_law u v w d (λ z. e >>= λ y. give (let r : Two A B = record { left = z; right = y } in r)) a T
-    (λ x y. U) Is (Ok tt) p
-    (then quietly quiet_law v w w e (λ y. give (let r : Two A B = record { left = a; right = y } in r)) b S
-    (λ x y. U) Is (Ok tt) q
-    (subst (λ (z : A). Done quietly w w (give (let r : Two A B = record { left = z; right = b } in r)) U (Is w tt))
-    (sym h)
+    let two : A → B → Two A B = λ y z. record { left = y; right = z } in
+    let Is : Work → Unit {0} → State → Two A B → Type 0 = λ x y s z. z ≡ two c b in
+    then quietly quiet_law u v w d (λ z. e >>= λ y. give (two z y)) a T (λ x y. U) Is (Ok tt) p
+    (then quietly quiet_law v w w e (λ y. give (two a y)) b S (λ x y. U) Is (Ok tt) q
+    (subst (λ (z : A). Done quietly w w (give (two z b)) U (Is w tt)) (sym h)
     (gave quietly quiet_law w (let r : Two A B = record { left = c; right = b } in r) U q.whole t)))
 
 -- ---- what is read of some parts

@@ -1,11 +1,9 @@
 -- The parts of a node from those of the tree.
-use Rattle.std.proofs.Common.{◌≡◌, ℕ, zero, suc, ◌+◌, ◌-◌, ◌<◌, ◌≤◌, List, [], ◌∷◌, length, Option, Some, None, take}
+use Rattle.std.proofs.Common.{◌≡◌, ℕ, zero, suc, ◌-◌, ◌<◌, ◌≤◌, List, [], ◌∷◌, length, Some, take}
 use Rattle.std.proofs.Common.{drop, refl, sym, ap, subst, ◌∙◌, arith, length-drop, ⊎_elim}
 use Rattle.std.proofs.lemmas.List.{take_min, drop_all}
 use Rattle.std.proofs.lemmas.Bool.{cases_lt}
 use Rattle.std.specs.Prelude.{slice_get, slice_range, min}
-use Rattle.ck_base.specs.declared.positions.Pos.{Pos}
-use Rattle.ck_base.specs.declared.positions.Span.{Span}
 use Rattle.ck_base.specs.Tokens.{Lexeme}
 use Rattle.c_tree.specs.declared.syntax.Node.{Node}
 use Rattle.c_tree.specs.Expressions.{first_of}
@@ -117,7 +115,8 @@ spelled_node : (f : List ℕ) (k : _) (t : Lexeme) (xs : Syns) → IsSpelled f (
 unfolding IsSpelled
 spelled_node f k t xs h = h
 
-written_node : (k : _) (t : Lexeme) (xs : Syns) → IsWritten (node k t xs) → TokenFits k t × PartsFit k xs × AreWritten xs
+written_node : (k : _) (t : Lexeme) (xs : Syns) → IsWritten (node k t xs) →
+    TokenFits k t × PartsFit k xs × AreWritten xs
 unfolding IsWritten
 written_node k t xs h = h
 

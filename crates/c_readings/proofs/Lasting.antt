@@ -1,11 +1,8 @@
 -- What is named goes on being named, and what stands for it.
-use Rattle.std.proofs.Common.{◌≡◌, ℕ, zero, suc, ◌<◌, ◌≤◌, ◌+◌, List, [], ◌∷◌, ◌++◌, length, map, Option, Some, None}
+use Rattle.std.proofs.Common.{◌≡◌, ℕ, suc, ◌<◌, ◌≤◌, List, [], ◌∷◌, map}
 use Rattle.std.proofs.Common.{false, refl, sym, ap, subst, ◌∙◌, arith}
 use Rattle.std.specs.Prelude.{All, bytes_eq, reverse, slice_index_or, option_map}
-use Rattle.std.specs.Global.{Vec}
 use Rattle.std.specs.List.{list_any}
-use Rattle.std.proofs.lemmas.List.{map-append}
-use Rattle.std.proofs.lemmas.List.Elements.{All-push}
 use Rattle.ck_base.specs.declared.positions.Pos.{Pos}
 use Rattle.ck_base.specs.declared.tokens.TokenKind.TheVariants.{Word}
 use Rattle.ck_base.specs.Tokens.{Lexeme}
@@ -19,8 +16,7 @@ use Rattle.c_types.specs.Declares.{storage_of}
 use Rattle.c_expressions.specs.Nodes.{type_in, type_count}
 use Rattle.c_elaborator.specs.declared.work.Work.{Work}
 use Rattle.c_elaborator.specs.declared.work.Name.{Name}
-use Rattle.c_elaborator.specs.Work.{Shows}
-use Rattle.c_elaborator.specs.Answers.{Keeps, Quiet, Still}
+use Rattle.c_elaborator.specs.Answers.{Keeps}
 use Rattle.c_elaborator.specs.Parts.{token_of}
 use Rattle.c_declarators.specs.declared.members.Members.{Members}
 use Rattle.c_declarators.specs.declared.parts.Specified.{Specified}

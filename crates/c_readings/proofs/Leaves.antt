@@ -1,7 +1,5 @@
 -- What names and literals are, by their tokens.
-use Rattle.std.proofs.Common.{◌≡◌, ℕ, List, refl, sym, ap, subst, ◌∙◌}
-use Rattle.ck_base.specs.declared.positions.Pos.{Pos}
-use Rattle.ck_base.specs.declared.positions.Span.{Span}
+use Rattle.std.proofs.Common.{◌≡◌, ℕ, List, sym, ap, subst, ◌∙◌}
 use Rattle.ck_base.specs.declared.tokens.TokenKind.{TokenKind}
 use Rattle.ck_base.specs.declared.tokens.TokenKind.TheVariants.{Word, Number, Char, Text}
 use Rattle.ck_base.specs.Tokens.{Lexeme}

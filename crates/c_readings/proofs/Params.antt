@@ -1,5 +1,5 @@
 -- Parameters, one behind another.
-use Rattle.std.proofs.Common.{◌≡◌, ℕ, Bool, true, false, List, [], ◌∷◌, ◌++◌, map, Ok, Err, refl, sym, ap, subst, ◌∙◌}
+use Rattle.std.proofs.Common.{◌≡◌, ℕ, Bool, true, false, List, [], ◌∷◌, ◌++◌, map, Ok, Err, sym, ap, subst, ◌∙◌}
 use Rattle.std.specs.Prelude.{All, if◌then◌else◌}
 use Rattle.std.specs.Global.{Vec}
 use Rattle.std.proofs.lemmas.List.{map-append}
@@ -11,7 +11,7 @@ use Rattle.c_tree.specs.Programs.{reading}
 use Rattle.ck_base.specs.declared.refusal.Refusal.{Refusal}
 use Rattle.c_elaborator.specs.declared.work.Work.{Work}
 use Rattle.c_elaborator.specs.Answers.{quietly, Done, Answers, NothingThere, IsNothing}
-use Rattle.c_elaborator.specs.Parts.{IsPart, AreParts}
+use Rattle.c_elaborator.specs.Parts.{IsPart}
 use Rattle.c_elaborator.proofs.Sequencing.{quiet_law, then as after, also_then, failed, gave, told, answers_at}
 use Rattle.c_elaborator.proofs.Sequencing.{keeps_then}
 use Rattle.c_declarators.specs.declared.parts.Param.{Param}

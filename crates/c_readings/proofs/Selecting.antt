@@ -1,5 +1,5 @@
 -- Members that are named (C11 6.5.2.3).
-use Rattle.std.proofs.Common.{◌≡◌, ℕ, suc, List, [], ◌∷◌, length, Option, Some, refl, sym, ap, subst, ◌∙◌}
+use Rattle.std.proofs.Common.{◌≡◌, ℕ, List, [], ◌∷◌, Some, refl, sym, ap, subst, ◌∙◌}
 use Rattle.std.specs.Prelude.{slice_get}
 use Rattle.ck_base.specs.declared.positions.Pos.{Pos}
 use Rattle.ck_base.specs.Tokens.{Lexeme}
@@ -9,8 +9,7 @@ use Rattle.c_tree.specs.declared.syntax.NodeKind.TheVariants as Kinds
 use Rattle.c_tree.specs.declared.syntax.Selection.{Selection}
 use Rattle.c_tree.specs.declared.syntax.Selection.TheVariants.{Direct, Indirect}
 use Rattle.c_tree.specs.Syntax.{Syn, Syns, node, nil, more}
-use Rattle.c_tree.specs.Scopes.{State, Doing, refuse, ◌>>=◌}
-use Rattle.c_tree.specs.Conversions.{Operand}
+use Rattle.c_tree.specs.Scopes.{State, refuse, ◌>>=◌}
 use Rattle.c_tree.specs.Readings.{Reading}
 use Rattle.c_tree.specs.Expressions.{read_value, expression_of, selected, member, member_behind}
 use Rattle.c_tree.specs.Programs.{reading, readings}
@@ -18,7 +17,7 @@ use Rattle.c_types.specs.Stands.{text_at}
 use Rattle.c_elaborator.specs.declared.work.Work.{Work}
 use Rattle.c_elaborator.specs.Parts.{IsPart, AreParts}
 use Rattle.c_readings.specs.Kids.{HasNot}
-use Rattle.c_readings.proofs.Kids.{Opened, opened, cut, no_parts, count, counted}
+use Rattle.c_readings.proofs.Kids.{opened, cut, no_parts, count, counted}
 use Rattle.c_readings.proofs.Gathering.{readings_more}
 
 pub direct_is : (t word : Lexeme) (p : Pos) (name : List ℕ) → t.pos ≡ p → word.text ≡ name → (r : Reading) (s : State) →

@@ -1,6 +1,6 @@
 -- Specifiers, type names, members and parameters, by their parts (C11 6.7.2, 6.7.2.1, 6.7.6.3, 6.7.7).
-use Rattle.std.proofs.Common.{◌≡◌, ℕ, zero, suc, ◌+◌, ℤ, Bool, true, false, List, [], ◌∷◌, ◌++◌, length, map, Option}
-use Rattle.std.proofs.Common.{Some, None, Result, Ok, Err, refl, sym, ap, subst, ◌∙◌, arith, append_assoc}
+use Rattle.std.proofs.Common.{◌≡◌, ℕ, ◌+◌, ℤ, Bool, true, false, List, [], ◌∷◌, ◌++◌, length}
+use Rattle.std.proofs.Common.{Some, None, Result, Ok, Err, refl, sym, ap, ◌∙◌, arith, append_assoc}
 use Rattle.std.specs.Prelude.{◌==◌, ◌&&◌, ◌||◌, not, if◌then◌else◌, pos}
 use Rattle.std.proofs.lemmas.List.{append-nil}
 use Rattle.ck_base.specs.declared.positions.Pos.{Pos}
@@ -17,9 +17,9 @@ use Rattle.c_tree.specs.Declarators.{member_declarators, all_members, add_member
 use Rattle.c_tree.specs.Declarators.{parameter_list, bind_parameter, enumerators, enumerator, constant, enumerate}
 use Rattle.c_tree.specs.Programs.{reading, readings, type_of_kind}
 use Rattle.c_declarators.specs.Steps as steps
-use Rattle.c_readings.specs.Specifying.{names_kind, some_list, maybe_type, types_on, type_behind, unstored, within}
-use Rattle.c_readings.specs.Specifying.{members_on, members_of, member_declarator, declarators_on, declarator_at}
-use Rattle.c_readings.specs.Specifying.{enumerators_on, enumerator_at, params_on, bound_behind, param_behind}
+use Rattle.c_readings.specs.Specifying.{names_kind, some_list, types_on, type_behind, unstored, within}
+use Rattle.c_readings.specs.Specifying.{members_on, members_of, declarators_on, declarator_at}
+use Rattle.c_readings.specs.Specifying.{enumerators_on, enumerator_at, params_on, param_behind}
 use Rattle.c_readings.proofs.Among.{bind_ext, bind_bind}
 use Rattle.c_readings.proofs.Gathering.{readings_more, readings_nil}
 

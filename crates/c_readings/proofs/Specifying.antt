@@ -1,7 +1,7 @@
 -- What is answered of specifiers, type names, members, enumerators and declarators, from the answers of their parts.
-use Rattle.std.proofs.Common.{◌≡◌, ℕ, suc, ◌<◌, ◌≤◌, Bool, true, false, List, [], ◌∷◌, ◌++◌, length, map, Option, Some}
+use Rattle.std.proofs.Common.{◌≡◌, ℕ, ◌<◌, Bool, true, false, List, [], ◌∷◌, ◌++◌, length, map, Option, Some}
 use Rattle.std.proofs.Common.{None, Result, Ok, Err, refl, sym, ap, subst, ◌∙◌, arith}
-use Rattle.std.specs.Prelude.{All, ℤ, if◌then◌else◌, not, ◌||◌, ◌==◌, reverse, option_map}
+use Rattle.std.specs.Prelude.{All, ℤ, if◌then◌else◌, not, ◌||◌, ◌==◌, option_map}
 use Rattle.std.specs.Global.{Vec}
 use Rattle.std.proofs.lemmas.List.{map-append, append-nil}
 use Rattle.std.proofs.lemmas.List.Elements.{All-push}
@@ -20,19 +20,17 @@ use Rattle.c_types.specs.declared.scopes.Scope.{Scope}
 use Rattle.c_expressions.specs.Nodes.{IsWhole, type_in, type_count}
 use Rattle.c_elaborator.specs.declared.work.Work.{Work}
 use Rattle.c_elaborator.specs.declared.work.Name.{Name}
-use Rattle.c_elaborator.specs.Work.{Shows}
 use Rattle.c_elaborator.specs.Answers.{quietly, Keeps, Done, Answers, TypeThere, IsType, NothingThere, IsNothing}
 use Rattle.c_elaborator.proofs.Sequencing.{quiet_law, also_then, failed, gave, told, answers_at, need_true, need_false}
 use Rattle.c_declarators.specs.declared.parts.Specified.{Specified}
 use Rattle.c_declarators.specs.declared.parts.Param.{Param}
 use Rattle.c_declarators.specs.declared.parts.Prototype.{Prototype}
 use Rattle.c_declarators.specs.declared.parts.Wrap.{Wrap}
-use Rattle.c_declarators.specs.declared.parts.Wrap.TheVariants.{Row, Gives}
 use Rattle.c_declarators.specs.declared.parts.Derived.{Derived}
 use Rattle.c_declarators.specs.Forming.{ParamIsThere, WrapIsThere}
 use Rattle.c_declarators.specs.Parts.{in_any, SpecifiedThere, IsSpecified, DerivedThere, IsDerived, IsWrap}
-use Rattle.c_declarators.specs.Parts.{ShowsDerived, shown_in, any_scope, name_token, param_in, CountThere, IsCount}
-use Rattle.c_declarators.specs.Parts.{NumberThere, IsNumber, ScopeThere, ShowsScopeOf, IsPrototype}
+use Rattle.c_declarators.specs.Parts.{ShowsDerived, shown_in, any_scope, name_token, param_in}
+use Rattle.c_declarators.specs.Parts.{NumberThere, IsNumber, ScopeThere, ShowsScopeOf}
 use Rattle.c_declarators.specs.Steps.{closing}
 use Rattle.c_declarators.proofs.Lasting.{derived_lasts}
 use Rattle.c_declarators.proofs.Deriving.{nothing_derived, part_derived, part_there}
@@ -40,11 +38,11 @@ use Rattle.c_elaborator.specs.Parts.{IsPart}
 use Rattle.c_readings.specs.Folding.{SoFar}
 use Rattle.c_readings.proofs.Folding.{fold_more, fold_fails}
 use Rattle.c_readings.proofs.Specifiers.{enumerators_more}
-use Rattle.c_readings.specs.Specifying.{enumerators_on, enumerator_at, some_list, maybe_type, unstored, within}
+use Rattle.c_readings.specs.Specifying.{enumerators_on, enumerator_at, some_list, maybe_type, unstored}
 use Rattle.c_readings.specs.Specifying.{MaybeTypeThere, IsMaybeType, ParamsThere, AreParams, PrototypeThere}
 use Rattle.c_readings.specs.Specifying.{ShowsPrototype}
 use Rattle.c_readings.proofs.Among.{bind_ext, then_shown, then_refused, then_failed, joined_done, made_done}
-use Rattle.c_readings.proofs.Lasting.{all_weaker, types_there, types_kept, specified_there, specified_kept}
+use Rattle.c_readings.proofs.Lasting.{types_there, types_kept, specified_kept}
 use Rattle.c_readings.proofs.Lasting.{some_specified}
 use Rattle.c_readings.proofs.Lasting.{some_derived, without_scopes, derived_there, params_kept, params_there}
 
@@ -120,7 +118,9 @@ pub unstored_done : (u v : Work) (r : Reading) (b : Bool) (p : Pos) (s : Specifi
     Answers quietly u v (unstored r b p) SpecifiedThere (in_any IsSpecified) (Ok s)
 unstored_done u v r b p s e d =
     let a = some_specified v s in
-    let each : (x : meant.Specified) → IsSpecified v s x → Answers quietly v v (need (not (x.stored || b)) 133 p >> give x) SpecifiedThere (in_any IsSpecified) (Ok s) = λ x i.
+    let each : (x : meant.Specified) → IsSpecified v s x →
+    Answers quietly v v (need (not (x.stored || b)) 133 p >> give x) SpecifiedThere (in_any IsSpecified) (Ok s) =
+    λ x i.
     answers_at quietly v v (need (not (x.stored || b)) 133 p >> give x) (give x) SpecifiedThere (in_any IsSpecified)
     (Ok s)
     (λ t z. need_true (not (x.stored || b)) 133 p (give x) t (ap (λ (c : Bool). not (c || b)) i.stored ∙ ap not e))

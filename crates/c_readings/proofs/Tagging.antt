@@ -1,5 +1,5 @@
 -- Structs, unions and enumerations, by the tag that stands first (C11 6.7.2.1 to 6.7.2.3).
-use Rattle.std.proofs.Common.{◌≡◌, ℕ, suc, List, [], ◌∷◌, length, Bool, true, Option, Some, None, Result, Ok, Err, refl}
+use Rattle.std.proofs.Common.{◌≡◌, ℕ, List, [], ◌∷◌, length, Bool, true, Some, None, refl}
 use Rattle.std.proofs.Common.{sym, ap, subst, ◌∙◌}
 use Rattle.std.proofs.lemmas.Option.{none-some}
 use Rattle.std.specs.Prelude.{slice_get, pos}
@@ -11,16 +11,15 @@ use Rattle.c_tree.specs.declared.syntax.NodeKind.TheVariants as Kinds
 use Rattle.c_tree.specs.declared.syntax.RecordKind.{RecordKind}
 use Rattle.c_tree.specs.Syntax.{Syn, Syns, node, nil, more}
 use Rattle.c_tree.specs.Types.{int}
-use Rattle.c_tree.specs.Scopes.{State, Fault, give, continued, ◌>>=◌, ◌>>◌}
+use Rattle.c_tree.specs.Scopes.{State, give, ◌>>=◌, ◌>>◌}
 use Rattle.c_tree.specs.Readings.{Reading}
 use Rattle.c_tree.specs.Declarators.{record_specifier, enum_specifier, enumerators, named_tag}
 use Rattle.c_tree.specs.Programs.{reading, readings}
 use Rattle.c_elaborator.specs.declared.work.Work.{Work}
 use Rattle.c_elaborator.specs.declared.work.Name.{Name}
 use Rattle.c_elaborator.specs.Parts.{AreParts, token_of}
-use Rattle.c_declarators.specs.Steps.{new_enumeration_of, named_enumeration_of}
-use Rattle.c_readings.specs.declared.tree.TagParts.{TagParts}
-use Rattle.c_readings.specs.Kids.{IsTagged, tag_of, tail_of, name_of}
+use Rattle.c_declarators.specs.Steps.{new_enumeration_of}
+use Rattle.c_readings.specs.Kids.{tag_of, tail_of, name_of}
 use Rattle.c_readings.specs.Specifying.{untagged, filled, tagged_record, listed, tagged_enumeration}
 use Rattle.c_readings.proofs.Kids.{opened, cut, no_parts}
 use Rattle.c_readings.proofs.Leaves.{tag_is}
@@ -55,9 +54,6 @@ tag_first w ks js k n m e g h i xs p =
     )
 
 -- ---- a list of readings behind the first
-
-readings_tail : (xs : Syns) (x : Syn) (ys : Syns) → xs ≡ more x ys → readings (tail_of xs) ≡ readings ys
-readings_tail xs x ys e = ap (λ (z : Syns). readings (tail_of z)) e
 
 -- ---- records
 

@@ -1,5 +1,5 @@
 -- Parts of the tree that go at most so deep.
-use Rattle.std.proofs.Common.{◌≡◌, ℕ, zero, suc, ◌+◌, ◌-◌, ◌<◌, ◌≤◌, List, [], ◌∷◌, length, get_or, refl, sym, ap}
+use Rattle.std.proofs.Common.{◌≡◌, ℕ, zero, suc, ◌-◌, ◌<◌, ◌≤◌, List, [], ◌∷◌, length, get_or, refl, sym, ap}
 use Rattle.std.proofs.Common.{subst, ◌∙◌, arith}
 use Rattle.std.proofs.lemmas.Option.{none-some, slice_get_within}
 use Rattle.std.specs.Prelude.{slice_get, max, Some, None}
@@ -135,7 +135,8 @@ node_low w k n h g =
 
 pub kids_in : {d : ℕ} (w : Work) (n : Node) (ks : List ℕ) → NodeWithin w d n → ks ≡ n.kids → PartsWithin w d ks
 kids_in w n ks h e =
-    record { syntax = h.syntax; are = subst (λ (z : List ℕ). AreParts w z h.syntax) (sym e) h.is.parts; within = h.within }
+    let are = subst (λ (z : List ℕ). AreParts w z h.syntax) (sym e) h.is.parts in
+    record { syntax = h.syntax; are = are; within = h.within }
 
 pub kids_low : {d : ℕ} (w : Work) (k : ℕ) (n : Node) → PartWithin w d k → slice_get w.tree.now.nodes k ≡ Some n →
     PartsWithin w d n.kids

@@ -11,7 +11,7 @@ use Rattle.c_tree.specs.Expressions.{read_value, read_values, assign, compound, 
 use Rattle.c_tree.specs.Libraries.{services}
 use Rattle.c_expressions.specs.declared.nodes.Operand.{Operand}
 use Rattle.c_operators.specs.Called.{AreThere}
-use Rattle.c_expressions.specs.Nodes.{term_count, type_count, type_in}
+use Rattle.c_expressions.specs.Nodes.{term_count, type_in}
 use Rattle.c_elaborator.specs.declared.work.Work.{Work}
 use Rattle.c_elaborator.specs.Answers.{quietly, Done, OperandThere, operand_in, TypeThere}
 use Rattle.c_elaborator.specs.Parts.{AreParts}

@@ -4,7 +4,6 @@ use Rattle.ck_base.specs.Tokens.{Lexeme}
 use Rattle.c_tree.specs.declared.syntax.Node.{Node}
 use Rattle.c_tree.specs.declared.syntax.NodeKind.TheVariants as Kinds
 use Rattle.c_tree.specs.Syntax.{Syns, node, nil, more}
-use Rattle.c_expressions.specs.Nodes.{IsWhole}
 use Rattle.c_types.specs.Stands.{text_at}
 use Rattle.c_elaborator.specs.declared.work.Work.{Work}
 use Rattle.c_elaborator.specs.declared.work.Name.{Name}

@@ -7,7 +7,7 @@ use Rattle.ck_base.specs.Tokens.{Lexeme}
 use Rattle.c_tree.specs.declared.syntax.NodeKind.{NodeKind}
 use Rattle.c_tree.specs.declared.syntax.NodeKind.TheVariants as Kinds
 use Rattle.c_tree.specs.declared.syntax.RecordKind.{RecordKind}
-use Rattle.c_tree.specs.Syntax.{Syn, Syns, nil, more}
+use Rattle.c_tree.specs.Syntax.{Syn, Syns}
 use Rattle.c_tree.specs.Types.{Ty, Tagged, int}
 use Rattle.c_tree.specs.Scopes.{Part, State, Doing, give, need, change, ◌>>=◌, ◌>>◌}
 use Rattle.c_tree.specs.Readings.{Reading, Specified, Param, Prototype, Row, Gives, Derived}

@@ -148,7 +148,10 @@ pub items_joined : (w : Work) (found more longer : Items) → longer.vars.items 
     longer.actions.items ≡ found.actions.items ++ more.actions.items →
     both (items_in w found) (items_in w more) ≡ items_in w longer
 items_joined w found more longer e f =
-    ap (λ vs. (let x : meant.Items = record { vars = vs; actions = map (action_in w) found.actions.items ++ map (action_in w) more.actions.items } in x)) (sym e)
+    ap (λ vs. (let x : meant.Items = record {
+      vars = vs;
+      actions = map (action_in w) found.actions.items ++ map (action_in w) more.actions.items;
+    } in x)) (sym e)
     ∙ ap (λ fs. (let x : meant.Items = record { vars = longer.vars.items; actions = fs } in x))
     (sym (map-append (action_in w) found.actions.items more.actions.items) ∙ ap (map (action_in w)) (sym f))
 

@@ -102,7 +102,10 @@ items_step u v w k p xs x i j n d l a e f = record {
         stays = tt;
         shows = a.shows s shows;
         fits = ap (λ vs.
-            (let y : meant.Items = record { vars = vs; actions = map (init_action k p) (slots_in u.nodes (xs ++ x ∷ [])) } in y)) vars
+            (let y : meant.Items = record {
+              vars = vs;
+              actions = map (init_action k p) (slots_in u.nodes (xs ++ x ∷ []));
+            } in y)) vars
             ∙ ap (λ fs. (let y : meant.Items = record { vars = j.vars.items; actions = fs } in y)) acts;
       };
 }

@@ -16,7 +16,7 @@ use Rattle.c_tree.specs.Statements.{first_part, optional_test, optional_step, su
 use Rattle.c_tree.specs.Statements.{for_action, switch_items, no_cases, does}
 use Rattle.c_statements.specs.Statements.{ForHead, SwitchedOn, for_with, switch_with, inside_of, further, evaluated}
 use Rattle.c_statements.specs.Statements.{evaluate_one, return_of}
-use Rattle.c_tree.specs.Declarations.{no_items, declaration}
+use Rattle.c_tree.specs.Declarations.{declaration}
 use Rattle.c_tree.specs.Statements as statements
 use Rattle.c_tree.specs.Statements.{switch_item, case_label, add_label}
 use Rattle.c_tree.specs.Programs.{reading, readings}
@@ -78,7 +78,8 @@ switch_is c t xs r rs s = at (read_value r s)
         >>= λ cases. does (Switch cases.items.vars cases.labels)
         (one_term (converted_term (promoted (operand_type a)) a.is)) (actions cases.items.actions) t.pos)) s
         ≡ continued ((need b 133 a.first
-        >> give (let o : SwitchedOn = record { of = promoted (operand_type a); value = converted_term (promoted (operand_type a)) a.is } in o)) s)
+        >> give (let t = promoted (operand_type a) in
+        let o : SwitchedOn = record { of = t; value = converted_term t a.is } in o)) s)
         (λ on. in_scope (switch_items (in_a_switch c) on.of xs rs no_cases)
         >>= λ cases. does (Switch cases.items.vars cases.labels) (one_term on.value)
         (actions cases.items.actions) t.pos)
@@ -91,7 +92,8 @@ switch_is c t xs r rs s = at (read_value r s)
         >>= λ cases. does (Switch cases.items.vars cases.labels)
         (one_term (converted_term (promoted (operand_type a)) a.is)) (actions cases.items.actions) t.pos))
         ≡ continued (continued o (λ a. need (is_integer (operand_type a)) 133 a.first
-        >> give (let o : SwitchedOn = record { of = promoted (operand_type a); value = converted_term (promoted (operand_type a)) a.is } in o)))
+        >> give (let t = promoted (operand_type a) in
+        let o : SwitchedOn = record { of = t; value = converted_term t a.is } in o)))
         (λ on. in_scope (switch_items (in_a_switch c) on.of xs rs no_cases)
         >>= λ cases. does (Switch cases.items.vars cases.labels) (one_term on.value)
         (actions cases.items.actions) t.pos)
@@ -211,10 +213,6 @@ IsExpression k = Unit {0}
 pub declares_first : (c : meant.Context) (t : Lexeme) (xs : Syns) →
     first_part c (node Kinds.Declaration t xs) (reading (node Kinds.Declaration t xs)) ≡ declaration t.pos (readings xs)
 declares_first c t xs = ap (λ (r : Reading). r.item c) (reading_node Kinds.Declaration t xs)
-
-pub nothing_first : (c : meant.Context) (t : Lexeme) (xs : Syns) (r : Reading) →
-    first_part c (node Kinds.Absent t xs) r ≡ give no_items
-nothing_first c t xs r = refl
 
 pub evaluates_first : (c : meant.Context) (k : NodeKind) (t : Lexeme) (xs : Syns) (r : Reading) → IsExpression k →
     first_part c (node k t xs) r ≡ evaluate_one r (first_token (node k t xs)).pos

@@ -30,11 +30,6 @@ Holds Q (Err e) = Unit {0}
 
 -- ---- through tests
 
-pub holds_need : {A : Type 0} (Q : A → State → Type 0) (b : Bool) (code : ℕ) (p : Pos) (d : Doing A) (s : State) →
-    (b ≡ true → Holds Q (d s)) → Holds Q ((need b code p >> d) s)
-holds_need Q true code p d s h = h refl
-holds_need Q false code p d s h = tt
-
 pub sound : (a b : Bool) → not (a || b) ≡ true → b ≡ false
 sound a false e = refl
 sound true true e = absurd cc

@@ -54,14 +54,16 @@ pub stated : (u v : Work) (t : Lexeme) (xs : Syns) (c : meant.Context) (k j : No
     k ≡ j → Answers freely u v (statement_of j t xs (readings xs) c) OnlyThere IsItems r →
     Answers freely u v (statement_of k t xs (readings xs) c) (ItemThere (node k t xs)) IsItems r
 stated u v t xs c k j r e a =
-    subst (λ (i : NodeKind). Answers freely u v (statement_of i t xs (readings xs) c) (ItemThere (node i t xs)) IsItems r)
+    subst (λ (i : NodeKind).
+    Answers freely u v (statement_of i t xs (readings xs) c) (ItemThere (node i t xs)) IsItems r)
     (sym e) (as_statement u v (statement_of j t xs (readings xs) c) (node j t xs) r a)
 
 pub declared : (u v : Work) (t : Lexeme) (xs : Syns) (c : meant.Context) (k : NodeKind) (r : Result Items Refusal) →
     k ≡ Kinds.Declaration → Answers freely u v (declaration t.pos (readings xs)) ItemsThere IsItems r →
     Answers freely u v (statement_of k t xs (readings xs) c) (ItemThere (node k t xs)) IsItems r
 declared u v t xs c k r e a =
-    subst (λ (i : NodeKind). Answers freely u v (statement_of i t xs (readings xs) c) (ItemThere (node i t xs)) IsItems r)
+    subst (λ (i : NodeKind).
+    Answers freely u v (statement_of i t xs (readings xs) c) (ItemThere (node i t xs)) IsItems r)
     (sym e) (as_declaration u v (declaration t.pos (readings xs)) t xs r a)
 
 pub within : (u v : Work) (t : Lexeme) (xs : Syns) (c : meant.Context) (k j : NodeKind) (r : Result Items Refusal) →

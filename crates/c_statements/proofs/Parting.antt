@@ -17,9 +17,7 @@ use Rattle.c_readings.specs.Kids.{HasNot}
 use Rattle.c_elaborator.specs.Items.{OnlyThere, IsItems}
 use Rattle.c_elaborator.specs.declared.items.Items.{Items}
 use Rattle.c_statements.specs.Statements.{for_in, for_with, switch_in, switch_with, case_of}
-use Rattle.c_readings.specs.Within.{PartWithin, PartsWithin}
 use Rattle.c_readings.proofs.Kids.{cut, no_parts}
-use Rattle.c_readings.proofs.Within.{first_within, others_within}
 use Rattle.c_statements.proofs.Stating.{readings_more, readings_nil, readings_not}
 
 -- ---- for
@@ -55,7 +53,8 @@ for_answers u v ks i j k l c p r e h xs q =
     let is : xs ≡ more m1.head (more m2.head (more m3.head (more m4.head nil))) =
     m1.is ∙ ap (more m1.head) (m2.is
     ∙ ap (more m2.head) (m3.is ∙ ap (more m3.head) (m4.is ∙ ap (more m4.head) (no_parts u m4.tail m4.others)))) in
-    let read : readings (more m1.head (more m2.head (more m3.head (more m4.head nil)))) ≡ reading m1.head ∷ reading m2.head ∷ reading m3.head ∷ reading m4.head ∷ [] =
+    let read : readings (more m1.head (more m2.head (more m3.head (more m4.head nil))))
+    ≡ reading m1.head ∷ reading m2.head ∷ reading m3.head ∷ reading m4.head ∷ [] =
     readings_more m1.head (more m2.head (more m3.head (more m4.head nil)))
     ∙ ap (λ (z : List Reading). reading m1.head ∷ z) (readings_more m2.head (more m3.head (more m4.head nil))
     ∙ ap (λ (z : List Reading). reading m2.head ∷ z) (readings_more m3.head (more m4.head nil)
@@ -66,18 +65,6 @@ for_answers u v ks i j k l c p r e h xs q =
     (for_in c p (more m1.head (more m2.head (more m3.head (more m4.head nil)))) rs) OnlyThere IsItems r)
     (sym read)
     (h m1.head m2.head m3.head m4.head m1.first m2.first m3.first m4.first))
-
-pub four_within : {d : ℕ} (w : Work) (ks : List ℕ) (i j k l : ℕ) → ks ≡ i ∷ j ∷ k ∷ l ∷ [] → PartsWithin w d ks →
-    PartWithin w d i × PartWithin w d j × PartWithin w d k × PartWithin w d l
-four_within {d} w ks i j k l e h =
-    let p = subst (λ (z : List ℕ). PartsWithin w d z) e h in
-    let q = others_within w i (j ∷ k ∷ l ∷ []) p in
-    let r = others_within w j (k ∷ l ∷ []) q in (
-      first_within w i (j ∷ k ∷ l ∷ []) p,
-      first_within w j (k ∷ l ∷ []) q,
-      first_within w k (l ∷ []) r,
-      first_within w l [] (others_within w k (l ∷ []) r),
-    )
 
 -- ---- switch
 

@@ -138,13 +138,6 @@ pub lone_other : (xs : Syns) (x : Syn) (of : Ty) → xs ≡ more x nil → (kind
     (is_text xs && takes_string of) ≡ false
 lone_other xs x of e k = rw e (rw (other_alone x k) refl)
 
-pub lone_value : (xs : Syns) (of : Ty) → takes_string of ≡ false → (is_text xs && takes_string of) ≡ false
-lone_value xs of h = rw h (none (is_text xs))
-  where
-    none : (b : Bool) → (b && false) ≡ false
-    none true = refl
-    none false = refl
-
 pub not_alone : (w : Work) (ks : List ℕ) (xs : Syns) (of : Ty) → AreParts w ks xs → (length ks ≡ 1 → ⊥) →
     (is_text xs && takes_string of) ≡ false
 not_alone w [] xs of p h = rw (no_parts w xs p) refl

@@ -8,7 +8,7 @@ use Rattle.ck_base.specs.declared.refusal.Refusal.{Refusal}
 use Rattle.ck_base.specs.declared.refusal.Refusal.TheVariants.{Code}
 use Rattle.c_tree.specs.declared.typed.StmtKind.{StmtKind}
 use Rattle.c_tree.specs.declared.typed.StmtKind.TheVariants as stmts
-use Rattle.c_tree.specs.Terms.{Term, type_of, terms, no_terms, with_term, Action, actions, no_actions, Evaluate, If}
+use Rattle.c_tree.specs.Terms.{Term, type_of, terms, no_terms, Action, actions, no_actions, Evaluate, If}
 use Rattle.c_tree.specs.Terms.{While, Do, For, Switch, Return}
 use Rattle.c_tree.specs.Terms as tree
 use Rattle.c_tree.specs.Syntax.{Syn}
@@ -42,7 +42,8 @@ use Rattle.c_elaborator.specs.declared.items.Items.{Items}
 use Rattle.c_statements.specs.declared.heads.Head.{Head}
 use Rattle.c_statements.specs.declared.labels.Cases.{Cases}
 use Rattle.c_statements.specs.declared.labels.Controlling.{Controlling}
-use Rattle.c_elaborator.specs.Items.{ValuesThere, ActionThere, ActionsThere, IsOnlyAction, ItemsThere, OnlyThere, IsItems}
+use Rattle.c_elaborator.specs.Items.{ValuesThere, ActionThere, ActionsThere, IsOnlyAction, ItemsThere, OnlyThere}
+use Rattle.c_elaborator.specs.Items.{IsItems}
 use Rattle.c_elaborator.specs.Items.{items_in}
 use Rattle.c_statements.specs.Statements.{evaluate_one, IsJump, jump_form, jumping, switched, return_one, MaybeThere}
 use Rattle.c_statements.specs.Statements.{IsMaybe, maybe_term, HeadThere, IsHead, head_in, ForHead, for_of, SwitchedOn}
@@ -114,7 +115,9 @@ pub ifs_else : (u v w x y : Work) (c : meant.Context) (r q o : Reading) (p : Pos
     >>= λ bs. does If (one_term t) (actions (fs ++ bs)) p) OnlyThere IsItems z
 ifs_else u v w x y c r q o p a b e z h k l d =
     let first : Term = term_in v.nodes a in
-    let known : term_in x.nodes a ≡ first = l.grows.terms a (let m = k.grows.more_terms in let n = h.there in omega arith) ∙ k.grows.terms a h.there in
+    let m = k.grows.more_terms in
+    let n = h.there in
+    let known : term_in x.nodes a ≡ first = l.grows.terms a (omega arith) ∙ k.grows.terms a n in
     and_then freely free_law u v y (test r) (λ t. substatement c q >>= λ fs. substatement c o
     >>= λ bs. does If (one_term t) (actions (fs ++ bs)) p) first (TermThere v a) OnlyThere IsItems z
     (freed u v (test r) TermThere IsTerm (Ok a) h)
@@ -155,18 +158,10 @@ dos u v w x c r q p a b z k h d =
 
 -- ---- for
 
-list_terms_is : (xs : List Term) → list_terms xs ≡ terms xs
-list_terms_is [] = refl
-list_terms_is (x ∷ xs) = ap (with_term x) (list_terms_is xs)
-
 maybe_kept : (u v : Work) (o : Option ℕ) → ((k : ℕ) → k < term_count u.nodes → term_in v.nodes k ≡ term_in u.nodes k) →
     MaybeThere u o → maybe_term v o ≡ maybe_term u o
 maybe_kept u v None h t = refl
 maybe_kept u v (Some k) h t = ap (λ x. x ∷ []) (h k t)
-
-maybe_listed : (w : Work) (o : Option ℕ) → maybe_term w o ≡ listed (term_at (terms_of w.nodes.p)) o
-maybe_listed w None = refl
-maybe_listed w (Some k) = refl
 
 maybe_some : (w : Work) (o : Option ℕ) → has_one (maybe_term w o) ≡ is_some o
 maybe_some w None = refl

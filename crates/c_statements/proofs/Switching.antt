@@ -52,9 +52,18 @@ pub cases_begin : (c : meant.Context) (of : Ty) (u : Work) (ks : List ℕ) (foun
     AreParts u ks xs → CasesSoFar c of u u xs ks found
 cases_begin c of u ks found w e f g xs p =
     let nothing : cases_in u found ≡ no_cases =
-    ap (λ vs. (let x : statements.Cases = record { items = record { vars = vs; actions = map (action_in u) found.items.actions.items }; labels = map label_of (labels_in found) } in x)) e
-    ∙ ap (λ fs. (let x : statements.Cases = record { items = record { vars = []; actions = map (action_in u) fs }; labels = map label_of (labels_in found) } in x)) f
-    ∙ ap (λ ls. (let x : statements.Cases = record { items = record { vars = []; actions = [] }; labels = map label_of ls } in x)) g in
+    ap (λ vs. (let x : statements.Cases = record {
+      items = record { vars = vs; actions = map (action_in u) found.items.actions.items };
+      labels = map label_of (labels_in found);
+    } in x)) e
+    ∙ ap (λ fs. (let x : statements.Cases = record {
+      items = record { vars = []; actions = map (action_in u) fs };
+      labels = map label_of (labels_in found);
+    } in x)) f
+    ∙ ap (λ ls. (let x : statements.Cases = record {
+      items = record { vars = []; actions = [] };
+      labels = map label_of ls;
+    } in x)) g in
     record {
       rest = xs;
       parts = p;
@@ -140,7 +149,10 @@ labelled u v d l p cases (Ok new) a t h =
           ∷ [];
     })) s (ap not h.0)
     ∙ ap (λ (n : ℕ).
-    give (let z : statements.Cases = record { items = items_in u cases.items; labels = ls ++ record { value = l; before = n } ∷ [] } in z) s) (length-map cases.items.actions.items (action_in u))
+    give (let z : statements.Cases = record {
+      items = items_in u cases.items;
+      labels = ls ++ record { value = l; before = n } ∷ [];
+    } in z) s) (length-map cases.items.actions.items (action_in u))
     ∙ ap (λ (ms : List Label). give (let z : statements.Cases = record { items = items_in u cases.items; labels = ms }
     in z) s) (sym (map-append label_of (labels_in cases) (x ∷ [])) ∙ ap (map label_of) (sym h.2))
     ∙ ap (λ (i : meant.Items).
@@ -171,7 +183,10 @@ pub more_items : (u v : Work) (d : Doing meant.Items) (given : Items) (cases lon
     labels_in longer ≡ labels_in cases →
     Done freely u v
     (d >>= λ i. give
-    (let z : statements.Cases = record { items = both (items_in u cases.items) i; labels = map label_of (labels_in cases) } in z)) (CasesThere v longer) (IsCases v longer)
+    (let z : statements.Cases = record {
+      items = both (items_in u cases.items) i;
+      labels = map label_of (labels_in cases);
+    } in z)) (CasesThere v longer) (IsCases v longer)
 more_items u v d given cases longer a t e f g =
     let ls = map label_of (labels_in cases) in
     let there : CasesThere v longer =

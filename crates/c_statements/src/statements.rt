@@ -400,7 +400,8 @@ fn for_with(
 ) -> Result<Items, Refusal>
     requires whole { IsWhole work.old.nodes }
     requires context { ContextThere work.old context }
-    requires head { PartWithin work.old depth x.head.first × PartWithin work.old depth x.head.second × PartWithin work.old depth x.head.third }
+    requires head { PartWithin work.old depth x.head.first × PartWithin work.old depth x.head.second ×
+        PartWithin work.old depth x.head.third }
     requires body { PartThat IsStatement work.old depth x.last }
     ensures { (x1 x2 x3 x4 : Syn) → IsPart work.old x.head.first x1 → IsPart work.old x.head.second x2 →
         IsPart work.old x.head.third x3 → IsPart work.old x.last x4 →

@@ -30,7 +30,9 @@ returns-in-Err c = λ x y hx hy.
     ∙ nothing_is w c.args.only c.args.d.now y (type_in w.nodes c.args.s.of) hy
     ∙ sym c.is_nothing-nothing.ensures in
     judged_err w (record w { nodes = c.adjusted.new.nodes }) _ (λ s. judge f false false c.place_of-at.result.pos)
-    (λ s. give (let r : meant_parts.Param = record { name = y.name; at = at; of = of; nothing = c.is_nothing-nothing.result } in r)) ParamThere (in_any IsParam) c.in-Err.refusal
+    (λ s. give (let n = c.is_nothing-nothing.result in
+    let r : meant_parts.Param = record { name = y.name; at = at; of = of; nothing = n } in r))
+    ParamThere (in_any IsParam) c.in-Err.refusal
     (λ s k. parameter_step s c.args.only x t y f of at c.is_nothing-nothing.result
     (ap (λ u. formed s u y.wraps) hx.of
     ∙ formed_is any_scope w c.form.new.nodes c.in_ok-formed.formed c.args.s.of c.args.d.now.wraps.items y.wraps s

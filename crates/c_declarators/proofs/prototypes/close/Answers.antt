@@ -1,4 +1,4 @@
-use Rattle.std.proofs.Common.{◌≡◌, List, length, map}
+use Rattle.std.proofs.Common.{length}
 use Rattle.c_tree.specs.Scopes as meant
 use Rattle.c_tree.specs.Scopes.{State}
 use Rattle.c_tree.specs.Views.{types_of}

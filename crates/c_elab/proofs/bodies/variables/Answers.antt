@@ -34,7 +34,8 @@ loop-v-preserved c =
 
 pub returns-clause-are : goal.returns-clause-are
 returns-clause-are c = c.loop-v.invariant.are
-    ∙ ap (λ (ys : List VarDef). map (variable_seen c.args.work.now) (variables_from c.args.work.now 0 ys)) (take_all c.loop-v.v-index c.args.locals.now c.loop-v-test.false)
+    ∙ ap (λ (ys : List VarDef). map (variable_seen c.args.work.now) (variables_from c.args.work.now 0 ys))
+    (take_all c.loop-v.v-index c.args.locals.now c.loop-v-test.false)
 
 pub variable-x-requires-clause-marked : goal.variable-x-requires-clause-marked
 variable-x-requires-clause-marked c =

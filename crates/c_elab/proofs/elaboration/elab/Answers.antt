@@ -57,7 +57,8 @@ finish-requires c =
 
 pub returns-in_err-all_externals : goal.returns-in_err-all_externals
 returns-in_err-all_externals c =
-    let q = err_from_is_err_and c.from_residual-in_err-all_externals.result c.from_residual-in_err-all_externals.ensures.1 in λ x r.
+    let f = c.from_residual-in_err-all_externals in
+    let q = err_from_is_err_and f.result f.ensures.1 in λ x r.
     let w : Work = c.in_ok-work.work in
     let p = root_is w c.args.tree.now c.args.file.now x c.in_ok-work.ensures.tree c.in_ok-work.ensures.file r in
     rw (q.1, q.2) (elaboration_fails x w c.all_externals.new.work _ c.in_ok-work.ensures.shows

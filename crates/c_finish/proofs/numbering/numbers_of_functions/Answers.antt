@@ -23,8 +23,9 @@ loop-k-preserved c =
       filled = λ s h. filled_push (numbers_of s).1 c.loop-k.table.items c.push.new.self.items c.loop-k.next k
           c.in_ok-push.ensures.items inv.count (inv.filled s h) (inv.next s h);
       next = λ s h.
-          let lt : k < length s.routines = let a : k < c.in_ok-n.n = c.loop-k-test.true in let b : c.in_ok-n.n ≡ length s.routines = c.in_ok-n.ensures ∙ ap length c.as_slice.ensures ∙ routines_count w s h in omega arith in
-          let x = at_some s.routines k lt in
+          let a : k < c.in_ok-n.n = c.loop-k-test.true in
+          let b = c.in_ok-n.ensures ∙ ap length c.as_slice.ensures ∙ routines_count w s h in
+          let x = at_some s.routines k (omega arith) in
           count_step (λ (f : RoutineState). is_there f.body) s.routines k x.0 c.is_defined-is_there.result c.loop-k.next
           c.one_more-next.result x.1 (sym c.is_defined-is_there.ensures ∙ sym (body_there w s k x.0 h x.1))
           (inv.next s h) c.one_more-next.ensures;

@@ -23,8 +23,9 @@ loop-k-preserved c =
       filled = λ s h. filled_push (numbers_of s).0 c.loop-k.table.items c.push.new.self.items c.loop-k.next k
           c.in_ok-push.ensures.items inv.count (inv.filled s h) (inv.next s h);
       next = λ s h.
-          let lt : k < length s.statics = let a : k < c.in_ok-n.n = c.loop-k-test.true in let b : c.in_ok-n.n ≡ length s.statics = c.in_ok-n.ensures ∙ ap length c.as_slice.ensures ∙ statics_count w s h in omega arith in
-          let x = at_some s.statics k lt in
+          let a : k < c.in_ok-n.n = c.loop-k-test.true in
+          let b = c.in_ok-n.ensures ∙ ap length c.as_slice.ensures ∙ statics_count w s h in
+          let x = at_some s.statics k (omega arith) in
           count_step (λ (g : StaticState). g.defined) s.statics k x.0 c.is_defined.result c.loop-k.next
           c.one_more-next.result x.1 (c.is_defined.ensures w.nodes.p s h.stands ∙ ap is_defined x.1)
           (inv.next s h) c.one_more-next.ensures;

@@ -7,8 +7,9 @@ use Rattle.c_finish.proofs.objects.objects.Goals as goal
 
 pub loop-k-preserved : goal.loop-k-preserved
 loop-k-preserved c = λ s h.
-    let lt : c.loop-k.k < length s.statics = let a : c.loop-k.k < c.in_ok-n.n = c.loop-k-test.true in let z = c.in_ok-n.ensures ∙ ap length c.as_slice.ensures ∙ statics_count c.args.work.now s h in omega arith in
-    c.in_ok-add_object.ensures s h lt (c.loop-k.invariant s h)
+    let a : c.loop-k.k < c.in_ok-n.n = c.loop-k-test.true in
+    let z = c.in_ok-n.ensures ∙ ap length c.as_slice.ensures ∙ statics_count c.args.work.now s h in
+    c.in_ok-add_object.ensures s h (omega arith) (c.loop-k.invariant s h)
 
 pub returns : goal.returns
 returns c = λ s h.

@@ -12,8 +12,9 @@ loop-k-init c = record {
 pub loop-k-preserved : goal.loop-k-preserved
 loop-k-preserved c = record {
   are = λ s h.
-      let lt : c.loop-k.k < length s.routines = let a : c.loop-k.k < c.in_ok-n.n = c.loop-k-test.true in let z = c.in_ok-n.ensures ∙ ap length c.as_slice.ensures ∙ routines_count c.args.work.now s h in omega arith in
-      c.in_ok-add_routine.ensures.adds s h lt (c.loop-k.invariant.are s h);
+      let a : c.loop-k.k < c.in_ok-n.n = c.loop-k-test.true in
+      let z = c.in_ok-n.ensures ∙ ap length c.as_slice.ensures ∙ routines_count c.args.work.now s h in
+      c.in_ok-add_routine.ensures.adds s h (omega arith) (c.loop-k.invariant.are s h);
   bodies = λ h. c.in_ok-add_routine.ensures.bodies (c.loop-k.invariant.bodies h);
 }
 

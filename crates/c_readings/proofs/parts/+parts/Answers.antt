@@ -1,4 +1,4 @@
-use Rattle.std.proofs.Common.{◌≡◌, ℕ, ◌∷◌, [], List, true, false, refl, sym, ap, subst, ◌∙◌, arith, Ok, Err}
+use Rattle.std.proofs.Common.{◌≡◌, ℕ, [], List, true, false, refl, sym, ap, subst, ◌∙◌, arith, Ok, Err}
 use Rattle.std.proofs.lemmas.Result.{err_from_is_err_and}
 use Rattle.c_tree.specs.declared.syntax.NodeKind.{NodeKind}
 use Rattle.c_tree.specs.declared.syntax.NodeKind.TheVariants as Kinds
@@ -15,14 +15,14 @@ use Rattle.c_elaborator.specs.declared.work.Name.{Name}
 use Rattle.c_readings.proofs.Leaves.{word_is, fits_name, fits_number, fits_character, fits_text, number_is, texts_of}
 use Rattle.c_readings.proofs.Leaves.{character_is}
 use Rattle.c_readings.proofs.Leaves.{literal_is}
-use Rattle.c_tree.specs.Expressions.{read_value, expression_of, selected, member, member_behind, gives, named, number}
+use Rattle.c_tree.specs.Expressions.{read_value, expression_of, selected, member, member_behind, named, number}
 use Rattle.c_tree.specs.Expressions.{character, text, index, infix_join, stepped, address, dereference, unary_on}
 use Rattle.c_tree.specs.Expressions.{conditional, cast, sized, unevaluated}
 use Rattle.c_tree.specs.Conversions.{value}
 use Rattle.c_expressions.specs.Nodes.{type_in}
 use Rattle.c_elaborator.specs.Answers.{quietly, Answers, OperandThere, IsOperand, operand_in, TypeThere, IsType}
 use Rattle.c_elaborator.specs.Parts.{AreOf, AreParts, token_of}
-use Rattle.c_elaborator.proofs.Sequencing.{quiet_law, then, gave, operand_kept, operand_there, type_there}
+use Rattle.c_elaborator.proofs.Sequencing.{quiet_law, then, operand_kept, operand_there, type_there}
 use Rattle.c_readings.specs.Gathered.{operand_of, type_of, both, one_operand, one_value, one_type, two_values}
 use Rattle.c_readings.specs.Gathered.{place_and_value, three_values, type_and_value, assigning, PairThere, IsPair}
 use Rattle.c_readings.specs.Gathered.{two_in}
@@ -33,21 +33,19 @@ use Rattle.c_tree.specs.declared.syntax.Selection.TheVariants.{Direct, Indirect}
 use Rattle.c_readings.proofs.Selecting.{selects, not_selected, direct_is, indirect_is}
 use Rattle.std.specs.Prelude.{map, slice_get, Some, None, Option}
 use Rattle.c_expressions.specs.declared.nodes.Operand.{Operand as Node}
-use Rattle.c_expressions.specs.Nodes.{term_count}
-use Rattle.c_operators.specs.Called.{AreThere}
 use Rattle.c_tree.specs.Libraries.{services}
 use Rattle.c_tree.specs.Expressions.{read_values, library_call, call, called}
 use Rattle.c_elaborator.proofs.Sequencing.{answers_at}
 use Rattle.c_readings.specs.Within.{PartsWithin, PartsThat}
-use Rattle.c_readings.specs.Gathered.{ReadSoFar, AllThere, AreOperands, called_service, called_value}
+use Rattle.c_readings.specs.Gathered.{ReadSoFar, called_service, called_value}
 use Rattle.c_readings.proofs.Kids.{cut}
-use Rattle.c_readings.proofs.Arguments.{so_far_begins, so_far_ends, so_far_fails, so_far_steps, operands_kept}
+use Rattle.c_readings.proofs.Arguments.{so_far_begins, so_far_ends, so_far_fails, so_far_steps}
 use Rattle.c_readings.proofs.Calling.{no_call, call_is, service_is, value_is}
 use Rattle.c_readings.proofs.Others.{no_expression}
 use Rattle.c_elaborator.proofs.Unevaluated.{unevaluated_operand, unevaluated_type}
 use Rattle.c_readings.proofs.Gathering.{at_node, step_failed, step_then, both_done, answers_one, answers_two}
 use Rattle.c_readings.proofs.Gathering.{answers_three, refused_one, refused_two, refused_three}
-use Rattle.c_readings.proofs.Gathering.{parenthesized_is, postfix_is, step_is, address_is, indirection_is}
+use Rattle.c_readings.proofs.Gathering.{postfix_is, step_is, address_is, indirection_is}
 use Rattle.c_readings.proofs.Gathering.{unary_is, size_of_expression_is, size_of_type_is, index_is, infix_is, cast_is}
 use Rattle.c_readings.proofs.Gathering.{assignment_is, conditional_is}
 use Rattle.std.specs.Prelude.{FitsSigned, All, Bool, ℤ, pos, Result, ◌&&◌, ◌==◌, ◌++◌, length, reverse}
@@ -57,7 +55,7 @@ use Rattle.ck_base.specs.declared.refusal.Refusal.TheVariants.{Code}
 use Rattle.c_tree.specs.declared.typed.Member.{Member}
 use Rattle.c_tree.specs.Syntax.{StandAt}
 use Rattle.c_tree.specs.Types.{int}
-use Rattle.c_tree.specs.Scopes.{Part, give, ◌>>◌}
+use Rattle.c_tree.specs.Scopes.{give, ◌>>◌}
 use Rattle.c_tree.specs.Readings as meant
 use Rattle.c_tree.specs.Declarators as declarations
 use Rattle.c_tree.specs.Declarators.{names_type, named_types, specifiers, typedef_name, type_name, record_specifier}

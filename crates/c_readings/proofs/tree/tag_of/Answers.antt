@@ -18,5 +18,6 @@ returns-in-Tag c = λ xs p. tag_first c.args.work.now c.args.kids.now c.in-Some.
     c.name_of.ensures xs p
 
 pub returns-in_default : goal.returns-in_default
-returns-in_default c = λ xs p. other_first c.args.work.now c.args.kids.now c.in-Some.part.others.now c.in-Some.part.first
+returns-in_default c = λ xs p.
+    other_first c.args.work.now c.args.kids.now c.in-Some.part.others.now c.in-Some.part.first
     c.node_at-node.result.now c.in-Some.ensures c.node_at-node.ensures c.in_default.not-Tag xs p

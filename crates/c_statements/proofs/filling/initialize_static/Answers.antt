@@ -26,6 +26,7 @@ returns-in_err-fill_static c =
 
 pub returns : goal.returns
 returns c = λ x p.
-    static_filled_so c.args.work.now c.initializer.new.work c.fill_static.new.work c.args.k c.args.name c.static_type-of.result
+    static_filled_so c.args.work.now c.initializer.new.work c.fill_static.new.work c.args.k c.args.name
+    c.static_type-of.result
     (reading x) c.args.b.first c.in_ok-filled.filled c.no_items.result c.static_type-of.ensures.is
     (c.in_ok-filled.ensures x p) c.in_ok-fill_static.ensures c.no_items.ensures.vars c.no_items.ensures.actions

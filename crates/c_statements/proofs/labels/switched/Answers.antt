@@ -28,7 +28,9 @@ returns-in_err-a c = let p = err_from_is_err_and c.from_residual.result c.from_r
     let v = c.value_of.new.work in
     rw (p.1, p.2) (failed quietly c.args.work.now v v (read_value (reading x))
     (λ a. need (is_integer (operand_type a)) 133 a.first
-    >> give (let y : SwitchedOn = record { of = promoted (operand_type a); value = converted_term (promoted (operand_type a)) a.is } in y)) OperandThere IsOperand SwitchedThere IsSwitched _ (c.in_err-a.ensures x q))
+    >> give (let t = promoted (operand_type a) in
+    let y : SwitchedOn = record { of = t; value = converted_term t a.is } in y))
+    OperandThere IsOperand SwitchedThere IsSwitched _ (c.in_err-a.ensures x q))
 
 pub returns-then-not-is_integer : goal.returns-then-not-is_integer
 returns-then-not-is_integer c =

@@ -41,7 +41,8 @@ use Rattle.c_statements.proofs.Inside.{default_item, other_item}
 use Rattle.c_statements.proofs.Parting.{for_refused, for_answers, switch_refused, switch_answers}
 use Rattle.c_elaborator.proofs.Scoping.{in_scope_failed, enter_failed, alone_in_scope}
 use Rattle.c_statements.specs.Only.{ItemThere}
-use Rattle.c_statements.proofs.Only.{some_items, as_statement, stated, declared, within, one_in_scope, two_that, three_that}
+use Rattle.c_statements.proofs.Only.{some_items, as_statement, stated, declared, within, one_in_scope, two_that}
+use Rattle.c_statements.proofs.Only.{three_that}
 use Rattle.c_statements.proofs.Only.{four_that, one_statement}
 use Rattle.c_statements.proofs.Bracing.{in_scope_cases}
 use Rattle.c_statements.proofs.Stating.{reading_node, from_two, from_three, not_two, not_three}
@@ -461,7 +462,8 @@ statement-returns-in-Continue t c = λ t' xs n.
     let w = c.jump-in-Continue.new.work in
     let d = context_in u c.args.context in
     stated u w t' xs d c.args.node.now.kind Kinds.Continue c.jump-in-Continue.result c.in-Continue.is
-    (at_place u w (λ p. jumping stmts.Continue d.in_loop p) OnlyThere t'.pos c.args.node.now.pos c.jump-in-Continue.result n.place
+    (at_place u w (λ p. jumping stmts.Continue d.in_loop p) OnlyThere t'.pos c.args.node.now.pos
+    c.jump-in-Continue.result n.place
     c.jump-in-Continue.ensures)
 
 pub statement-returns-in-Return : goal.statement-returns-in-Return
@@ -701,7 +703,8 @@ scoped-inside-requires t c =
 
 pub scoped-leave-requires : goal.scoped-leave-requires
 scoped-leave-requires t c =
-    let n = node_within_kept c.args.work.now c.enter.new.work c.args.node.now c.in_ok-enter.ensures.grows c.requires.node
+    let n = node_within_kept c.args.work.now c.enter.new.work c.args.node.now c.in_ok-enter.ensures.grows
+    c.requires.node
     in
     record { whole = (c.in_ok-items.ensures n.token n.syntax n.is).whole }
 
@@ -1385,4 +1388,5 @@ further_item-returns t c = λ x p.
     let d = context_in u c.args.context in
     let e = c.in_ok-longer.ensures in
     more_items u w ((reading x).item d) c.in_ok-more.more c.args.cases c.in_ok-longer.longer
-    (some_items u w ((reading x).item d) x (Ok c.in_ok-more.more) (c.in_ok-more.ensures x p)) c.requires.cases e.vars e.actions e.labels
+    (some_items u w ((reading x).item d) x (Ok c.in_ok-more.more) (c.in_ok-more.ensures x p))
+    c.requires.cases e.vars e.actions e.labels
