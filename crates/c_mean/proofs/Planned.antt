@@ -13,7 +13,6 @@ use Rattle.obj_mem.specs.Values.{Value, Int, Live, Fun, Raw}
 use Rattle.cheri_c_sem.specs.Kinds.{nothing}
 use Rattle.cheri_c_sem.specs.Modes.{Store, operations, placed_plan, below, frame_within, local_offset}
 use Rattle.cheri_c_sem.specs.Operations.{Base}
-use Rattle.object_memory.specs.Allocations.{HasHeap}
 use Rattle.object_memory.specs.Answers.{HasBase, mode_of}
 use Rattle.mean_operations.specs.Answers.{IsWord}
 use Rattle.mean_run.specs.Allocated.{IsEntered}
@@ -22,10 +21,6 @@ use Rattle.c_mean.specs.HeldMemory.{IsRoomy, IsRoomyIn, plan_of}
 pub mode_is : (d : known.Mode) → mode_of d ≡ (plan_of d).mode
 mode_is (mode.Placed m) = refl
 mode_is mode.Strict = refl
-
-pub has_heap : (d : known.Mode) → IsRoomyIn d → HasHeap (plan_of d).mode
-has_heap (mode.Placed m) h = let small = (h m refl).0 in omega arith
-has_heap mode.Strict h = tt
 
 -- ---- under a map
 

@@ -21,7 +21,7 @@ use Rattle.cheri_c_sem.specs.Types.{is_record, is_void, scalar_of, is_pointer, i
 use Rattle.mean_steps.specs.Machine.{Evaluate, Designate, Finish, Moment, two, three, with_value, evaluate}
 use Rattle.mean_steps.specs.Machine.{before_arguments}
 use Rattle.mean_run.specs.declared.state.State.{State}
-use Rattle.mean_run.specs.declared.work.Work.{Work}
+use Rattle.mean_work.specs.declared.work.Work.{Work}
 use Rattle.mean_run.specs.Begun.{Begun, values_first, assigned}
 use Rattle.mean_run.specs.Sources.{IsNode}
 use Rattle.mean_run.specs.Steps.{Evaluates, IsPeeled, is_kept}

@@ -26,10 +26,10 @@ use Rattle.mean_steps.specs.Machine.{two, again, tested, turned_to}
 use Rattle.mean_steps.specs.Parts.{Came, On, Over, test, turn}
 use Rattle.mean_run.specs.declared.branches.Next.TheVariants as next
 use Rattle.mean_run.specs.declared.state.State.{State}
-use Rattle.mean_run.specs.declared.work.Stop.{Stop}
-use Rattle.mean_run.specs.declared.work.Stop.TheVariants as stop
-use Rattle.mean_run.specs.declared.work.Work.{Work}
-use Rattle.mean_run.specs.declared.work.Work.TheVariants as work
+use Rattle.mean_work.specs.declared.work.Stop.{Stop}
+use Rattle.mean_work.specs.declared.work.Stop.TheVariants as stop
+use Rattle.mean_work.specs.declared.work.Work.{Work}
+use Rattle.mean_work.specs.declared.work.Work.TheVariants as work
 use Rattle.mean_run.specs.Branches.{AgainBy, BranchedBy, ForAgain, ForTested, IsLoop, TestAgain, TestedBy, other_branch}
 use Rattle.mean_run.specs.Parts.{Did, Does, Unless_wanting}
 use Rattle.mean_run.specs.Sources.{IsStatement}

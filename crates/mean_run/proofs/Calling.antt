@@ -26,14 +26,14 @@ use Rattle.mean_steps.specs.Machine.{opened, turn_behind, turned, two, with_valu
 use Rattle.mean_steps.specs.Parts.{Now, Came, On, Over, Part, called, give, next_of, pass, pass_one, store, turn}
 use Rattle.mean_run.specs.declared.call.Call.{Call}
 use Rattle.mean_run.specs.declared.state.State.{State}
-use Rattle.mean_run.specs.declared.work.Stop.{Stop}
-use Rattle.mean_run.specs.declared.work.Stop.TheVariants as stop
-use Rattle.mean_run.specs.declared.work.Work.TheVariants as work
+use Rattle.mean_work.specs.declared.work.Stop.{Stop}
+use Rattle.mean_work.specs.declared.work.Stop.TheVariants as stop
+use Rattle.mean_work.specs.declared.work.Work.TheVariants as work
 use Rattle.mean_run.specs.Calls.{Enters, given_behind}
 use Rattle.mean_run.specs.Locals.{vars_of}
 use Rattle.mean_run.specs.Parts.{Becomes, Did, Does, Gives, Unless_wanting}
 use Rattle.mean_run.specs.Views.{caller_of, fun_of, funs_of, moment_of, now_of, vars_at}
-use Rattle.mean_run.proofs.Reversed.{reverse_push}
+use Rattle.mean_work.proofs.Reversed.{reverse_push}
 
 -- ---- values that are taken
 

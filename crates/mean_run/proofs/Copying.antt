@@ -12,8 +12,8 @@ use Rattle.cheri_c_sem.specs.Operations.{Operations}
 use Rattle.cheri_c_sem.specs.Steps.{fault_end, unit_end}
 use Rattle.mean_operations.specs.Answers.{IsAccess}
 use Rattle.mean_steps.specs.Parts.{Now, Came, On, Over, copy, copy_units, next_of, unit_answer, answer, set_memory}
-use Rattle.mean_run.specs.declared.work.Stop.{Stop}
-use Rattle.mean_run.specs.declared.work.Stop.TheVariants as stop
+use Rattle.mean_work.specs.declared.work.Stop.{Stop}
+use Rattle.mean_work.specs.declared.work.Stop.TheVariants as stop
 use Rattle.mean_run.specs.Parts.{LeavesIt, UnitCopied}
 
 pub access_above : (unit : ℕ) → IsAccess unit → 0 < unit

@@ -77,10 +77,6 @@ counted_more vars counts i n c h = record { count = length_push counts n ∙ ap 
     at : (x m : ℕ) → slice_get (counts ++ n ∷ []) x ≡ Some m → m ≡ objects_before vars x
     at x m e = by_place x m (get_push counts n x m e)
 
-pub counted_all : (vars : List VarDef) (counts : List ℕ) (i : ℕ) → Counted vars counts i → i ≡ length vars →
-    AreCounts vars counts
-counted_all vars counts i c e = record { count = c.count ∙ ap (λ k. k + 1) e; each = c.each }
-
 -- the counts of the first i functions
 pub record Listed (funs : List FunDef) (all : List (List ℕ)) (i : ℕ) : Type 0 where
   pub count : length all ≡ i

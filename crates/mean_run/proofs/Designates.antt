@@ -25,7 +25,7 @@ use Rattle.cheri_c_sem.specs.Tree.{Object, Fun}
 use Rattle.cheri_c_sem.specs.Types.{is_record, is_void, scalar_of, is_pointer, kind_of}
 use Rattle.mean_steps.specs.Machine.{Moment, with_place, designate}
 use Rattle.mean_run.specs.declared.state.State.{State}
-use Rattle.mean_run.specs.declared.work.Place.TheVariants as place
+use Rattle.mean_work.specs.declared.work.Place.TheVariants as place
 use Rattle.mean_run.specs.Placed.{Designates, Placed, nowhere, taken_from, assigned_to}
 use Rattle.mean_run.specs.Sources.{IsNode}
 use Rattle.mean_run.specs.Steps.{IsPeeled, is_kept}

@@ -15,8 +15,8 @@ use Rattle.mean_steps.specs.Machine.{Moment, behind, done_in}
 use Rattle.mean_steps.specs.Parts.{Now, Came, On, Over, answer, test}
 use Rattle.mean_run.specs.declared.branches.Next.{Next}
 use Rattle.mean_run.specs.declared.state.State.{State}
-use Rattle.mean_run.specs.declared.work.Stop.{Stop}
-use Rattle.mean_run.specs.declared.work.Stop.TheVariants as stop
+use Rattle.mean_work.specs.declared.work.Stop.{Stop}
+use Rattle.mean_work.specs.declared.work.Stop.TheVariants as stop
 use Rattle.mean_run.specs.Branches.{Branched, after}
 use Rattle.mean_run.specs.Parts.{Unless_wanting}
 use Rattle.mean_run.specs.Views.{now_of}

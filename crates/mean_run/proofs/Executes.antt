@@ -14,7 +14,7 @@ use Rattle.cheri_c_sem.specs.Programs.{stmt_tree, stmt_kind_tree, statements}
 use Rattle.cheri_c_sem.specs.Tree.{Ex, St, Sts, Give, Init, Fill, Empty, End, Seq}
 use Rattle.mean_steps.specs.Machine.{execs_behind, Before}
 use Rattle.mean_run.specs.declared.state.State.{State}
-use Rattle.mean_run.specs.declared.work.Work.TheVariants as work
+use Rattle.mean_work.specs.declared.work.Work.TheVariants as work
 use Rattle.mean_run.specs.Begun.{next_one, parts_in, tests}
 use Rattle.mean_run.proofs.Nodes.{no_statement}
 use Rattle.mean_run.specs.Sources.{IsStatement}

@@ -18,8 +18,8 @@ use Rattle.cheri_c_sem.specs.Tree.{Ex, Number, Variable, Local, Fun}
 use Rattle.cheri_c_sem.specs.Types.{is_simple, kind_of, offset_in}
 use Rattle.mean_steps.specs.Machine.{Moment, with_value, finish_item}
 use Rattle.mean_run.specs.declared.state.State.{State}
-use Rattle.mean_run.specs.declared.work.Stop.{Stop}
-use Rattle.mean_run.specs.declared.work.Stop.TheVariants as stop
+use Rattle.mean_work.specs.declared.work.Stop.{Stop}
+use Rattle.mean_work.specs.declared.work.Stop.TheVariants as stop
 use Rattle.mean_run.specs.Finished.{FinishedBy, Finishes}
 use Rattle.mean_run.specs.Parts.{Does, Unless_wanting}
 use Rattle.mean_run.specs.Sources.{IsNode}

@@ -30,10 +30,11 @@ use Rattle.mean_run.specs.Changes.{changed_by, changes}
 use Rattle.mean_run.specs.Parts.{Did, Does, Gives, LeavesIt, Unless_wanting, given_in}
 use Rattle.mean_run.specs.Steps.{is_kept}
 use Rattle.mean_run.specs.declared.state.State.{State}
-use Rattle.mean_run.specs.declared.work.Place as code_place
-use Rattle.mean_run.specs.declared.work.Stop.{Stop}
-use Rattle.mean_run.specs.declared.work.Stop.TheVariants as stop
-use Rattle.mean_run.specs.Views.{funs_of, moment_of, now_of, place_of}
+use Rattle.mean_work.specs.declared.work.Place as code_place
+use Rattle.mean_work.specs.declared.work.Stop.{Stop}
+use Rattle.mean_work.specs.declared.work.Stop.TheVariants as stop
+use Rattle.mean_run.specs.Views.{funs_of, moment_of, now_of}
+use Rattle.mean_work.specs.Places.{place_of}
 use Rattle.mean_run.proofs.Tops.{map_behind, second_behind}
 
 -- ---- what is given

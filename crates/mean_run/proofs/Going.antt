@@ -19,8 +19,8 @@ use Rattle.obj_mem.specs.Values.{Value}
 use Rattle.mean_bases.specs.Bases.{HaveBases}
 use Rattle.mean_bases.specs.Moments.{LeadsTo, IsReached}
 use Rattle.mean_run.specs.Acts.{Stepped}
-use Rattle.mean_run.specs.declared.work.Stop.{Stop}
-use Rattle.mean_run.specs.declared.work.Stop.TheVariants as stop
+use Rattle.mean_work.specs.declared.work.Stop.{Stop}
+use Rattle.mean_work.specs.declared.work.Stop.TheVariants as stop
 use Rattle.mean_run.specs.Views.{funs_of}
 
 -- an act that was done leads on

@@ -16,8 +16,8 @@ use Rattle.mean_steps.specs.Parts.{Now, On, leave}
 use Rattle.mean_run.specs.declared.blocks.Met.{Met}
 use Rattle.mean_run.specs.declared.blocks.Met.TheVariants as met
 use Rattle.mean_run.specs.declared.state.State.{State}
-use Rattle.mean_run.specs.declared.work.Work.{Work}
-use Rattle.mean_run.specs.declared.work.Work.TheVariants as work
+use Rattle.mean_work.specs.declared.work.Work.{Work}
+use Rattle.mean_work.specs.declared.work.Work.TheVariants as work
 use Rattle.mean_run.specs.Jumps.{met_of}
 use Rattle.mean_run.specs.Views.{vars_at, caller_of, item_of, declared_of, fun_of, funs_of, moment_of, now_of}
 

@@ -1,7 +1,6 @@
-pub mod Reversed
 pub mod Tops
 pub mod Kept
-pub mod Turns
+pub mod Lefts
 pub mod Casts
 pub mod Begins
 pub mod Nodes

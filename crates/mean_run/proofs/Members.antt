@@ -170,9 +170,6 @@ module _ (types : List CType) where
       let h = subst (λ o. AreStartsIn (extent types) o row) (sym e) s in
       record { count = h.count; each = λ w. h.each (within_by (length types) t w.0 w.1 w.2) }
 
-pub in_none : (go : ℕ → Option Extent) → AreStartsIn go None []
-in_none go = record { count = refl; each = λ w k n e. absurd (let g : None ≡ Some n = e in cc) }
-
 -- all types, as far as they go
 pub record Listed (types : List CType) (all : List (List ℕ)) (i : ℕ) : Type 0 where
   pub count : length all ≡ i

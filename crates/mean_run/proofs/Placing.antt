@@ -26,16 +26,17 @@ use Rattle.cheri_c_sem.specs.Types.{is_pointer, is_record, is_simple, is_void, k
 use Rattle.mean_steps.specs.Machine.{Moment, behind, done_in, finish_place, first_place, with_place}
 use Rattle.mean_steps.specs.Parts.{Came, copy}
 use Rattle.mean_run.specs.declared.state.State.{State}
-use Rattle.mean_run.specs.declared.work.Place as code_place
-use Rattle.mean_run.specs.declared.work.Stop.{Stop}
-use Rattle.mean_run.specs.declared.work.Stop.TheVariants as stop
+use Rattle.mean_work.specs.declared.work.Place as code_place
+use Rattle.mean_work.specs.declared.work.Stop.{Stop}
+use Rattle.mean_work.specs.declared.work.Stop.TheVariants as stop
 use Rattle.mean_run.specs.Offsets.{HasMember}
 use Rattle.mean_run.specs.Parts.{Does, LeavesIt, Unless_wanting}
 use Rattle.mean_run.specs.Placed.{PlaceFinishedBy, nowhere}
 use Rattle.mean_run.specs.Sources.{IsNode}
 use Rattle.mean_run.specs.Sizes.{IsSizedBy}
 use Rattle.mean_run.specs.Steps.{IsPeeled, is_kept}
-use Rattle.mean_run.specs.Views.{funs_of, moment_of, now_of, place_of, vars_at}
+use Rattle.mean_run.specs.Views.{funs_of, moment_of, now_of, vars_at}
+use Rattle.mean_work.specs.Places.{place_of}
 use Rattle.mean_run.proofs.Nodes.{no_node}
 use Rattle.mean_run.proofs.Tops.{map_behind}
 

@@ -23,8 +23,8 @@ use Rattle.mean_steps.specs.Parts.{allocate, answer}
 use Rattle.mean_run.specs.Acts.{Stepped}
 use Rattle.mean_run.specs.Parts.{Does, given_in}
 use Rattle.mean_run.specs.Services.{asked_of}
-use Rattle.mean_run.specs.declared.work.Stop.{Stop}
-use Rattle.mean_run.specs.declared.work.Stop.TheVariants as stop
+use Rattle.mean_work.specs.declared.work.Stop.{Stop}
+use Rattle.mean_work.specs.declared.work.Stop.TheVariants as stop
 
 -- what neither reads nor puts was one act
 pub does_stepped : (a : Act (Moment Store) Ending) (seen : Seen) (old new : Moment Store) (r : Result (Unit {0}) Stop) →

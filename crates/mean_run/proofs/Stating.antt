@@ -1,8 +1,8 @@
 -- Statements that enter blocks, jump, initialise or switch do what the machine does.
-use Rattle.std.proofs.Common.{◌≡◌, ℕ, ◌+◌, ◌<◌, ◌≤◌, Bool, true, false, List, ◌∷◌, length, drop, get_or}
+use Rattle.std.proofs.Common.{◌≡◌, ℕ, ◌+◌, ◌<◌, Bool, true, false, List, ◌∷◌, length, drop, get_or}
 use Rattle.std.proofs.Common.{Option, Some, None, Result, Ok, Err, refl, sym, ap, ◌∙◌}
 use Rattle.std.specs.Prelude.{map, not, ◌&&◌, slice_get, slice_set, option_map, if◌then◌else◌}
-use Rattle.std.proofs.lemmas.List.{at_drop_all, at_drop_more}
+use Rattle.std.proofs.lemmas.List.{at_drop_more}
 use Rattle.ck_base.specs.Runs.{Act, Goes}
 use Rattle.ck_base.specs.declared.positions.Pos.{Pos}
 use Rattle.c_tree.specs.Layout.{bare}
@@ -28,16 +28,17 @@ use Rattle.mean_steps.specs.Machine as machine
 use Rattle.mean_steps.specs.Parts.{Now, Came, On, Over, answer, choose, copy, enter, find_label, give, next_of}
 use Rattle.mean_steps.specs.Parts.{part_of_local, store}
 use Rattle.mean_run.specs.declared.state.State.{State}
-use Rattle.mean_run.specs.declared.work.Place as code_place
-use Rattle.mean_run.specs.declared.work.Stop.{Stop}
-use Rattle.mean_run.specs.declared.work.Stop.TheVariants as stop
-use Rattle.mean_run.specs.declared.work.Work.TheVariants as work
+use Rattle.mean_work.specs.declared.work.Place as code_place
+use Rattle.mean_work.specs.declared.work.Stop.{Stop}
+use Rattle.mean_work.specs.declared.work.Stop.TheVariants as stop
+use Rattle.mean_work.specs.declared.work.Work.TheVariants as work
 use Rattle.mean_run.specs.Begun.{assigned}
 use Rattle.mean_run.specs.Done.{DoneBy, Executes, Here, InitializedBy, SwitchedBy}
 use Rattle.mean_run.specs.Labels.{IsAt, at_label, labels_of}
 use Rattle.mean_run.specs.Parts.{Becomes, Did, DidAll, Does, Gives, LeavesIt, Unless_wanting}
 use Rattle.mean_run.specs.Sizes.{IsSizedStatement}
-use Rattle.mean_run.specs.Views.{funs_of, item_of, moment_of, now_of, place_of, vars_at}
+use Rattle.mean_run.specs.Views.{funs_of, item_of, moment_of, now_of, vars_at}
+use Rattle.mean_work.specs.Places.{place_of}
 use Rattle.mean_run.proofs.Tops.{map_behind}
 
 execs_zero : (ss : Sts) → execs_behind ss 0 ≡ ss
@@ -170,12 +171,6 @@ module _ (ops : Operations Store) (pos : Pos) (k : Kind) (v : Value) (labels : L
       IsAt ops pos k v n.mem l.value (Err s) → Gives whole (λ (o : Option ℕ). o) n (Err s)
   label_over whole stop.NoMemory e h = tt
   label_over whole (stop.Ended x) e h = e ∙ (at_here ∙ over_by l.value (stop.Ended x) h)
-
-pub no_more_labels : (ops : Operations Store) (pos : Pos) (k : Kind) (v : Value) (labels : List SwitchLabel) (i : ℕ)
-    (o : Option ℕ) (n : Now Store) → length labels ≤ i →
-    find_label ops pos k v (labels_of (drop i labels)) o n ≡ On o n
-no_more_labels ops pos k v labels i o n le =
-    at_drop_all (λ ls. find_label ops pos k v (labels_of ls) o n) labels i le
 
 module _ (labels : List SwitchLabel) (i : ℕ) (d : SwitchLabel) (lt : i < length labels) where
   default_by : (c : Option ℕ) (b : ℕ) (ls : List Label) → c ≡ None → default_of (label_of c b ∷ ls) ≡ Some b

@@ -11,7 +11,7 @@ use Rattle.cheri_c_sem.specs.Tree.{Ex}
 use Rattle.cheri_c_sem.specs.Types.{pointee_of, service_of}
 use Rattle.mean_steps.specs.Machine.{Moment, act, act_of, act_on, beyond, call, count_of, finish_item, serve, turned}
 use Rattle.mean_run.specs.declared.state.State.{State}
-use Rattle.mean_run.specs.declared.work.Work.{Work}
+use Rattle.mean_work.specs.declared.work.Work.{Work}
 use Rattle.mean_run.specs.Sources.{IsNode}
 use Rattle.mean_run.specs.Views.{funs_of, item_of, moment_of, vars_at}
 

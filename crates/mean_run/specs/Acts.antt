@@ -5,8 +5,8 @@ use Rattle.ck_base.specs.Runs.{Act}
 use Rattle.obj_mem.specs.declared.ending.Ending.{Ending}
 use Rattle.cheri_c_sem.specs.Modes.{Store}
 use Rattle.mean_steps.specs.Machine.{Moment, limits}
-use Rattle.mean_run.specs.declared.work.Stop.{Stop}
-use Rattle.mean_run.specs.declared.work.Stop.TheVariants as stop
+use Rattle.mean_work.specs.declared.work.Stop.{Stop}
+use Rattle.mean_work.specs.declared.work.Stop.TheVariants as stop
 
 -- An act was done, from a moment to another one; or it ended the run; or memory was wanting, and nothing was read
 -- or put

@@ -10,8 +10,8 @@ use Rattle.obj_mem.specs.declared.value.Value.TheVariants as value
 use Rattle.cheri_c_sem.specs.Expressions.{constant, type_of}
 use Rattle.cheri_c_sem.specs.Types.{is_record, is_simple, kind_of}
 use Rattle.mean_run.specs.declared.state.State.{State}
-use Rattle.mean_run.specs.declared.work.Work.{Work}
-use Rattle.mean_run.specs.declared.work.Work.TheVariants as work
+use Rattle.mean_work.specs.declared.work.Work.{Work}
+use Rattle.mean_work.specs.declared.work.Work.TheVariants as work
 use Rattle.mean_run.specs.Steps.{Evaluates}
 use Rattle.mean_run.specs.Views.{vars_at}
 

@@ -21,11 +21,11 @@ use Rattle.mean_steps.specs.Parts.{Now, Came, On, Over, test}
 use Rattle.mean_run.specs.declared.branches.Next.{Next}
 use Rattle.mean_run.specs.declared.branches.Next.TheVariants as next
 use Rattle.mean_run.specs.declared.state.State.{State}
-use Rattle.mean_run.specs.declared.work.Stop.{Stop}
-use Rattle.mean_run.specs.declared.work.Stop.TheVariants as stop
-use Rattle.mean_run.specs.declared.work.TheConstants.{NOWHERE}
-use Rattle.mean_run.specs.declared.work.Work.{Work}
-use Rattle.mean_run.specs.declared.work.Work.TheVariants as work
+use Rattle.mean_work.specs.declared.work.Stop.{Stop}
+use Rattle.mean_work.specs.declared.work.Stop.TheVariants as stop
+use Rattle.mean_work.specs.declared.work.TheConstants.{NOWHERE}
+use Rattle.mean_work.specs.declared.work.Work.{Work}
+use Rattle.mean_work.specs.declared.work.Work.TheVariants as work
 use Rattle.mean_run.specs.Parts.{Does, Unless_wanting}
 use Rattle.mean_run.specs.Views.{now_of, moment_of, funs_of, item_of, loop_of, vars_at}
 

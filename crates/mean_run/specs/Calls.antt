@@ -12,8 +12,8 @@ use Rattle.cheri_c_sem.specs.Tree.{Fun}
 use Rattle.mean_steps.specs.Machine.{Moment, closed, doing, turn_behind, with_value}
 use Rattle.mean_steps.specs.Parts.{On, Over, at_end, frame}
 use Rattle.mean_run.specs.declared.state.State.{State}
-use Rattle.mean_run.specs.declared.work.Stop.{Stop}
-use Rattle.mean_run.specs.declared.work.Stop.TheVariants as stop
+use Rattle.mean_work.specs.declared.work.Stop.{Stop}
+use Rattle.mean_work.specs.declared.work.Stop.TheVariants as stop
 use Rattle.mean_run.specs.Views.{caller_of, moment_of, now_of}
 
 -- the turn behind a call, and then its value

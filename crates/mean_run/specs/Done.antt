@@ -11,7 +11,7 @@ use Rattle.cheri_c_sem.specs.Programs.{initialisation, stmt_tree, stmt_kind_tree
 use Rattle.cheri_c_sem.specs.Tree.{Ex}
 use Rattle.mean_steps.specs.Machine.{behind, choose_label, execute, initialize}
 use Rattle.mean_run.specs.declared.state.State.{State}
-use Rattle.mean_run.specs.declared.work.Stop.{Stop}
+use Rattle.mean_work.specs.declared.work.Stop.{Stop}
 use Rattle.mean_run.specs.Begun.{Executed}
 use Rattle.mean_run.specs.Parts.{Does, Unless_wanting}
 use Rattle.mean_run.specs.Sizes.{IsSmall}

@@ -20,7 +20,7 @@ use Rattle.mean_run.specs.Sizes.{IsSizedBy}
 use Rattle.mean_run.specs.Steps.{is_kept}
 use Rattle.mean_run.specs.Views.{funs_of, moment_of, vars_at}
 use Rattle.mean_run.specs.declared.state.State.{State}
-use Rattle.mean_run.specs.declared.work.Stop.{Stop}
+use Rattle.mean_work.specs.declared.work.Stop.{Stop}
 
 module _ (ops : Operations Store) (p : Typed) (f : ℕ) (held left : Store) (old new : State)
     (r : Result (Unit {0}) Stop) where

@@ -16,10 +16,10 @@ use Rattle.cheri_c_sem.specs.Steps.{fault_end}
 use Rattle.cheri_c_sem.specs.Tree.{Ex, Label, St, Fill, Init}
 use Rattle.cheri_c_sem.specs.Types.{align_in, is_record, kind_of, size_in, unit_of}
 use Rattle.obj_mem.specs.declared.ending.Fault.{Fault}
-use Rattle.mean_run.specs.declared.work.Stop.{Stop}
-use Rattle.mean_run.specs.declared.work.Stop.TheVariants as stop
-use Rattle.mean_run.specs.declared.work.Work.{Work}
-use Rattle.mean_run.specs.declared.work.Work.TheVariants as work
+use Rattle.mean_work.specs.declared.work.Stop.{Stop}
+use Rattle.mean_work.specs.declared.work.Stop.TheVariants as stop
+use Rattle.mean_work.specs.declared.work.Work.{Work}
+use Rattle.mean_work.specs.declared.work.Work.TheVariants as work
 
 abbrev pub labels_of : List SwitchLabel → List Label
 labels_of ls = map (λ (s : SwitchLabel). label_of s.value s.before) ls

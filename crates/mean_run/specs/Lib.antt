@@ -1,4 +1,3 @@
-pub mod Stacks
 pub mod Views
 pub mod Steps
 pub mod Sizes

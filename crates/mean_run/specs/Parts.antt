@@ -11,8 +11,8 @@ use Rattle.cheri_c_sem.specs.Modes.{Store}
 use Rattle.mean_steps.specs.Machine.{Moment, done_in, with_value}
 use Rattle.mean_steps.specs.Parts.{Now, Came, On, Over, Part}
 use Rattle.mean_run.specs.declared.state.State.{State}
-use Rattle.mean_run.specs.declared.work.Stop.{Stop}
-use Rattle.mean_run.specs.declared.work.Stop.TheVariants as stop
+use Rattle.mean_work.specs.declared.work.Stop.{Stop}
+use Rattle.mean_work.specs.declared.work.Stop.TheVariants as stop
 use Rattle.mean_run.specs.Views.{now_of, moment_of}
 
 -- the state of a run has become this, whatever the program and whatever is held of memory

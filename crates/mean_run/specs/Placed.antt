@@ -17,11 +17,11 @@ use Rattle.cheri_c_sem.specs.Types.{is_record, offset_in}
 use Rattle.mean_steps.specs.Machine.{designate, finish_place}
 use Rattle.mean_run.specs.Offsets.{HasMember}
 use Rattle.mean_run.specs.Parts.{Does, Unless_wanting}
-use Rattle.mean_run.specs.declared.work.Stop.{Stop}
+use Rattle.mean_work.specs.declared.work.Stop.{Stop}
 use Rattle.mean_run.specs.declared.state.State.{State}
-use Rattle.mean_run.specs.declared.work.Place.TheVariants as place
-use Rattle.mean_run.specs.declared.work.Work.TheVariants as work
-use Rattle.mean_run.specs.declared.work.TheConstants.{NOWHERE}
+use Rattle.mean_work.specs.declared.work.Place.TheVariants as place
+use Rattle.mean_work.specs.declared.work.Work.TheVariants as work
+use Rattle.mean_work.specs.declared.work.TheConstants.{NOWHERE}
 use Rattle.mean_run.specs.Sizes.{IsSmall}
 use Rattle.mean_run.specs.Views.{vars_at, moment_of, funs_of}
 

@@ -15,14 +15,9 @@ use Rattle.mean_steps.specs.Parts.{Now}
 use Rattle.mean_run.specs.declared.call.Call.{Call}
 use Rattle.mean_run.specs.declared.state.State.{State}
 use Rattle.mean_run.specs.Locals.{vars_of}
-use Rattle.mean_run.specs.declared.work.Place as code_place
-use Rattle.mean_run.specs.declared.work.Place.TheVariants as place
-use Rattle.mean_run.specs.declared.work.Work as code_work
-use Rattle.mean_run.specs.declared.work.Work.TheVariants as work
-
-abbrev pub place_of : code_place.Place → meaning.Place
-place_of (place.In p x) = meaning.In p x
-place_of (place.At p v) = meaning.At p (value_of v)
+use Rattle.mean_work.specs.Places.{place_of}
+use Rattle.mean_work.specs.declared.work.Work as code_work
+use Rattle.mean_work.specs.declared.work.Work.TheVariants as work
 
 abbrev pub caller_of : Call → machine.Caller
 caller_of c = record { vars = map (option_map value_of) c.variables.items; first = c.first; frame = c.frame }

@@ -16,9 +16,9 @@ ghost use Rattle.mean_run.specs.Sources.{IsSource};
 use crate::locals::is_object;
 use crate::state::{Source, State};
 use crate::storage::Storage;
-use crate::work::{Stop, Work};
 use ck_base::NoMemory;
 use mean_operations::Operations;
+use mean_work::{Stop, Work};
 use obj_mem::Value;
 
 /// A block is entered: a variable has no value given, and an object is zero bytes.

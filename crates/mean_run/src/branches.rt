@@ -10,10 +10,10 @@ ghost use Rattle.mean_run.specs.Views.{now_of};
 ghost use Rattle.mean_run.specs.Parts.{Unless_wanting};
 
 use crate::state::State;
-use crate::work::{Stop, Work, fault_end};
 use ck_base::{NoMemory, Pos};
 use mean_operations::{Operations, is_true};
 use mean_types::Kind;
+use mean_work::{Stop, Work, fault_end};
 use obj_mem::Value;
 
 /// What comes next: nothing, one part of the work or two, or the value of a truth.

@@ -26,12 +26,12 @@ use crate::locals::{function, is_object};
 use crate::places::{DATA, type_of, within_limit};
 use crate::state::{Source, State};
 use crate::storage::Storage;
-use crate::work::{Place, Stop, Work, fault_end};
 use c_tree::{FunDef, Typed, VarDef};
 use cap_ops::Cause;
 use ck_base::{NoMemory, Pos};
 use mean_operations::Operations;
 use mean_types::{NOTHING, compatible};
+use mean_work::{Place, Stop, Work, fault_end, turn_behind};
 use obj_mem::{Ending, Value};
 use std::alloc::Global;
 
@@ -230,11 +230,10 @@ impl State {
     }
 
     /// The turn behind a call; the first call has none.
-    #[tactic(auto, using(crate::proofs::Turns::turned_behind))]
     fn turn_behind(&mut self, first: bool) -> Result<(), Stop>
         ensures { (p : Typed) (held : Store) → Did (turn_behind first) (λ u. u) p self.old self.new held held result }
     {
-        if first { Ok(()) } else { self.turn() }
+        turn_behind(&mut self.left, first)
     }
 
     /// A fresh frame, where there is room for it.

@@ -16,11 +16,11 @@ ghost use Rattle.mean_run.specs.Views.{now_of, moment_of, vars_at, funs_of};
 use crate::branches::Next;
 use crate::places::type_of;
 use crate::state::{Source, State};
-use crate::work::{NOWHERE, Stop, Work};
 use c_tree::{Expr, ExprKind};
 use ck_base::Pos;
 use mean_operations::Operations;
 use mean_types::{Kind, NOTHING};
+use mean_work::{NOWHERE, Stop, Work};
 
 /// The kind of an expression.
 pub fn kind_at(s: &Source<'_>, k: u32) -> Kind
@@ -84,29 +84,7 @@ impl State {
                 Next::One(Work::Value(f, *a)),
                 Next::One(Work::Value(f, *b)),
             ),
-            ExprKind::Constant(_)
-            | ExprKind::Literal(_)
-            | ExprKind::Var(_)
-            | ExprKind::Global(_)
-            | ExprKind::Fun(_)
-            | ExprKind::Load(_)
-            | ExprKind::Decay(_)
-            | ExprKind::Deref(_)
-            | ExprKind::Member(_, _)
-            | ExprKind::Address(_)
-            | ExprKind::Convert(_)
-            | ExprKind::Unary(_, _)
-            | ExprKind::Int(_, _, _)
-            | ExprKind::Capability(_, _, _, _)
-            | ExprKind::Plus(_, _, _)
-            | ExprKind::Difference(_, _)
-            | ExprKind::Compare(_, _, _)
-            | ExprKind::Comma(_, _)
-            | ExprKind::Assign(_, _)
-            | ExprKind::Compound(_, _, _, _)
-            | ExprKind::Step(_, _, _)
-            | ExprKind::Call(_, _)
-            | ExprKind::Library(_, _) => self.no_choice(),
+            _ => self.no_choice(),
         }
     }
 
@@ -157,31 +135,7 @@ impl State {
                 Next::One(Work::Place(f, *a)),
                 Next::One(Work::Place(f, *b)),
             ),
-            ExprKind::Constant(_)
-            | ExprKind::Literal(_)
-            | ExprKind::Var(_)
-            | ExprKind::Global(_)
-            | ExprKind::Fun(_)
-            | ExprKind::Load(_)
-            | ExprKind::Decay(_)
-            | ExprKind::Deref(_)
-            | ExprKind::Member(_, _)
-            | ExprKind::Address(_)
-            | ExprKind::Convert(_)
-            | ExprKind::Unary(_, _)
-            | ExprKind::Int(_, _, _)
-            | ExprKind::Capability(_, _, _, _)
-            | ExprKind::Plus(_, _, _)
-            | ExprKind::Difference(_, _)
-            | ExprKind::Compare(_, _, _)
-            | ExprKind::And(_, _)
-            | ExprKind::Or(_, _)
-            | ExprKind::Comma(_, _)
-            | ExprKind::Assign(_, _)
-            | ExprKind::Compound(_, _, _, _)
-            | ExprKind::Step(_, _, _)
-            | ExprKind::Call(_, _)
-            | ExprKind::Library(_, _) => self.no_place(),
+            _ => self.no_place(),
         }
     }
 
@@ -227,30 +181,7 @@ impl State {
         match &e.kind {
             ExprKind::And(_, b) => self.decided(m, kind_at(s, *b), e.pos),
             ExprKind::Or(_, b) => self.decided(m, kind_at(s, *b), e.pos),
-            ExprKind::Constant(_)
-            | ExprKind::Literal(_)
-            | ExprKind::Var(_)
-            | ExprKind::Global(_)
-            | ExprKind::Fun(_)
-            | ExprKind::Load(_)
-            | ExprKind::Decay(_)
-            | ExprKind::Deref(_)
-            | ExprKind::Member(_, _)
-            | ExprKind::Address(_)
-            | ExprKind::Convert(_)
-            | ExprKind::Unary(_, _)
-            | ExprKind::Int(_, _, _)
-            | ExprKind::Capability(_, _, _, _)
-            | ExprKind::Plus(_, _, _)
-            | ExprKind::Difference(_, _)
-            | ExprKind::Compare(_, _, _)
-            | ExprKind::Conditional(_, _, _)
-            | ExprKind::Comma(_, _)
-            | ExprKind::Assign(_, _)
-            | ExprKind::Compound(_, _, _, _)
-            | ExprKind::Step(_, _, _)
-            | ExprKind::Call(_, _)
-            | ExprKind::Library(_, _) => self.no_choice(),
+            _ => self.no_choice(),
         }
     }
 

@@ -31,20 +31,21 @@ ghost use Rattle.mean_run.specs.Parts.{Does, Gives, Unless_wanting, given_in};
 ghost use Rattle.mean_run.specs.Sizes.{IsSizedBy, IsSmall, PointsToSmall};
 ghost use Rattle.mean_run.specs.Sources.{IsFit, IsSource, IsNode};
 ghost use Rattle.mean_run.specs.Steps.{IsPeeled, is_kept, is_call};
-ghost use Rattle.mean_run.specs.Views.{moment_of, now_of, place_of, vars_at, funs_of};
+ghost use Rattle.mean_run.specs.Views.{moment_of, now_of, vars_at, funs_of};
+ghost use Rattle.mean_work.specs.Places.{place_of};
 
 use crate::choices::kind_at;
 use crate::operations::{Change, binary_operation, compound_change, step_change};
 use crate::places::{copy, type_of, unit, within_limit};
 use crate::state::{Source, State};
 use crate::storage::Storage;
-use crate::work::{Place, Stop, fault_end};
 use c_tree::{Expr, ExprKind, Typed, UnaryOp};
 use cap_layout::owned;
 use ck_base::Pos;
 use ck_int::{CmpOp, IntOp};
 use mean_operations::{Operation, Operations, compared, converted, operated, signed};
 use mean_types::{Kind, NOTHING, truth};
+use mean_work::{Place, Stop, fault_end};
 use obj_mem::{Fault, Value};
 
 /// What a member of so many bytes owns.
@@ -164,17 +165,7 @@ impl State {
             ExprKind::Capability(_, _, _, _) => self.binary(m, s, e),
             ExprKind::Plus(_, _, _) => self.binary(m, s, e),
             ExprKind::Difference(_, _) => self.binary(m, s, e),
-            ExprKind::Constant(_)
-            | ExprKind::Literal(_)
-            | ExprKind::Var(_)
-            | ExprKind::Global(_)
-            | ExprKind::Fun(_)
-            | ExprKind::And(_, _)
-            | ExprKind::Or(_, _)
-            | ExprKind::Conditional(_, _, _)
-            | ExprKind::Comma(_, _)
-            | ExprKind::Call(_, _)
-            | ExprKind::Library(_, _) => self.give_nothing(),
+            _ => self.give_nothing(),
         }
     }
 

@@ -23,16 +23,17 @@ ghost use Rattle.mean_run.specs.Placed.{Designates, Placed, PlaceFinishedBy, now
 ghost use Rattle.mean_run.specs.Sizes.{IsSmall};
 ghost use Rattle.mean_run.specs.Sources.{IsFit, IsSource};
 ghost use Rattle.mean_run.specs.Variables.{variable_at};
-ghost use Rattle.mean_run.specs.Views.{place_of, now_of, moment_of, vars_at, funs_of};
+ghost use Rattle.mean_run.specs.Views.{now_of, moment_of, vars_at, funs_of};
+ghost use Rattle.mean_work.specs.Places.{place_of};
 
 use crate::locals::is_object;
 use crate::state::{Source, State};
 use crate::words::{live, word};
-use crate::work::{NOWHERE, Place, Stop, Work, fault_end, unit_end};
 use c_tree::{Expr, ExprKind, Typed};
 use ck_base::{NoMemory, Pos};
 use mean_operations::Operations;
 use mean_types::{Kind, TypeFacts, Types, bytes_of, read_as};
+use mean_work::{NOWHERE, Place, Stop, Work, fault_end, unit_end};
 use obj_mem::{Fault, Value};
 
 /// The permissions of pointers to objects, and of those to objects that are not written.
@@ -181,22 +182,7 @@ impl State {
             ExprKind::Comma(a, b) => self.both(Work::Value(f, *a), Work::Drop, Work::Place(f, *b)),
             ExprKind::Load(a) => self.taken_from(s, f, e.of, *a),
             ExprKind::Assign(a, b) => self.assigned_to(s, f, k, e.of, *a, *b),
-            ExprKind::Constant(_)
-            | ExprKind::Decay(_)
-            | ExprKind::Address(_)
-            | ExprKind::Convert(_)
-            | ExprKind::Unary(_, _)
-            | ExprKind::Int(_, _, _)
-            | ExprKind::Capability(_, _, _, _)
-            | ExprKind::Plus(_, _, _)
-            | ExprKind::Difference(_, _)
-            | ExprKind::Compare(_, _, _)
-            | ExprKind::And(_, _)
-            | ExprKind::Or(_, _)
-            | ExprKind::Compound(_, _, _, _)
-            | ExprKind::Step(_, _, _)
-            | ExprKind::Call(_, _)
-            | ExprKind::Library(_, _) => self.designate(NOWHERE),
+            _ => self.designate(NOWHERE),
         }
     }
 
@@ -329,29 +315,7 @@ impl State {
                 self.member_place(m, e.pos, s.offsets.offset(type_of(s.p, *a), *member))
             }
             ExprKind::Assign(a, _) => self.assigned_place(m, s, *a, e),
-            ExprKind::Constant(_)
-            | ExprKind::Literal(_)
-            | ExprKind::Var(_)
-            | ExprKind::Global(_)
-            | ExprKind::Fun(_)
-            | ExprKind::Load(_)
-            | ExprKind::Decay(_)
-            | ExprKind::Address(_)
-            | ExprKind::Convert(_)
-            | ExprKind::Unary(_, _)
-            | ExprKind::Int(_, _, _)
-            | ExprKind::Capability(_, _, _, _)
-            | ExprKind::Plus(_, _, _)
-            | ExprKind::Difference(_, _)
-            | ExprKind::Compare(_, _, _)
-            | ExprKind::And(_, _)
-            | ExprKind::Or(_, _)
-            | ExprKind::Conditional(_, _, _)
-            | ExprKind::Comma(_, _)
-            | ExprKind::Compound(_, _, _, _)
-            | ExprKind::Step(_, _, _)
-            | ExprKind::Call(_, _)
-            | ExprKind::Library(_, _) => self.nowhere(),
+            _ => self.nowhere(),
         }
     }
 

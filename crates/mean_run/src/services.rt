@@ -23,10 +23,10 @@ ghost use Rattle.mean_run.specs.Views.{funs_of, moment_of, now_of};
 
 use crate::state::State;
 use crate::storage::{AllocateFault, Storage};
-use crate::work::{Stop, fault_end};
 use ck_base::{Pos, Sink, Source};
 use mean_operations::Work;
 use mean_types::{NOTHING, number_of};
+use mean_work::{Stop, fault_end};
 use obj_mem::{Ending, Fault, Value};
 
 /// A number that is answered, as a value.

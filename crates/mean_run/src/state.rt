@@ -6,18 +6,17 @@ ghost use Rattle.cheri_c_sem.specs.Modes.{Store};
 ghost use Rattle.mean_steps.specs.Machine.{first_place, behind};
 ghost use Rattle.mean_steps.specs.Parts.{turn};
 ghost use Rattle.mean_run.specs.Parts.{Becomes, Did};
-ghost use Rattle.mean_run.specs.Views.{place_of};
+ghost use Rattle.mean_work.specs.Places.{place_of};
 ghost use Rattle.c_tree.specs.declared.typed.Typed.{Typed};
 
 use crate::call::Call;
 use crate::locals::Locals;
 use crate::offsets::Offsets;
-use crate::stack::Stack;
-use crate::work::{NOWHERE, Place, Stop, Work};
 use c_tree::Typed;
 use ck_base::NoMemory;
 use mean_types::{NOTHING, Types};
-use obj_mem::{Ending, Value};
+use mean_work::{NOWHERE, Place, Stack, Stop, Work, both, then, turn};
+use obj_mem::Value;
 use std::alloc::Global;
 
 /// A program, with what is known of its types and variables.
@@ -79,16 +78,13 @@ impl State {
     pub fn then(&mut self, first: Work, next: Work) -> Result<(), NoMemory>
         ensures { OnOk result (self.new ≡ record self.old { work = first ∷ next ∷ self.old.work }) }
     {
-        self.push(next)?;
-        self.push(first)
+        then(&mut self.work, first, next)
     }
 
     pub fn both(&mut self, first: Work, second: Work, next: Work) -> Result<(), NoMemory>
         ensures { OnOk result (self.new ≡ record self.old { work = first ∷ second ∷ next ∷ self.old.work }) }
     {
-        self.push(next)?;
-        self.push(second)?;
-        self.push(first)
+        both(&mut self.work, first, second, next)
     }
 
     pub fn give(&mut self, v: Value) -> Result<(), NoMemory>
@@ -126,15 +122,10 @@ impl State {
     }
 
     /// Uses one turn.
-    #[tactic(auto, using(crate::proofs::Turns::turn_some, crate::proofs::Turns::turn_none))]
     pub fn turn(&mut self) -> Result<(), Stop>
         ensures { (p : Typed) (held : Store) → Did turn (λ u. u) p self.old self.new held held result }
     {
-        if self.left == 0 {
-            return Err(Stop::Ended(Ending::Turns));
-        }
-        self.left -= 1;
-        Ok(())
+        turn(&mut self.left)
     }
 
     /// A variable of the current call gets a value, or has none.

@@ -39,12 +39,12 @@ use crate::locals::is_object;
 use crate::places::{copy, type_of, unit};
 use crate::state::{Source, State};
 use crate::storage::Storage;
-use crate::work::{Stop, Work, fault_end};
 use c_tree::{Stmt, StmtKind, SwitchLabel, Typed};
 use ck_base::{NoMemory, Pos};
 use ck_int::CmpOp;
 use mean_operations::{Operations, compared, is_true};
 use mean_types::{Kind, NOTHING, constant_of};
+use mean_work::{Stop, Work, fault_end};
 use obj_mem::Value;
 
 /// Where the statements of a number stand in a program.
@@ -124,15 +124,7 @@ fn declared_in(a: &Stmt) -> &[u32]
         StmtKind::Block { vars, .. } => vars.as_slice(),
         StmtKind::For { vars, .. } => vars.as_slice(),
         StmtKind::Switch { vars, .. } => vars.as_slice(),
-        StmtKind::Expr(_)
-        | StmtKind::Init { .. }
-        | StmtKind::If(_, _, _)
-        | StmtKind::While(_, _)
-        | StmtKind::Do(_, _)
-        | StmtKind::Break
-        | StmtKind::Continue
-        | StmtKind::Return(_)
-        | StmtKind::Empty => &[],
+        _ => &[],
     }
 }
 
@@ -207,13 +199,7 @@ impl State {
                 None => self.give_back(m, s, NOTHING),
                 Some(e) => self.returned(f, *e),
             },
-            StmtKind::Expr(_)
-            | StmtKind::Init { .. }
-            | StmtKind::If(_, _, _)
-            | StmtKind::While(_, _)
-            | StmtKind::Do(_, _)
-            | StmtKind::Switch { .. }
-            | StmtKind::Empty => self.plain(s, f, k, a),
+            _ => self.plain(s, f, k, a),
         }
     }
 
@@ -284,15 +270,7 @@ impl State {
             StmtKind::Block { body, .. } => self.one_of(f, k, n, body.as_slice()),
             StmtKind::Switch { body, .. } => self.one_of(f, k, n, body.as_slice()),
             StmtKind::For { first, .. } => self.one_of(f, k, n, first.as_slice()),
-            StmtKind::Expr(_)
-            | StmtKind::Init { .. }
-            | StmtKind::If(_, _, _)
-            | StmtKind::While(_, _)
-            | StmtKind::Do(_, _)
-            | StmtKind::Break
-            | StmtKind::Continue
-            | StmtKind::Return(_)
-            | StmtKind::Empty => Ok(()),
+            _ => Ok(()),
         }
     }
 
@@ -386,17 +364,7 @@ impl State {
             StmtKind::Init { var, offset, value } => self.initialized(
                 m, s, f, a.pos, *var, *offset, *value,
             ),
-            StmtKind::Expr(_)
-            | StmtKind::Block { .. }
-            | StmtKind::If(_, _, _)
-            | StmtKind::While(_, _)
-            | StmtKind::Do(_, _)
-            | StmtKind::For { .. }
-            | StmtKind::Switch { .. }
-            | StmtKind::Break
-            | StmtKind::Continue
-            | StmtKind::Return(_)
-            | StmtKind::Empty => Ok(()),
+            _ => Ok(()),
         }
     }
 
@@ -543,17 +511,7 @@ impl State {
                 Next::One(Work::Statement(f, *first)),
                 Next::One(other_branch(f, *second)),
             ),
-            StmtKind::Expr(_)
-            | StmtKind::Init { .. }
-            | StmtKind::Block { .. }
-            | StmtKind::While(_, _)
-            | StmtKind::Do(_, _)
-            | StmtKind::For { .. }
-            | StmtKind::Switch { .. }
-            | StmtKind::Break
-            | StmtKind::Continue
-            | StmtKind::Return(_)
-            | StmtKind::Empty => self.lose(),
+            _ => self.lose(),
         }
     }
 
@@ -585,15 +543,7 @@ impl State {
                 Some(c) => self.then(Work::Value(f, *c), Work::Tested(f, k)),
                 None => self.then(Work::Statement(f, *body), Work::Again(f, k)),
             },
-            StmtKind::Expr(_)
-            | StmtKind::Init { .. }
-            | StmtKind::Block { .. }
-            | StmtKind::If(_, _, _)
-            | StmtKind::Switch { .. }
-            | StmtKind::Break
-            | StmtKind::Continue
-            | StmtKind::Return(_)
-            | StmtKind::Empty => self.then(Work::Nothing, Work::Again(f, k)),
+            _ => self.then(Work::Nothing, Work::Again(f, k)),
         }
     }
 
@@ -633,15 +583,7 @@ impl State {
             StmtKind::While(c, body) => self.tested_before(m, kind_at(s, *c), a.pos, *body, f, k),
             StmtKind::For { test, body, .. } => self.tested_for(m, s, *test, a.pos, *body, f, k),
             StmtKind::Do(body, c) => self.tested_behind(m, kind_at(s, *c), a.pos, *body, f, k),
-            StmtKind::Expr(_)
-            | StmtKind::Init { .. }
-            | StmtKind::Block { .. }
-            | StmtKind::If(_, _, _)
-            | StmtKind::Switch { .. }
-            | StmtKind::Break
-            | StmtKind::Continue
-            | StmtKind::Return(_)
-            | StmtKind::Empty => self.untested(Work::Nothing, f, k),
+            _ => self.untested(Work::Nothing, f, k),
         }
     }
 
@@ -763,16 +705,7 @@ impl State {
         match &a.kind {
             StmtKind::For { step, .. } => self.again_for(*step, f, k),
             StmtKind::Do(_, _) => self.to_test(f, k),
-            StmtKind::Expr(_)
-            | StmtKind::Init { .. }
-            | StmtKind::Block { .. }
-            | StmtKind::If(_, _, _)
-            | StmtKind::While(_, _)
-            | StmtKind::Switch { .. }
-            | StmtKind::Break
-            | StmtKind::Continue
-            | StmtKind::Return(_)
-            | StmtKind::Empty => self.turned(f, k),
+            _ => self.turned(f, k),
         }
     }
 
@@ -852,17 +785,7 @@ impl State {
                     Ok(to) => self.goes_to(f, k, to),
                 }
             }
-            StmtKind::Expr(_)
-            | StmtKind::Init { .. }
-            | StmtKind::Block { .. }
-            | StmtKind::If(_, _, _)
-            | StmtKind::While(_, _)
-            | StmtKind::Do(_, _)
-            | StmtKind::For { .. }
-            | StmtKind::Break
-            | StmtKind::Continue
-            | StmtKind::Return(_)
-            | StmtKind::Empty => self.lose(),
+            _ => self.lose(),
         }
     }
 

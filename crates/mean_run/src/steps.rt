@@ -25,11 +25,11 @@ ghost use Rattle.mean_run.specs.Steps.{IsPeeled};
 
 use crate::state::{Source, State};
 use crate::storage::Storage;
-use crate::work::{Stop, Work};
 use c_tree::{Expr, ExprKind, Typed as Program};
 use ck_base::{NoMemory, Sink, Source as Input};
 use mean_operations::Operations as Memory;
 use mean_types::number_of;
+use mean_work::{Stop, Work};
 use obj_mem::{Ending, Value};
 
 impl State {

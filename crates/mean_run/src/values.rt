@@ -9,10 +9,10 @@ ghost use Rattle.mean_run.specs.Steps.{Evaluates};
 ghost use Rattle.mean_run.specs.Sources.{IsFit, IsSource};
 
 use crate::state::{Source, State};
-use crate::work::Work;
 use c_tree::{Expr, ExprKind};
 use ck_base::NoMemory;
 use mean_types::{NOTHING, constant_of};
+use mean_work::{Work, operands};
 use obj_mem::Value;
 
 impl State {
@@ -37,7 +37,7 @@ impl State {
         ensures { OnOk result (self.new ≡ record self.old
             { work = Work.Value f a ∷ Work.Value f b ∷ Work.Finish f k ∷ self.old.work }) }
     {
-        self.both(Work::Value(f, a), Work::Value(f, b), Work::Finish(f, k))
+        operands(&mut self.work, f, k, a, b)
     }
 
     /// What is chosen by, and then the choice.

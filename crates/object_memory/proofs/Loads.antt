@@ -10,8 +10,9 @@ use Rattle.obj_mem.specs.Objects.{Cell, Byte, Unwritten, PartOf, Life, Active, I
 use Rattle.obj_mem.specs.Objects.{Memory, Mode, is_strict, byte_at, bytes_at, value_at}
 use Rattle.obj_mem.specs.Access.{Plain, Tagged, Spot, at_place, at_spot, outside_unless_active, padding_where, piece_of}
 use Rattle.obj_mem.specs.Access.{takes_padding, unspecified, has_unwritten, has_part, number_of, known, loaded, onward}
-use Rattle.obj_mem.specs.Access.{read_as}
+use Rattle.obj_mem.specs.Access.{carried, load, load_access, reach, read_as}
 use Rattle.object_memory.specs.declared.access.Sum as summed
+use Rattle.object_memory.specs.Copies.{carried_at}
 use Rattle.object_memory.specs.Memories.{IsSum, loaded_at, reached}
 
 bytes_split : (d : Mode) (s : List Shape) (c : Content) (i n m : ℕ) →
@@ -49,7 +50,8 @@ loaded_pair d s c i low high l h =
     let xs = bytes_at d s c i 8 in
     let ys = bytes_at d s c (i + 8) 8 in
     let split : bytes_at d s c i 16 ≡ xs ++ ys = bytes_split d s c i 8 8 in
-    let go : loaded 16 (Plain (xs ++ ys)) ≡ known (low.unwritten || high.unwritten) R.Unwritten (known (low.part || high.part) R.Address (Ok (Raw low.number high.number))) =
+    let go : loaded 16 (Plain (xs ++ ys)) ≡ known (low.unwritten || high.unwritten) R.Unwritten
+    (known (low.part || high.part) R.Address (Ok (Raw low.number high.number))) =
     rw (l.unwritten, h.unwritten, l.part, h.part, l.number, h.number, ← unwritten_append xs ys, ← part_append xs ys)
     refl in
     ap (λ cs. loaded 16 (Plain cs)) split ∙ go
@@ -121,3 +123,30 @@ pub load_plain : (d : Mode) (m : Memory) (s : Spot) (n : ℕ) (c : Content) → 
 load_plain d m s n c e h =
     let there = at_spot_by d m s n (λ x. Ok (piece_of d m x s n (value_at x (s.at / 16)))) c e in
     ap (λ r. onward r (loaded n)) there ∙ ap (loaded n) (plain_piece d m c s n (value_at c (s.at / 16)) h)
+
+-- a load, by what it reaches
+pub load_there : (d : Mode) (m : Memory) (p : Value) (n : ℕ) (s : Spot) → reach (load_access n) p ≡ Ok s →
+    load d m p n ≡ loaded_at d m s n
+unfolding load
+load_there d m p n s h = rw h refl
+
+pub load_fails : (d : Mode) (m : Memory) (s : Spot) (n : ℕ) (e : Fault) → reached d m s n ≡ Err e →
+    loaded_at d m s n ≡ Err e
+load_fails d m s n e h =
+    ap (λ r. onward r (loaded n))
+    (at_spot_fails d m s n (λ c. Ok (piece_of d m c s n (value_at c (s.at / 16)))) e h)
+
+-- ---- what a copy takes, alike
+
+pub carried_fails : (d : Mode) (m : Memory) (s : Spot) (n : ℕ) (e : Fault) → reached d m s n ≡ Err e →
+    carried_at d m s n ≡ Err e
+carried_fails d m s n e h =
+    ap (λ r. onward r carried)
+    (at_spot_fails d m s n (λ c. Ok (piece_of d m c s n (value_at c (s.at / 16)))) e h)
+
+pub carried_plain : (d : Mode) (m : Memory) (s : Spot) (n : ℕ) (c : Content) → reached d m s n ≡ Ok c →
+    (if s.carries && n == 16 then value_at c (s.at / 16) else None) ≡ None →
+    carried_at d m s n ≡ carried (Plain (bytes_at d m.shapes c s.at n))
+carried_plain d m s n c e h =
+    let there = at_spot_by d m s n (λ x. Ok (piece_of d m x s n (value_at x (s.at / 16)))) c e in
+    ap (λ r. onward r carried) there ∙ ap carried (plain_piece d m c s n (value_at c (s.at / 16)) h)

@@ -1,7 +1,7 @@
 -- Bytes that are put in place one after another.
-use Rattle.std.proofs.Common.{◌≡◌, ℕ, suc, ◌+◌, ◌-◌, ◌/◌, ◌%◌, ◌<◌, List, [], ◌∷◌, ◌++◌, map, length, take, get_or, set}
+use Rattle.std.proofs.Common.{◌≡◌, ℕ, suc, ◌+◌, ◌-◌, ◌/◌, ◌%◌, ◌<◌, List, [], ◌∷◌, ◌++◌, map, length, take, set}
 use Rattle.std.proofs.Common.{ap, ◌∙◌, arith, Option, Some}
-use Rattle.std.proofs.lemmas.List.{take_more, take_more_set, map-append, append_assoc}
+use Rattle.std.proofs.lemmas.List.{take_more_set, map-append, append_assoc}
 use Rattle.obj_mem.specs.Access.{bytes_of as low_bytes}
 use Rattle.object_memory.specs.Answers.{plain_cell}
 
@@ -14,10 +14,3 @@ low_more items k n left l h =
     let more = ap (map plain_cell) (take_more_set items k (Some (left % 256)) h)
     ∙ map-append plain_cell (take k items) (Some (left % 256) ∷ []) in
     rw (e, more) (append_assoc front (plain_cell (Some (left % 256)) ∷ []) (low_bytes (n - (k + 1)) (left / 256)))
-
-pub pair_more : {X : Type 0} (xs ys zs : List X) (k : ℕ) (d : X) → 8 + k < length xs → k < length ys →
-    take (8 + k) xs ≡ zs ++ take k ys → take (8 + (k + 1)) (set xs (8 + k) (get_or ys k d)) ≡ zs ++ take (k + 1) ys
-pair_more xs ys zs k d h l e =
-    let next : 8 + (k + 1) ≡ 8 + k + 1 = omega arith in
-    rw (next, take_more_set xs (8 + k) (get_or ys k d) h, e, take_more ys k d l)
-    (append_assoc zs (take k ys) (get_or ys k d ∷ []))

@@ -1,5 +1,5 @@
 -- What the code's answers and arguments are, as the definitions say them.
-use Rattle.std.specs.Prelude.{ℕ, ◌+◌, ◌^◌, ◌<◌, List, map, take, Option, Some, None, option_map, Result, Ok, Err}
+use Rattle.std.specs.Prelude.{ℕ, ◌+◌, ◌^◌, ◌<◌, List, map, take, Option, Some, None, option_map, Result}
 use Rattle.obj_mem.specs.declared.value.Value as public
 use Rattle.obj_mem.specs.declared.map.Mode as known
 use Rattle.obj_mem.specs.declared.map.Mode.TheVariants as mode
@@ -9,16 +9,13 @@ use Rattle.obj_mem.specs.Objects.{Cell, Byte, Unwritten, Shape, Content, Mode, P
 use Rattle.obj_mem.specs.Access.{Spot}
 use Rattle.obj_mem.specs.Pointers.{at_offset}
 use Rattle.obj_mem.specs.Table.{addresses_of}
+use Rattle.held_values.specs.Answers.{mapped}
 use Rattle.object_memory.specs.declared.object.Cell as kept
 use Rattle.object_memory.specs.declared.bytes.Bytes as few
 use Rattle.object_memory.specs.declared.reach.Spot as reached
 use Rattle.object_memory.specs.Views.{ObjectView, cell_of}
 
 -- ---- answers
-
-abbrev pub mapped : {A B : Type 0} → (A → B) → Result A Fault → Result B Fault
-mapped f (Ok x) = Ok (f x)
-mapped f (Err e) = Err e
 
 -- a value that the code answers
 abbrev pub seen : Result public.Value Fault → Result Value Fault

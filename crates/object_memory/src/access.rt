@@ -2,15 +2,15 @@
 
 ghost use Rattle.std.specs.Prelude.{◌≡◌, ℕ, ◌+◌, ◌*◌, ◌/◌, ◌^◌, ◌<◌, ◌≤◌, List, ◌∷◌, ◌&&◌, ◌||◌, ◌==◌, map, None, Ok};
 ghost use Rattle.std.specs.Prelude.{Some, IfNone, IfOk, IfSome, if◌then◌else◌, length, option_map, slice_get, true};
-ghost use Rattle.obj_mem.specs.declared.ending.Reason.TheVariants as R;
 ghost use Rattle.obj_mem.specs.Access.{Plain, Tagged, carried as carried_of, copy_unit as copy_unit_of, fetch};
 ghost use Rattle.obj_mem.specs.Access.{has_part, onward, put as put_of, store_access as store_access_of};
-ghost use Rattle.obj_mem.specs.Access.{stored_piece as stored_piece_of, with_piece, known as known_of, load as load_of};
+ghost use Rattle.obj_mem.specs.Access.{stored_piece as stored_piece_of, with_piece, load as load_of};
 ghost use Rattle.obj_mem.specs.Access.{load_access as load_access_of, loaded, takes_padding as takes_padding_of};
 ghost use Rattle.obj_mem.specs.Objects.{Cell as CellMeant, byte_of as byte_in, byte_at as byte_in_object, bytes_at};
 ghost use Rattle.obj_mem.specs.Objects.{part as part_of, parts as parts_of, value_at};
 ghost use Rattle.obj_mem.specs.Values.{value_of};
-ghost use Rattle.object_memory.specs.Answers.{cells_of, mapped, mode_of, plain_cell, seen, shapes_of, spot_of};
+ghost use Rattle.held_values.specs.Answers.{mapped};
+ghost use Rattle.object_memory.specs.Answers.{cells_of, mode_of, plain_cell, seen, shapes_of, spot_of};
 ghost use Rattle.object_memory.specs.Answers.{value_seen};
 ghost use Rattle.object_memory.specs.Memories.{IsFew, IsSize, IsSum, Leaves, loaded_at, memory_at, piece_of, put_there};
 ghost use Rattle.object_memory.specs.Memories.{reached, with_content};
@@ -24,9 +24,9 @@ use crate::bytes::{Bytes, bytes_of, bytes_of_pair};
 use crate::capabilities::memory_bits;
 use crate::notes::{Note, noted_for};
 use crate::object::{Cell, Life, Object};
-use crate::pointers::unspecified;
 use crate::reach::{Spot, reach};
 use cap_ops::Access;
+use held_values::{known, no_padding, unspecified};
 use obj_mem::{Fault, Mode, Reason, UnitFault, Value};
 
 /// A tagged value, or bytes.
@@ -151,19 +151,6 @@ fn sum_at(mode: Mode<'_>, objects: &[Object], o: &Object, at: u64, n: u8) -> Sum
     summed(byte_at(mode, objects, o, at), rest)
 }
 
-/// A value that is known where its bytes were all written, and none is of a stored pointer.
-fn known(unwritten: bool, part: bool, v: Value) -> Result<Value, Fault>
-    ensures { seen result ≡ known_of unwritten R.Unwritten (known_of part R.Address (Ok (value_of v))) }
-{
-    if unwritten {
-        unspecified(Reason::Unwritten)
-    } else if part {
-        unspecified(Reason::Address)
-    } else {
-        Ok(v)
-    }
-}
-
 fn either(a: bool, b: bool) -> bool
     ensures { result ≡ (a || b) }
 {
@@ -188,7 +175,8 @@ fn read_pair(mode: Mode<'_>, objects: &[Object], o: &Object, at: u64) -> Result<
 fn read(mode: Mode<'_>, objects: &[Object], o: &Object, at: u64, n: u8) -> Result<Value, Fault>
     requires size { IsSize n }
     requires within { at + n < 2 ^ 64 }
-    ensures { seen result ≡ loaded n (Plain (bytes_at (mode_of mode.entry) (shapes_of objects.now) o.now.content at n)) }
+    ensures { seen result ≡ loaded n
+        (Plain (bytes_at (mode_of mode.entry) (shapes_of objects.now) o.now.content at n)) }
 {
     if n == 16 {
         read_pair(mode, objects, o, at)
@@ -233,10 +221,9 @@ fn object_at<'o>(
             }
             match mode {
                 Mode::Placed(_) => Ok(o),
-                Mode::Strict => if takes_padding(notes, o, s, n) {
-                    unspecified(Reason::Padding)
-                } else {
-                    Ok(o)
+                Mode::Strict => match no_padding(takes_padding(notes, o, s, n)) {
+                    Err(e) => Err(e),
+                    Ok(()) => Ok(o),
                 },
             }
         }

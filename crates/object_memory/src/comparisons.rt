@@ -16,10 +16,11 @@ ghost use Rattle.object_memory.specs.Answers.{mode_of, shapes_of};
 
 use crate::capabilities::{address_of, bits_of};
 use crate::object::{Life, Object};
-use crate::pointers::{has_tag, unspecified};
+use crate::pointers::has_tag;
 use crate::words::word;
 use cap_ops::Cause;
 use ck_int::CmpOp;
+use held_values::unspecified;
 use obj_mem::{Fault, Mode, Reason, Value};
 
 /// Whether an offset is inside its object's length.

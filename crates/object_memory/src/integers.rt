@@ -11,9 +11,9 @@ ghost use Rattle.std.specs.Ordering.{int_eq};
 ghost use Rattle.object_memory.specs.Answers.{mode_of};
 ghost use Rattle.object_memory.specs.Integers.{IsWord};
 
-use crate::pointers::unspecified;
 use cap_concentrate::{alignment_mask, rounded_length};
 use ck_int::{IntKind, IntOp, binary};
+use held_values::unspecified;
 use obj_mem::{Fault, Mode, Reason};
 
 /// The number that low bits stand for in two's complement, where the highest of them is worth `sign`.

@@ -29,6 +29,7 @@ use crate::{access, comparisons, integers, pointers};
 use cap_concentrate::rounded_length;
 use ck_base::NoMemory;
 use ck_int::{CmpOp, IntKind, IntOp};
+use held_values::unspecified;
 use obj_mem::{Fault, Map, Mode, Reason, UnitFault, Value};
 use std::alloc::Global;
 
@@ -302,7 +303,7 @@ impl<'a> Memory<'a> {
         match self.mode {
             Mode::Placed(_) => Ok(()),
             Mode::Strict => if comparisons::laps(from, to, bytes) {
-                pointers::unspecified(Reason::Overlap)
+                unspecified(Reason::Overlap)
             } else {
                 Ok(())
             },

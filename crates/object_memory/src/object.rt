@@ -9,6 +9,7 @@ ghost use Rattle.object_memory.specs.Views.{cell_of, life_of, filled, put_over};
 
 use crate::bytes::Bytes;
 use ck_base::NoMemory;
+use held_values::{hold, release};
 use obj_mem::Value;
 use std::alloc::Global;
 use std::marker::Model;
@@ -181,11 +182,7 @@ impl Object {
     pub(crate) fn put_value(&mut self, at: u64, v: Value)
         ensures { self.new ≡ record self.old { content = with_value self.old.content at (value_of v) } }
     {
-        let granule = (at / 16) as usize;
-        if granule >= self.values.len() {
-            return;
-        }
-        self.values[granule] = Some(v);
+        hold(&mut self.values, at, v);
     }
 
     /// The granule of a place holds no value from here on.
@@ -196,11 +193,7 @@ impl Object {
               { values = slice_set self.old.content.values (at / 16) None };
         } }
     {
-        let granule = (at / 16) as usize;
-        if granule >= self.values.len() {
-            return;
-        }
-        self.values[granule] = None;
+        release(&mut self.values, at);
     }
 
     #[tactic(auto, using(crate::proofs::Puts::changes))]

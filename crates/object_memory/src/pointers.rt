@@ -1,7 +1,6 @@
 //! Operations on one pointer or capability integer.
 
 ghost use Rattle.std.specs.Prelude.{◌≡◌, ◌+◌, ◌^◌, ◌<◌, ◌≤◌, ◌==◌, ◌||◌, not, nat_lt, IsTrue, List};
-ghost use Rattle.obj_mem.specs.Access.{unspecified as says_nothing};
 ghost use Rattle.obj_mem.specs.Objects.{Shape, base_in as base_of};
 ghost use Rattle.obj_mem.specs.Pointers.{is_near as is_near_to, placed_move as placed_moved};
 ghost use Rattle.obj_mem.specs.Pointers.{strict_move as strict_moved, move, is_rounding as rounds};
@@ -22,14 +21,8 @@ use crate::words::{live, word};
 use cap_concentrate::{
     Fields, alignment_mask, bounds_of, flip_null, rounded_length, set_bounds, unpack,
 };
+use held_values::unspecified;
 use obj_mem::{Fault, Map, Mode, Reason, Value};
-
-/// The strict meaning says nothing, for this reason.
-pub(crate) fn unspecified<A>(reason: Reason) -> Result<A, Fault>
-    ensures { result ≡ says_nothing reason }
-{
-    Err(Fault::Unspecified(reason))
-}
 
 /// A pointer with another offset, which keeps its tag where its bounds stay the same.
 fn at_offset(map: &Map, objects: &[Object], v: Value, to: u64) -> Value

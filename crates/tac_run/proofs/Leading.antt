@@ -13,7 +13,7 @@ use Rattle.cheri_c_sem.specs.Meaning.{At, further}
 use Rattle.cheri_c_sem.specs.Modes.{Store, operations, placed_plan}
 use Rattle.cheri_c_sem.specs.Operations.{Operations}
 use Rattle.mean_steps.specs.Parts.{Now, Came, On as Gives, Over, next_of as and_then, unit_answer, give, copy_units}
-use Rattle.tac_ir.specs.Effects.{Next, On, Into}
+use Rattle.tac_ir.specs.Effects.{Next, Into}
 use Rattle.tac_ir.specs.declared.code.LibOp.TheVariants as lib
 use Rattle.tac_ir.specs.declared.code.Tac.{Tac}
 use Rattle.tac_ir.specs.declared.code.TacInstr.{TacInstr}
@@ -21,7 +21,7 @@ use Rattle.tac_ir.specs.declared.code.TacInstr.TheVariants as instr
 use Rattle.tac_steps.specs.Machine.{Moment, effect, kinds_at, leads, led, act_on}
 use Rattle.tac_run.specs.Holdings.{Holding, Changes}
 use Rattle.tac_run.specs.Ready.{objects_by}
-use Rattle.tac_run.specs.Views.{next_of, now_of, moment_of, ops_in, on_done, Comes, Finds, Led, IsInside}
+use Rattle.tac_run.specs.Views.{next_of, now_of, moment_of, ops_in, Comes, Finds, Led, IsInside}
 use Rattle.tac_run.specs.declared.faults.Stop.{Stop}
 use Rattle.tac_run.specs.declared.faults.Stop.TheVariants as stop
 use Rattle.tac_run.specs.declared.run.Run.{Run}
@@ -57,18 +57,6 @@ pub same_map : {E : Type 0} (r : Result Store E) (old new : Holding) → Changes
     new.map ≡ old.map
 same_map (Ok s) old new h = ap (λ (x : Holding). x.map) h
 same_map (Err e) old new h = absurd h
-
-pub copied_ok : (c : Came Store (Unit {0})) (m : Map) (new : State) → Comes on_done c m (Ok (tt {0})) new →
-    Comes next_of (and_then c (λ u. give On)) m (Ok next.On) new
-copied_ok (Gives u n) m new h = (refl, h.1, h.2)
-copied_ok (Over e) m new h = absurd h
-
-pub copied_not : (c : Came Store (Unit {0})) (m : Map) (s : Stop) (new : State) → Comes on_done c m (Err s) new →
-    Comes next_of (and_then c (λ u. give On)) m (Err s) new
-copied_not (Gives u n) m stop.NoMemory new h = tt
-copied_not (Gives u n) m (stop.Ended e) new h = absurd h
-copied_not (Over e) m stop.NoMemory new h = tt
-copied_not (Over e) m (stop.Ended e') new h = h
 
 -- ---- a function is called through a value
 

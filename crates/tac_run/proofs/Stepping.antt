@@ -1,13 +1,11 @@
 -- A step of a run: which instruction it does, and what that asks of a sound moment.
 use Rattle.std.proofs.Common.{◌≡◌, ℕ, ◌+◌, ◌^◌, ◌<◌, true, false, ltb, List, length, get_or, Option, Some, None}
-use Rattle.std.proofs.Common.{Result, Ok, Err, refl, sym, ap, ◌∙◌, arith}
+use Rattle.std.proofs.Common.{sym, ap, ◌∙◌, arith}
 use Rattle.std.specs.Prelude.{slice_get}
 use Rattle.std.proofs.lemmas.Bool.{ltb-true, ltb-false}
 use Rattle.std.proofs.lemmas.Option.{slice_get-get_or, slice_get_past}
-use Rattle.ck_base.specs.Calls.{Seen}
-use Rattle.ck_base.specs.Runs.{Act, Goes, Puts, Reads, Ends}
+use Rattle.ck_base.specs.Runs.{Ends}
 use Rattle.c_tree.specs.declared.typed.Typed.{Typed}
-use Rattle.obj_mem.specs.declared.ending.Ending.{Ending}
 use Rattle.obj_mem.specs.declared.ending.Ending.TheVariants as ending
 use Rattle.obj_mem.specs.declared.map.Map.{Map}
 use Rattle.obj_mem.specs.Objects.{Shape}
@@ -22,10 +20,8 @@ use Rattle.tac_steps.specs.Machine.{Moment, effect, code_at, kinds_at, act_on, a
 use Rattle.tac_run.specs.Bases.{IsBased, KeepBases}
 use Rattle.tac_run.specs.Moments.{IsSound, Names}
 use Rattle.tac_run.specs.Ready.{IsRoomy, objects_by}
-use Rattle.tac_run.specs.Views.{Asks, Led, Stepped}
-use Rattle.tac_run.specs.declared.faults.Stop.{Stop}
+use Rattle.tac_run.specs.Views.{Asks}
 use Rattle.tac_run.specs.declared.faults.Stop.TheVariants as stop
-use Rattle.tac_run.specs.declared.run.Run.{Run}
 use Rattle.tac_run.proofs.Keeps.{maps_keep_bases_law}
 use Rattle.tac_run.proofs.Sounding.{ComesSound, effect_sound}
 use Rattle.tac_run.proofs.Temps.{held_based}
@@ -54,22 +50,6 @@ module _ (ops : Operations Store) (t : Tac) (p : Typed) (x : Moment Store) where
   pub act_there : (i : TacInstr) → slice_get (code_at ops t (objects_by p) x.fun) x.at ≡ Some i →
       act ops t (objects_by p) p x ≡ act_on ops t (objects_by p) p i x
   act_there i e = act_is (Some i) e
-
--- what neither reads nor puts was one act
-pub led_stepped : {U : Type 0} (a : Act (Moment Store) Ending) (seen : Seen) (old new : Run) (r : Result U Stop) →
-    Led a old r new → Stepped a seen seen old r new
-led_stepped (Goes m) seen old new (Ok u) h = ((refl, h.0, refl), h.1)
-led_stepped (Goes m) seen old new (Err (stop.Ended e)) h = absurd h
-led_stepped (Goes m) seen old new (Err stop.NoMemory) h = refl
-led_stepped (Puts b m) seen old new (Ok u) h = absurd h
-led_stepped (Puts b m) seen old new (Err (stop.Ended e)) h = absurd h
-led_stepped (Puts b m) seen old new (Err stop.NoMemory) h = refl
-led_stepped (Reads to) seen old new (Ok u) h = absurd h
-led_stepped (Reads to) seen old new (Err (stop.Ended e)) h = absurd h
-led_stepped (Reads to) seen old new (Err stop.NoMemory) h = refl
-led_stepped (Ends e) seen old new (Ok u) h = absurd h
-led_stepped (Ends e) seen old new (Err (stop.Ended e')) h = (ap Some h, refl, refl)
-led_stepped (Ends e) seen old new (Err stop.NoMemory) h = refl
 
 -- ---- what it asks
 

@@ -1,5 +1,5 @@
 use Rattle.std.proofs.Common.{sym}
-use Rattle.mean_run.specs.Views.{place_of}
+use Rattle.mean_work.specs.Places.{place_of}
 use Rattle.mean_run.proofs.Copying.{access_above, copy_goes}
 use Rattle.mean_run.proofs.places.copy.Goals as goal
 

@@ -1,5 +1,5 @@
 use Rattle.std.proofs.Common.{◌+◌, ◌∙◌, arith}
-use Rattle.mean_run.specs.Views.{place_of}
+use Rattle.mean_work.specs.Places.{place_of}
 use Rattle.mean_run.proofs.Copying.{next_word, unit_done, unit_over}
 use Rattle.mean_run.proofs.places.copy_units.Goals as goal
 

@@ -1,7 +1,7 @@
 use Rattle.std.proofs.Common.{◌≡◌, ℕ, ◌-◌, ◌%◌, ◌^◌}
 use Rattle.cheri_c_sem.specs.Modes.{Store}
 use Rattle.mean_steps.specs.Parts.{Now, copy_units}
-use Rattle.mean_run.specs.Views.{place_of}
+use Rattle.mean_work.specs.Places.{place_of}
 use Rattle.mean_run.proofs.places.copy_units.Given as goal
 
 abbrev pub invariant-units : goal.invariant-units

@@ -1,8 +1,8 @@
 use Rattle.std.proofs.Common.{subst}
 use Rattle.cheri_c_sem.specs.Expressions.{kind_at}
 use Rattle.mean_run.specs.declared.branches.Next.TheVariants as next
-use Rattle.mean_run.specs.declared.work.Work.{Work}
-use Rattle.mean_run.specs.declared.work.Work.TheVariants as work
+use Rattle.mean_work.specs.declared.work.Work.{Work}
+use Rattle.mean_work.specs.declared.work.Work.TheVariants as work
 use Rattle.mean_run.specs.Branches.{IsBranch}
 use Rattle.mean_run.specs.Views.{vars_at}
 use Rattle.mean_run.proofs.state.State.branch_of.Goals as goal

@@ -2,7 +2,8 @@ use Rattle.std.specs.Prelude.{if◌then◌else◌}
 use Rattle.obj_mem.specs.Values.{value_of}
 use Rattle.mean_types.specs.Views.{kind_of}
 use Rattle.mean_steps.specs.Parts.{store}
-use Rattle.mean_run.specs.Views.{moment_of, now_of, place_of}
+use Rattle.mean_run.specs.Views.{moment_of, now_of}
+use Rattle.mean_work.specs.Places.{place_of}
 use Rattle.mean_run.proofs.Finishing.{changes_to, did_over, done_given, same_act, same_end}
 use Rattle.mean_run.proofs.state.State.change_to.Goals as goal
 

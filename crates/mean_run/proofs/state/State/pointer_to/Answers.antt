@@ -3,7 +3,7 @@ use Rattle.std.specs.Prelude.{map}
 use Rattle.cheri_c_sem.specs.Types.{narrowing_to, size_in}
 use Rattle.mean_steps.specs.Machine.{first_place}
 use Rattle.mean_run.specs.Sizes.{IsSmall}
-use Rattle.mean_run.specs.Views.{place_of}
+use Rattle.mean_work.specs.Places.{place_of}
 use Rattle.mean_run.proofs.Finishing.{pointer_at, same_act}
 use Rattle.mean_run.proofs.state.State.pointer_to.Goals as goal
 

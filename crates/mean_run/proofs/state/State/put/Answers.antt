@@ -2,7 +2,8 @@ use Rattle.std.proofs.Common.{refl}
 use Rattle.obj_mem.specs.Values.{value_of}
 use Rattle.mean_types.specs.Views.{kind_of}
 use Rattle.mean_steps.specs.Parts.{store}
-use Rattle.mean_run.specs.Views.{moment_of, place_of}
+use Rattle.mean_run.specs.Views.{moment_of}
+use Rattle.mean_work.specs.Places.{place_of}
 use Rattle.mean_run.proofs.Finishing.{did_over, done_given, same_act, same_end, stored_is}
 use Rattle.mean_run.proofs.state.State.put.Goals as goal
 

@@ -1,7 +1,7 @@
 use Rattle.std.proofs.Common.{◌∷◌, refl}
 use Rattle.cheri_c_sem.specs.Programs.{stmt_tree}
 use Rattle.mean_steps.specs.Machine.{Test}
-use Rattle.mean_run.specs.declared.work.Work.TheVariants as work
+use Rattle.mean_work.specs.declared.work.Work.TheVariants as work
 use Rattle.mean_run.specs.Views.{loop_of, vars_at}
 use Rattle.mean_run.proofs.Branching.{turn_ends, turn_used}
 use Rattle.mean_run.proofs.state.State.turned.Goals as goal

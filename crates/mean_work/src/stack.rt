@@ -1,6 +1,6 @@
 //! A list whose next item is on top.
 ghost use Rattle.std.specs.Prelude.{◌≡◌, [], ◌∷◌, OnOk, OnErr};
-ghost use Rattle.mean_run.specs.Stacks.{Pops, with_top};
+ghost use Rattle.mean_work.specs.Stacks.{Pops, with_top};
 
 use ck_base::NoMemory;
 use std::alloc::Global;

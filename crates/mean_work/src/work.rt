@@ -3,7 +3,7 @@ ghost use Rattle.std.specs.Prelude.{◌≡◌};
 ghost use Rattle.obj_mem.specs.Values.{value_of};
 ghost use Rattle.cheri_c_sem.specs.Meaning.{capability_of, position_of};
 ghost use Rattle.cheri_c_sem.specs.Steps.{fault_end, unit_end};
-ghost use Rattle.mean_run.specs.Views.{place_of};
+ghost use Rattle.mean_work.specs.Places.{place_of};
 
 use ck_base::{NoMemory, Pos};
 use obj_mem::{Ending, Fault, UnitFault, Value};
@@ -103,7 +103,7 @@ impl Place {
 
 impl From<NoMemory> for Stop {
     ghost use Rattle.std.specs.Prelude.{◌≡◌};
-    ghost use Rattle.mean_run.specs.declared.work.Stop.TheVariants as stop;
+    ghost use Rattle.mean_work.specs.declared.work.Stop.TheVariants as stop;
 
     ghost from_gives = { λ _ e. e ≡ stop.NoMemory };
 
@@ -114,7 +114,7 @@ impl From<NoMemory> for Stop {
 
 impl From<AllocError> for Stop {
     ghost use Rattle.std.specs.Prelude.{◌≡◌};
-    ghost use Rattle.mean_run.specs.declared.work.Stop.TheVariants as stop;
+    ghost use Rattle.mean_work.specs.declared.work.Stop.TheVariants as stop;
 
     ghost from_gives = { λ _ e. e ≡ stop.NoMemory };
 
