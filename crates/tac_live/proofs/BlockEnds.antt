@@ -16,9 +16,6 @@ pub record IsTopBelow (reach : List ℕ) (n top : ℕ) : Type 0 where
   pub none : n ≡ 0 → top ≡ 0
   pub some : (m : ℕ) → suc m ≡ n → IsTop reach m top
 
-pub top_below_first : (reach : List ℕ) → IsTopBelow reach 0 0
-top_below_first reach = record { none = λ e. refl; some = λ m e. absurd (omega arith) }
-
 module _ (reach : List ℕ) (top : ℕ) where
   top_start : (n : ℕ) → n ≡ 0 → top ≡ 0 → IsTop reach n (max top (slice_index reach n))
   top_start n e z = record {
@@ -58,9 +55,6 @@ pub record IsStartBelow (tops : List ℕ) (n first top : ℕ) : Type 0 where
   pub none : n ≡ 0 → (first ≡ 0) × (top ≡ 0)
   pub some : (m : ℕ) → suc m ≡ n → IsStart tops m first × (top ≡ slice_index tops m)
 
-pub start_below_first : (tops : List ℕ) → IsStartBelow tops 0 0 0
-start_below_first tops = record { none = λ e. (refl, refl); some = λ m e. absurd (omega arith) }
-
 pub start_below : (tops : List ℕ) (n next first top : ℕ) → next ≡ suc n → IsStart tops n first →
     top ≡ slice_index tops n → IsStartBelow tops next first top
 start_below tops n next first top up h e = record {
@@ -95,22 +89,6 @@ start_on tops (suc m) first top h on =
     }
 
 -- ---- the last of a block
-
-pub end_here : (tops : List ℕ) (n : ℕ) → n < length tops → slice_index tops n ≤ n → IsEnd tops n n
-end_here tops n within cut =
-    record { from = omega arith; within = within; cut = cut; joined = λ k a b. absurd (omega arith) }
-
-pub end_back : (tops : List ℕ) (n m last : ℕ) → suc m ≡ n → IsEnd tops n last → m < slice_index tops m →
-    IsEnd tops m last
-end_back tops n m last e h on = record {
-  from = let f = h.from in omega arith;
-  within = h.within;
-  cut = h.cut;
-  joined = λ k a b. elim (cases_eq k m) [
-    | inl s ↦ subst (λ j. j < slice_index tops j) (sym s) on
-    | inr ne ↦ h.joined k (omega arith) b
-  ];
-}
 
 -- ---- blocks
 

@@ -1,15 +1,15 @@
 -- One more instruction for the calls of some code.
-use Rattle.std.proofs.Common.{◌≡◌, ℕ, suc, ◌+◌, ◌<◌, ◌≤◌, max, true, false, List, [], ◌∷◌, ◌++◌, length, get_or, drop}
-use Rattle.std.proofs.Common.{◌⊎◌, inl, inr, sym, ap, subst, ◌∙◌, arith}
+use Rattle.std.proofs.Common.{◌≡◌, ℕ, suc, ◌+◌, ◌≤◌, true, false, List, [], ◌∷◌, ◌++◌, length}
+use Rattle.std.proofs.Common.{◌⊎◌, inl, inr, sym, subst, ◌∙◌, arith}
 use Rattle.std.specs.Prelude.{slice_index, Contains}
 use Rattle.std.specs.List.Sorted.{IsStrictlyIncreasing}
 use Rattle.std.proofs.lemmas.Bool.{cases_eq, cases_lt, both_ways}
-use Rattle.std.proofs.lemmas.List.{get_or_append_left, get_or_push, length_push, at_drop_more, get_or_default}
+use Rattle.std.proofs.lemmas.List.{get_or_append_left, get_or_push, length_push, get_or_default}
 use Rattle.std.proofs.lemmas.List.Elements.{Contains-push}
 use Rattle.tac_ir.specs.Intervals.{IsAt}
 use Rattle.tac_ir.specs.declared.code.TacInstr.{TacInstr}
-use Rattle.tac_live.proofs.Numbers.{same_at, at_above, at_within}
-use Rattle.tac_live.specs.Calls.{is_call, IsCallAt, AreCalls, places_past_eight, most_places}
+use Rattle.tac_live.proofs.Numbers.{same_at, at_within}
+use Rattle.tac_live.specs.Calls.{is_call, IsCallAt, AreCalls}
 
 -- the calls of the instructions up to a number
 pub record CallsUpto (code : List TacInstr) (upto : ℕ) (calls : List ℕ) : Type 0 where
@@ -20,14 +20,6 @@ pub record CallsUpto (code : List TacInstr) (upto : ℕ) (calls : List ℕ) : Ty
 
 none_in : (n : ℕ) → Contains [] n → ⊥
 none_in n (k, lt, e) = omega arith
-
-pub calls_start : (code : List TacInstr) → CallsUpto code 0 []
-calls_start code = record {
-  ascending = λ k lt. absurd (omega arith);
-  bound = λ n c. absurd (none_in n c);
-  sound = λ n c. absurd (none_in n c);
-  complete = λ n a le. let b = at_above code n a.0 a.1 in absurd (omega arith);
-}
 
 pub calls_end : (code : List TacInstr) (calls : List ℕ) → CallsUpto code (length code) calls → AreCalls code calls
 calls_end code calls h = record {
@@ -89,9 +81,3 @@ module _ (code : List TacInstr) (upto at : ℕ) (calls : List ℕ) (i : TacInstr
   }
 
 -- ---- argument places
-
--- the most that what is left uses is the next instruction's or that of the others
-pub most_next : (code : List TacInstr) (k : ℕ) (i : TacInstr) → k < length code → i ≡ get_or code k i →
-    most_places (drop k code) ≡ max (places_past_eight i) (most_places (drop (k + 1) code))
-most_next code k i lt e =
-    at_drop_more most_places code k i lt ∙ ap (λ j. max (places_past_eight j) (most_places (drop (k + 1) code))) (sym e)

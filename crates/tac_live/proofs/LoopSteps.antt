@@ -13,7 +13,7 @@ use Rattle.tac_ir.specs.Temps.{IsIn, goes_to}
 use Rattle.tac_ir.specs.WellFormed.{has_label, label_is_new, labels_differ}
 use Rattle.tac_ir.specs.declared.code.TacInstr.{TacInstr}
 use Rattle.tac_ir.specs.declared.code.TacInstr.TheVariants as instr
-use Rattle.tac_live.proofs.Numbers.{same_at, at_above}
+use Rattle.tac_live.proofs.Numbers.{same_at}
 use Rattle.tac_live.specs.Loops.{ArePlaces, AreReaches}
 
 -- ---- a label stands once
@@ -44,12 +44,6 @@ one_place : (code : List TacInstr) (p q l : ℕ) → labels_differ code ≡ true
 one_place code p q l d (j, e, g) (k, f, h) = let s = same_place code j k l d g h in omega arith
 
 -- ---- where labels stand
-
-pub places_start : (code : List TacInstr) (place : ℕ → Option ℕ) → ((l : ℕ) → place l ≡ None) → ArePlaces code 0 place
-places_start code place none = record {
-  sound = λ l p e. let z = none l in absurd (cc);
-  complete = λ l p a le. let b = at_above code p (instr.Label l) a in absurd (omega arith);
-}
 
 module _ (code : List TacInstr) (upto at : ℕ) (next : at ≡ suc upto) where
   pub places_same : (place : ℕ → Option ℕ) (i : TacInstr) → IsAt code at i → ((l : ℕ) → i ≡ instr.Label l → ⊥) →
@@ -108,19 +102,6 @@ other_key k l ne = elim (cases_order k l) [
 ]
 
 -- ---- how far loops reach
-
-pub reaches_start : (code : List TacInstr) → AreReaches code 0 (0 ∷ [])
-reaches_start code = record {
-  len = refl;
-  onward = λ n le. omega arith;
-  bound = bound;
-  loops = λ n lt. let b = bound n in absurd (omega arith);
-  longest = λ from to l le. let a = at_above code to l.jump l.ends in absurd (omega arith);
-}
-  where
-    bound : (n : ℕ) → slice_index (0 ∷ []) n ≤ 0
-    bound zero = omega arith
-    bound (suc n) = omega arith
 
 module _ (code : List TacInstr) (upto at : ℕ) (reach : List ℕ) (next : at ≡ suc upto)
     (h : AreReaches code upto reach) where
@@ -283,11 +264,13 @@ jump_arm code upto at reach place i k old new next h places here e other was mat
     by_place : (o : Option ℕ) → o ≡ place k → MatchOption o (new ≡ old) (λ from. new ≡ slice_set old from at) →
         AreReaches code at new
     by_place None p m =
-        let ends : (from : ℕ) → IsLoop code from at → ⊥ = λ from l. (let b = begins code upto at place i next here places k from e other l in cc) in
+        let ends : (from : ℕ) → IsLoop code from at → ⊥ = λ from l.
+        (let b = begins code upto at place i next here places k from e other l in cc) in
         subst (λ xs. AreReaches code at xs) (sym (m ∙ was)) (reaches_other code upto at reach next h ends)
     by_place (Some from) p m =
         let early = (places.sound k from (sym p)).0 in
-        let only : (other_from : ℕ) → IsLoop code other_from at → other_from ≡ from = λ f l. (let b = begins code upto at place i next here places k f e other l in cc) in
+        let only : (other_from : ℕ) → IsLoop code other_from at → other_from ≡ from = λ f l.
+        (let b = begins code upto at place i next here places k f e other l in cc) in
         subst (λ xs. AreReaches code at xs) (sym (m ∙ ap (λ xs. slice_set xs from at) was))
         (reaches_jump code upto at reach next h from (a_loop code upto at place i next here places k from e (sym p))
         (omega arith) only)

@@ -211,9 +211,6 @@ module _ (code : List TacInstr) (upto at t : ℕ) (next : at ≡ suc upto) where
 
 -- ---- labels, jumps and branches
 
-pub control_first : (code : List TacInstr) → IsLastControl code 0 0
-control_first code = record { bound = omega arith; stands = λ h. absurd (omega arith); last = λ n i a le e. le }
-
 pub control_here : (code : List TacInstr) (upto at control : ℕ) (i : TacInstr) → at ≡ suc upto → IsAt code at i →
     is_control i ≡ true → IsLastControl code at at
 control_here code upto at control i next here e =
