@@ -145,7 +145,8 @@ fn map_of(
     sizes: Sizes,
 ) -> Result<Map, AllocError>
     requires { in_range sizes ≡ true }
-    ensures { IfOk result (HasParts made.table made.globals.items made.literals.items frames.now entries.now text sizes) }
+    ensures { IfOk result
+        (HasParts made.table made.globals.items made.literals.items frames.now entries.now text sizes) }
 {
     let addresses = addresses(alloc, entries)?;
     let frames = copies_of(alloc, frames)?;

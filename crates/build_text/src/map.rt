@@ -276,7 +276,8 @@ fn push_slot_of(
     objects: &[VarDef],
     slot: Slot,
 ) -> Result<(), NoMemory>
-    ensures { OnOk result (into.new.items ≡ into.old.items ++ slot_line file.now slot (slice_get objects.now slot.var)) }
+    ensures { OnOk result (into.new.items ≡ into.old.items
+        ++ slot_line file.now slot (slice_get objects.now slot.var)) }
 {
     match objects.get(slot.var as usize) {
         Some(variable) => push_slot(into, file, slot, variable),
@@ -292,7 +293,8 @@ fn push_slot_at(
     slots: &[Slot],
     k: usize,
 ) -> Result<(), NoMemory>
-    ensures { OnOk result (into.new.items ≡ into.old.items ++ slot_line_of file.now objects.now (slice_get slots.now k)) }
+    ensures { OnOk result (into.new.items ≡ into.old.items
+        ++ slot_line_of file.now objects.now (slice_get slots.now k)) }
 {
     match slots.get(k) {
         Some(slot) => push_slot_of(into, file, objects, *slot),
@@ -324,7 +326,8 @@ fn push_frame(
     function: &FunDef,
     frame: &Frame,
 ) -> Result<(), NoMemory>
-    ensures { OnOk result (into.new.items ≡ into.old.items ++ frame_lines file.now (Some function.now) (Some frame.now)) }
+    ensures { OnOk result (into.new.items ≡ into.old.items
+        ++ frame_lines file.now (Some function.now) (Some frame.now)) }
 {
     let objects = objects_of(alloc, function.vars.as_slice())?;
     push(into, "frame ")?;

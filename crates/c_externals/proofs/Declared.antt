@@ -328,10 +328,6 @@ pub added_plain : (defines : Bool) (s : Syn) → declared_names s ≡ [] → add
 added_plain true s plain = ap (λ v. v ++ []) plain
 added_plain false s plain = refl
 
-pub naming_same : {old new : Cursor} {before behind : Names} {o p : Parsed} {part : Part} → o ≡ p →
-    GotNaming old new before behind p part → GotNaming old new before behind o part
-naming_same same g = record { tree = g.tree; means = g.means; reads = same ∙ g.reads; names = g.names; grows = g.grows }
-
 -- what was read behind something that was read before, with the names that it adds
 pub naming_after : (old mid new : Cursor) (before behind : Names) {o p : Parsed} (result : Result Part Stop) → o ≡ p →
     Grows old.nodes.items mid.nodes.items →

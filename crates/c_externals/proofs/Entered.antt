@@ -18,9 +18,9 @@ use Rattle.c_phrases.specs.Reading.{is_close_brace}
 use Rattle.c_phrases.specs.Reading.{begins_type}
 use Rattle.c_externals.specs.Statements
 use Rattle.c_externals.specs.Statements.{StatementReader, declare, state}
-use Rattle.c_phrases.specs.Got.{Holds, GotParts, Fails, rest_of, after}
+use Rattle.c_phrases.specs.Got.{GotParts, Fails, rest_of, after}
 use Rattle.c_externals.specs.Blocks.{opening_of, label_of, opened, labelled_by, Extends, Entry, entry, GotEntry, Enters}
-use Rattle.c_phrases.proofs.Made.{grows_same, grows_on, grows_to, holds_on, holds_more, joined_assoc, joined_nil}
+use Rattle.c_phrases.proofs.Made.{grows_on, grows_to, holds_on, holds_more, joined_assoc, joined_nil}
 use Rattle.c_phrases.proofs.Made.{bind_is}
 use Rattle.c_phrases.proofs.Made.{then_is, else_is, fails_same, fails_bind}
 use Rattle.c_phrases.proofs.Climbing.{grows_from, holds_at}
@@ -159,18 +159,6 @@ extends_on {a} g f = record {
   is = g.is ∙ ap (λ v. g.latest ++ v) f.is
       ∙ sym (append_assoc g.latest f.latest a);
 }
-
-pub enters_begin : {old : Cursor} {types : Names} {h : ℕ} {in_switch : Bool} {ys : Syns} {parts : Parts} →
-    Holds old.nodes.items parts ys → Enters old old types types h in_switch ys parts
-enters_begin {old} {ys = ys} holds =
-    record {
-      trees = ys;
-      holds = holds;
-      turns = suc (length (rest_of old));
-      enough = omega arith;
-      same = refl;
-      grows = grows_same;
-    }
 
 pub enters_step : {old now mid next : Cursor} {before behind after_it : Names} {h : ℕ} {in_switch : Bool} {ys : Syns}
     {parts parts' : Parts} {p : Part} {t : Lexeme} (at : Enters old now before behind h in_switch ys parts) →

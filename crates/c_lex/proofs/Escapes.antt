@@ -4,12 +4,12 @@ use Rattle.std.proofs.Common.{length, take, length-take, refl, sym, ap, subst, �
 use Rattle.std.specs.Prelude.{Option, Some, None, if◌then◌else◌, option_map, nat_lt}
 use Rattle.std.specs.Char.{is_digit}
 use Rattle.std.specs.List.{list_all, prefix_len}
-use Rattle.std.proofs.lemmas.Bool.{ltb-true, lt-ltb, le-leb, leb-true, eqb-true, eqb-false, ne_eqb}
+use Rattle.std.proofs.lemmas.Bool.{ltb-true, lt-ltb, le-leb, leb-true, eqb-true, eqb-false, ne_eqb, or_parts, or_cases}
 use Rattle.ck_base.specs.Literals.{are_digits, value_of, simple_escape, leading_digits, BeginsWithEscape}
 use Rattle.ck_base.specs.Literals.{BeginsWithCharacter}
 use Rattle.c_lex.specs.Spelled.{numeric_at, octal_digits, other_escape_at, escape_at, character_at}
 use Rattle.c_lex.proofs.Runs.{run_passes}
-use Rattle.c_lex.proofs.Tables.{and_true, or_true}
+use Rattle.c_lex.proofs.Tables.{and_true}
 
 -- a test and what is chosen by it
 taken : {A : Type 0} (test : Bool) (x : A) (rest : Option A) (y : A) → (if test then Some x else rest) ≡ Some y →
@@ -100,18 +100,14 @@ simple_apart b value e =
     ]
   where
     last : (b == 92 || b == 39 || b == 34 || b == 63) ≡ true → apart b ≡ false
-    last t = elim (or_true _ (b == 63) t) [
+    last t = elim (or_cases _ (b == 63) t) [
       | inr here ↦ apart_at b 63 refl here
-      | inl t1 ↦ elim (or_true _ (b == 34) t1) [
+      | inl t1 ↦ elim (or_cases _ (b == 34) t1) [
         | inr here ↦ apart_at b 34 refl here
-        | inl t2 ↦ elim (or_true (b == 92) (b == 39) t2)
+        | inl t2 ↦ elim (or_cases (b == 92) (b == 39) t2)
             [ inr here ↦ apart_at b 39 refl here | inl here ↦ apart_at b 92 refl here ]
       ]
     ]
-
-both_false : (a b : Bool) → (a || b) ≡ false → (a ≡ false) × (b ≡ false)
-both_false true b e = cc
-both_false false b e = (refl, e)
 
 -- Escape sequences
 
@@ -122,7 +118,7 @@ octal_first bytes some = rw (lt-ltb 0 (length (octal_digits bytes)) some) refl
 pub escape_only : (bytes : List ℕ) (value n : ℕ) → BeginsWithEscape bytes value n → escape_at bytes ≡ Some (value, n)
 unfolding escape_at other_escape_at apart
 escape_only bytes value n (BeginsWithEscape.simple b rest e simple) =
-    let other = both_false (is_digit b 8) (b == 120) (simple_apart b value simple) in
+    let other = or_parts (is_digit b 8) (b == 120) (simple_apart b value simple) in
     ap escape_at e ∙ rw (no_octal b rest other.0, other.1) (rw simple refl)
 escape_only bytes value n (BeginsWithEscape.octal digits e are small) =
     let some : 0 < length (octal_digits bytes) = rw (← e) (some_are 8 digits are) in
@@ -211,7 +207,7 @@ character_found quote (b ∷ bs) p e = by_backslash (b == 92) refl e
         (if stop then None else Some (b, 1)) ≡ Some p → BeginsWithCharacter quote (b ∷ bs) p.0 p.1
     by_itself other true is made = cc
     by_itself other false is made =
-        let neither = both_false (b == quote) (b == 10) is in
+        let neither = or_parts (b == quote) (b == 10) is in
         let same : (b, 1) ≡ p = cc in
         subst (λ (r : ℕ × ℕ). BeginsWithCharacter quote (b ∷ bs) r.0 r.1) same
         (BeginsWithCharacter.itself b bs refl (eqb-false b quote neither.0) other (eqb-false b 10 neither.1))
@@ -222,10 +218,3 @@ character_found quote (b ∷ bs) p e = by_backslash (b == 92) refl e
         BeginsWithCharacter quote (b ∷ bs) p.0 p.1
     by_backslash true is made = by_escape (eqb-true b 92 is) (escape_at bs) refl made
     by_backslash false is made = by_itself (eqb-false b 92 is) _ refl made
-
-pub character_within : {quote : ℕ} {bytes : List ℕ} {value n : ℕ} → BeginsWithCharacter quote bytes value n →
-    (1 ≤ n) × (n ≤ length bytes)
-character_within (BeginsWithCharacter.itself b rest e no_quote no_backslash no_line_feed) =
-    (omega arith, omega (arith, ap length e))
-character_within (BeginsWithCharacter.escape rest e sequence) =
-    (omega arith, omega (arith, ap length e, escape_within sequence))

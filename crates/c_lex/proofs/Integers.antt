@@ -5,7 +5,7 @@ use Rattle.std.proofs.Common.{◌∙◌, ◌⊎◌, inl, inr, arith}
 use Rattle.std.specs.Prelude.{Some, IsSome, if◌then◌else◌, find, nat_le}
 use Rattle.std.specs.Char.{is_digit}
 use Rattle.std.specs.List.{list_all, list_any, prefix_len}
-use Rattle.std.proofs.lemmas.Bool.{ltb-true, lt-ltb, le-leb, eqb-true, eqb-false, ne_eqb, not-true}
+use Rattle.std.proofs.lemmas.Bool.{ltb-true, lt-ltb, le-leb, eqb-true, eqb-false, ne_eqb, not-true, or_cases}
 use Rattle.ck_base.specs.declared.tokens.Integer.{Integer}
 use Rattle.ck_base.specs.Tokens.{is_among}
 use Rattle.ck_base.specs.Literals.{are_digits, value_of, SpellsInteger, suffixes, IntegerType, Int, UnsignedInt, Long}
@@ -15,7 +15,7 @@ use Rattle.c_lex.specs.Spelled.{base_at, digits_at, suffix_at, has_type}
 use Rattle.c_lex.proofs.Escapes.{some_injective}
 use Rattle.c_lex.proofs.Digits.{suffix_said, suffix_spelled}
 use Rattle.c_lex.proofs.Runs.{run_passes}
-use Rattle.c_lex.proofs.Tables.{and_true, or_true, among_passes}
+use Rattle.c_lex.proofs.Tables.{and_true, among_passes}
 
 -- Types
 
@@ -110,7 +110,7 @@ any_element : {A : Type 0} (p : A → Bool) (P : Type 0) (xs : List A) → ((x :
     list_any p xs ≡ true → P
 any_element p P [] each any = cc
 any_element p P (x ∷ xs) each any =
-    elim (or_true (p x) _ any) [ inl here ↦ each x here | inr there ↦ any_element p P xs each there ]
+    elim (or_cases (p x) _ any) [ inl here ↦ each x here | inr there ↦ any_element p P xs each there ]
 
 some_fits : (n : Integer) → IsSome (type_of n) → Fits n
 unfolding type_of

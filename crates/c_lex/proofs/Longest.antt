@@ -11,9 +11,9 @@ use Rattle.ck_base.specs.Tokens.{is_nondigit, is_word_byte, is_word, is_number_b
 use Rattle.ck_base.specs.Tokens.{is_number, is_quoted, punctuators, has_form}
 use Rattle.ck_base.specs.Lexes.{IsLongest, BeginsNoToken}
 use Rattle.c_lex.specs.Fronts.{beginning, IsLongestOf, HasNone}
-use Rattle.std.proofs.lemmas.Bool.{eqb-true}
+use Rattle.std.proofs.lemmas.Bool.{eqb-true, or_cases}
 use Rattle.c_lex.proofs.Runs.{run_passes, front_in_run}
-use Rattle.c_lex.proofs.Tables.{and_true, or_true, among_passes}
+use Rattle.c_lex.proofs.Tables.{and_true, among_passes}
 
 clash : {b : Bool} → b ≡ true → b ≡ false → ⊥
 clash e f = let g = sym e ∙ f in cc
@@ -87,7 +87,7 @@ unfolding starts_number
 number_starts [] e = cc
 number_starts (b ∷ []) e =
     let digit : is_ascii_digit b ≡ true =
-    elim (or_true (is_ascii_digit b) _ e) [
+    elim (or_cases (is_ascii_digit b) _ e) [
       | inl digit ↦ digit
       | inr dot ↦ absurd
           (clash (and_true (b == 46) false dot).1 refl)
@@ -96,11 +96,11 @@ number_starts (b ∷ []) e =
 number_starts (b ∷ c ∷ bs) e = by_test (is_number_byte c) refl
   where
     first_continues : is_number_byte b ≡ true
-    first_continues = elim (or_true (is_ascii_digit b) _ e)
+    first_continues = elim (or_cases (is_ascii_digit b) _ e)
         [ inl digit ↦ digit_continues b digit | inr dot ↦ dot_continues b (and_true (b == 46) _ dot).0 ]
 
     digit_first : is_number_byte c ≡ false → is_ascii_digit b ≡ true
-    digit_first stops = elim (or_true (is_ascii_digit b) _ e)
+    digit_first stops = elim (or_cases (is_ascii_digit b) _ e)
         [ inl digit ↦ digit | inr dot ↦ absurd (clash (digit_continues c (and_true (b == 46) _ dot).1) stops) ]
 
     by_test : (more : Bool) → is_number_byte c ≡ more →
@@ -142,7 +142,7 @@ is_punct-true Text e = cc
 number_no_word : (b : ℕ) (digit_next : Bool) → (is_ascii_digit b || (b == 46 && digit_next)) ≡ true →
     is_nondigit b ≡ false
 unfolding is_nondigit
-number_no_word b digit_next e = elim (or_true (is_ascii_digit b) _ e) [
+number_no_word b digit_next e = elim (or_cases (is_ascii_digit b) _ e) [
   | inl digit ↦ grind arith
   | inr dot ↦ (let is_dot : b ≡ 46 = eqb-true b 46 (and_true (b == 46) _ dot).0 in rw is_dot refl)
 ]

@@ -6,7 +6,7 @@ use Rattle.std.proofs.Math.Bool.{and-false}
 use Rattle.std.proofs.lemmas.Slice.Eq.{bytes_eq-Decides}
 use Rattle.ck_base.specs.Literals.{are_digits}
 use Rattle.std.specs.Char.{is_ascii_digit}
-use Rattle.std.proofs.lemmas.Bool.{eqb-true, cases_lt, not-true}
+use Rattle.std.proofs.lemmas.Bool.{eqb-true, cases_lt, not-true, or_parts, or_cases}
 use Rattle.ck_base.specs.declared.tokens.TokenKind.{TokenKind}
 use Rattle.ck_base.specs.declared.tokens.TokenKind.TheVariants.{Word, Number, Char, Text, Punct}
 use Rattle.ck_base.specs.Tokens.{is_among, is_nondigit, is_word, starts_number, is_number, is_quoted, punctuators}
@@ -22,7 +22,7 @@ use Rattle.c_lex.specs.declared.pieces.Piece.TheVariants as piece
 use Rattle.c_lex.specs.Pieces.{StandsFound, Stands}
 use Rattle.c_lex.proofs.Escapes.{some_injective}
 use Rattle.c_lex.proofs.Longest.{kind_of_form, longest_some}
-use Rattle.c_lex.proofs.Tables.{and_true, or_true, among_passes}
+use Rattle.c_lex.proofs.Tables.{and_true, among_passes}
 
 clash : {b : Bool} → b ≡ true → b ≡ false → ⊥
 clash e f = let g = sym e ∙ f in cc
@@ -88,7 +88,7 @@ first_of (b ∷ bs) = b
 form_first : (kind : TokenKind) (b : ℕ) (bs : List ℕ) → has_form kind (b ∷ bs) ≡ true → outside b ≡ false
 unfolding has_form is_word is_number is_quoted starts_number is_nondigit is_blank outside punctuators first_of
 form_first Word b bs form = let e = (and_true (is_nondigit b) _ form).0 in grind arith
-form_first Number b bs form = elim (or_true (is_ascii_digit b) _ (and_true (starts_number (b ∷ bs)) _ form).0) [
+form_first Number b bs form = elim (or_cases (is_ascii_digit b) _ (and_true (starts_number (b ∷ bs)) _ form).0) [
   | inl digit ↦ grind arith
   | inr dot ↦ (let is_dot = eqb-true b 46 (and_true (b == 46) _ dot).0 in rw is_dot refl)
 ]
@@ -97,10 +97,6 @@ form_first Text b bs form = let quote = eqb-true b 34 (and_true (b == 34) _ form
 form_first Punct b bs form =
     not-true (outside b) (among_passes (λ t. not (outside (first_of t))) punctuators (b ∷ bs) refl form)
 
-both_false : (a b : Bool) → (a || b) ≡ false → (a ≡ false) × (b ≡ false)
-both_false true b e = cc
-both_false false b e = (refl, e)
-
 -- where a token begins and no comment does
 sort_token : (bytes : List ℕ) (kind : TokenKind) (n : ℕ) → has_form kind (take n bytes) ≡ true →
     starts_comment bytes ≡ false → sort bytes ≡ 4
@@ -108,7 +104,7 @@ unfolding outside
 sort_token bytes kind zero form no_comment = let some = longest_some bytes kind zero form in absurd (omega arith)
 sort_token [] kind (suc n) form no_comment = let some = longest_some [] kind zero form in absurd (omega arith)
 sort_token (b ∷ bs) kind (suc n) form no_comment =
-    let other = both_false (is_blank b) (b == 35) (form_first kind b (take n bs) form) in
+    let other = or_parts (is_blank b) (b == 35) (form_first kind b (take n bs) form) in
     sort_other b bs other.0 no_comment ∙ rw other.1 refl
 
 -- where a comment begins, only a punctuator does
@@ -124,7 +120,7 @@ slash_kind second (b ∷ bs) kind (suc n) begins form =
 comment_kind : (bytes : List ℕ) (kind : TokenKind) (n : ℕ) → starts_comment bytes ≡ true →
     has_form kind (take n bytes) ≡ true → (kind ≡ Punct) × (first_of (take n bytes) ≡ 47)
 comment_kind bytes kind n comment form =
-    elim (or_true (begins_with (codes "//") bytes) _ comment)
+    elim (or_cases (begins_with (codes "//") bytes) _ comment)
     [ inl line ↦ slash_kind 47 bytes kind n line form | inr block ↦ slash_kind 42 bytes kind n block form ]
 
 not_comment : (bytes : List ℕ) (b : Bool) → starts_comment bytes ≡ b → (starts_comment bytes ≡ true → ⊥) → b ≡ false
@@ -156,7 +152,7 @@ no_token_no_comment : (bytes : List ℕ) → BeginsNoToken bytes → starts_comm
 unfolding has_form punctuators
 no_token_no_comment [] none = refl
 no_token_no_comment (b ∷ bs) none = not_comment (b ∷ bs) _ refl (λ comment.
-    let slash : b ≡ 47 = elim (or_true (begins_with (codes "//") (b ∷ bs)) _ comment)
+    let slash : b ≡ 47 = elim (or_cases (begins_with (codes "//") (b ∷ bs)) _ comment)
     [ inl line ↦ slash_first 47 b bs line | inr block ↦ slash_first 42 b bs block ] in
     clash (subst (λ c. has_form Punct (c ∷ []) ≡ true) (sym slash) refl) (none Punct 1 (omega arith)))
 
@@ -225,7 +221,7 @@ breaks_sorted {first} {bytes} (Breaks.stray b rest e no_blank no_quote no_direct
     quote_is = subst (λ v. is_quote (first_of v) ≡ false) (sym e) no_quote
 
     neither : (f s p : Bool) → (f && (s || p)) ≡ false → ((f && s) ≡ false) × ((f && p) ≡ false)
-    neither true s p h = both_false s p h
+    neither true s p h = or_parts s p h
     neither false s p h = (refl, refl)
 
     by_hash : (hash : Bool) → (b == 35) ≡ hash → Sorted first bytes (piece.Other (found.Refused 100))
@@ -241,7 +237,7 @@ breaks_sorted {first} {bytes} (Breaks.quote b rest e is none) =
     quote_is = subst (λ v. is_quote (first_of v) ≡ true) (sym e) is
 
     quote_sort : (c : ℕ) (bs : List ℕ) → is_quote c ≡ true → sort (c ∷ bs) ≡ 4
-    quote_sort c bs h = elim (or_true (c == 39) _ h) [
+    quote_sort c bs h = elim (or_cases (c == 39) _ h) [
       | inl single ↦ (let c_is = eqb-true c 39 single in rw c_is refl)
       | inr double ↦
           (let c_is = eqb-true c 34 double in rw c_is refl)

@@ -36,9 +36,6 @@ pub record SameRest (bytes rest : List ℕ) : Type 0 where
   pub forth : (values : List ℕ) → AreCharacters 34 bytes values → (others : List ℕ) × AreCharacters 34 rest others
   pub back : (others : List ℕ) → AreCharacters 34 rest others → (values : List ℕ) × AreCharacters 34 bytes values
 
-pub same_rest : (bytes : List ℕ) → SameRest bytes bytes
-same_rest bytes = record { forth = λ values are. (values, are); back = λ others are. (others, are) }
-
 pub same_rest-more : (bytes rest : List ℕ) (value n : ℕ) → SameRest bytes rest →
     Some (value, n) ≡ character_at 34 rest → SameRest bytes (drop n rest)
 same_rest-more bytes rest value n same at = record {
@@ -56,9 +53,6 @@ pub record Unescaped (old now bytes rest : List ℕ) : Type 0 where
   pub pushed : now ≡ old ++ done
   pub left : (values : List ℕ) → AreCharacters 34 bytes values →
       (others : List ℕ) × AreCharacters 34 rest others × (values ≡ done ++ others)
-
-pub unescaped : (old bytes : List ℕ) → Unescaped old old bytes bytes
-unescaped old bytes = record { done = []; pushed = sym (append-nil old); left = λ values are. (values, are, refl) }
 
 pub unescaped-more : (old now bytes rest : List ℕ) (value n : ℕ) → Unescaped old now bytes rest →
     Some (value, n) ≡ character_at 34 rest → Unescaped old (now ++ value ∷ []) bytes (drop n rest)

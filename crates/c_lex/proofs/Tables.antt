@@ -1,19 +1,15 @@
 -- What holds of a text in a table holds by a test of the table.
-use Rattle.std.proofs.Common.{◌≡◌, ℕ, ◌≤◌, Bool, true, false, ◌&&◌, ◌||◌, List, [], ◌∷◌, length, get_or, nat_le, refl}
-use Rattle.std.proofs.Common.{subst, ◌⊎◌, inl, inr}
+use Rattle.std.proofs.Common.{◌≡◌, ℕ, ◌≤◌, Bool, true, false, ◌&&◌, List, [], ◌∷◌, length, get_or, nat_le, refl}
+use Rattle.std.proofs.Common.{subst, inl, inr}
 use Rattle.std.specs.List.{list_all}
 use Rattle.std.proofs.lemmas.Slice.Eq.{bytes_eq-Decides}
-use Rattle.std.proofs.lemmas.Bool.{leb-true}
+use Rattle.std.proofs.lemmas.Bool.{leb-true, or_cases}
 use Rattle.ck_base.specs.Tokens.{is_among, punctuators, left_out}
 use Rattle.c_lex.specs.Fronts.{begins_left_out}
 
 pub never : (b : Bool) → b ≡ false → b ≡ true → ⊥
 never true e f = cc
 never false e f = cc
-
-pub or_true : (a b : Bool) → (a || b) ≡ true → (a ≡ true) ⊎ (b ≡ true)
-or_true true b e = inl refl
-or_true false b e = inr e
 
 pub and_true : (a b : Bool) → (a && b) ≡ true → (a ≡ true) × (b ≡ true)
 and_true true b e = (refl, e)
@@ -24,7 +20,7 @@ pub among_passes : (p : List ℕ → Bool) (table : List (List ℕ)) (text : Lis
 among_passes p [] text all among = cc
 among_passes p (entry ∷ table) text all among =
     let passes = and_true _ _ all in
-    elim (or_true _ _ among) [
+    elim (or_cases _ _ among) [
       | inl here ↦ subst (λ t. p t ≡ true) ((bytes_eq-Decides entry text).0 here) passes.0
       | inr there ↦ among_passes p table text passes.1 there
     ]

@@ -2,10 +2,7 @@
 use Rattle.std.proofs.Common.{◌≡◌, ℕ, suc, ◌+◌, ◌≤◌, ◌<◌, List, [], ◌∷◌, ◌++◌, length, reverse, map, take, get_or}
 use Rattle.std.proofs.Common.{Option, Some, None, refl, ap, sym, subst, ◌∙◌, arith}
 use Rattle.std.proofs.lemmas.Option.{none-some}
-use Rattle.ck_base.specs.declared.refusal.Refusal.{Refusal}
-use Rattle.ck_base.specs.declared.refusal.Refusal.TheVariants.{Code, NoMemory}
 use Rattle.ck_base.specs.Tokens.{Lexeme}
-use Rattle.ck_base.specs.Lexes.{Refuses}
 use Rattle.c_tree.specs.declared.syntax.Tree.{Tree}
 use Rattle.c_tree.specs.Syntax.{Syn, StandsAt}
 use Rattle.c_tree.specs.Parses.{DerivesFile}
@@ -15,7 +12,7 @@ use Rattle.c_phrases.specs.Reading.{Names}
 use Rattle.c_phrases.specs.declared.cursor.Stop.{Stop}
 use Rattle.c_phrases.specs.declared.cursor.Stop.TheVariants.{NoTree}
 use Rattle.c_phrases.specs.Got.{Fails}
-use Rattle.c_parse.specs.Parsed.{IsTreeOf, IsRefused, lexical, HasNoTree, OnCode}
+use Rattle.c_parse.specs.Parsed.{IsTreeOf, HasNoTree}
 use Rattle.c_phrases.proofs.Tools.{given}
 use Rattle.c_externals.proofs.StatementsSound.{file_sound}
 use Rattle.c_externals.proofs.StatementsComplete.{file_complete}
@@ -43,11 +40,6 @@ none_made tokens ts same none x derives low =
 pub some_token : (ts : List Lexeme) → read_file 199 ts ≡ None → 0 < length ts
 some_token [] none = absurd (none-some _ (sym none ∙ file_of_none [] refl))
 some_token (t ∷ ts) none = omega arith
-
-pub lexical_code : (file : List ℕ) (e : Refusal) → OnCode e (λ code place. Refuses file code place) →
-    OnCode e (λ code place. IsRefused file code place)
-lexical_code file (Code code place) r = lexical r
-lexical_code file NoMemory r = tt
 
 pub fails_none : {A : Type 0} (e : Stop) (o : Option A) → e ≡ NoTree → Fails e o → o ≡ None
 fails_none e o is why = subst (λ v. Fails v o) is why

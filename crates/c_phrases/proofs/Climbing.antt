@@ -13,13 +13,11 @@ use Rattle.c_phrases.specs.declared.cursor.Cursor.{Cursor}
 use Rattle.c_phrases.specs.declared.cursor.Part.{Part}
 use Rattle.c_phrases.specs.declared.cursor.Parts.{Parts}
 use Rattle.c_phrases.specs.declared.cursor.Stop.{Stop}
-use Rattle.c_phrases.specs.declared.steps.Step.{Step}
 use Rattle.c_phrases.specs.Reading
 use Rattle.c_phrases.specs.Reading.{◌>>=◌, Names, ParsedParts, Reader, level, level_of, goes_on, starts}
 use Rattle.c_phrases.specs.Reading.{goes_on_listing, past}
-use Rattle.c_phrases.specs.Got.{Means, Holds, Grows, Got, GotParts, Fails, rest_of, kind_of, after}
-use Rattle.c_phrases.specs.Steps.{run, follow_from}
-use Rattle.c_phrases.specs.Climbing.{Climbs, Produces, Lists, list_behind}
+use Rattle.c_phrases.specs.Got.{Means, Holds, Grows, Got, Fails, rest_of, kind_of, after}
+use Rattle.c_phrases.specs.Climbing.{Climbs, Lists, list_behind}
 use Rattle.c_phrases.proofs.Made.{grows_on, grows_to, holds_on, holds_more, joined_assoc, then_is, else_is, bind_is}
 use Rattle.c_phrases.proofs.Made.{fails_same, fails_bind}
 
@@ -119,37 +117,6 @@ climbs_end {old} {now} {next} {below} {l} {types} {x} {part} at stop nodes rest 
 
 -- steps of a production
 
-pub produces_step : {old now next : Cursor} {below : ℕ} {types : Names} {steps left others : List Step} {s : Step}
-    {ys : Syns} {parts p : Parts} (at : Produces old now below types steps left ys parts) →
-    left ≡ s ∷ others → GotParts now next (after at.trees (follow_from (Reading.read below) s types (rest_of now))) p →
-    Produces old next below types steps others ys p
-produces_step {old} {now} {next} {below} {types} {steps} {left} {others} {s} at eq sub = record {
-  trees = sub.trees;
-  holds = sub.holds;
-  same = at.same ∙ ap (λ v. run (Reading.read below) v at.trees types (rest_of now)) eq
-      ∙ bind_is (λ a. run (Reading.read below) others a.0 types a.1) sub.reads;
-  grows = grows_on at.grows sub.grows;
-}
-
-pub produces_fail : {old now : Cursor} {below : ℕ} {types : Names} {steps left others : List Step} {s : Step}
-    {ys : Syns} {parts : Parts} (e : Stop) (at : Produces old now below types steps left ys parts) →
-    left ≡ s ∷ others → Fails e (after at.trees (follow_from (Reading.read below) s types (rest_of now))) →
-    Fails e (run (Reading.read below) steps ys types (rest_of old))
-produces_fail {old} {now} {below} {types} {steps} {left} {others} {s} e at eq why =
-    fails_same e (at.same ∙ ap (λ v. run (Reading.read below) v at.trees types (rest_of now)) eq)
-    (fails_bind e (after at.trees (follow_from (Reading.read below) s types (rest_of now)))
-    (λ a. run (Reading.read below) others a.0 types a.1) why)
-
-pub produces_end : {old now : Cursor} {below : ℕ} {types : Names} {steps left : List Step} {ys : Syns} {parts : Parts}
-    (at : Produces old now below types steps left ys parts) →
-    left ≡ [] → GotParts old now (run (Reading.read below) steps ys types (rest_of old)) parts
-produces_end {old} {now} {below} {types} {steps} {left} at eq = record {
-  trees = at.trees;
-  holds = at.holds;
-  reads = at.same ∙ ap (λ v. run (Reading.read below) v at.trees types (rest_of now)) eq;
-  grows = at.grows;
-}
-
 -- lists
 
 pub after_more : (zs : Syns) (x : Syn) (o : ParsedParts) →
@@ -242,9 +209,3 @@ lists_fail {old} {now} mid {below} {g} {types} {ys} {parts} e at on rest why = g
         fails_same e (same ∙ then_is _ on
         ∙ ap (λ v. after at.trees (Reading.separated (Reading.read below) (suc k) g types v)) (sym rest))
         (separated_fails e (Reading.read below) k g types at.trees (rest_of mid) why)
-
-pub lists_end : {old now : Cursor} {below : ℕ} {g : Goal} {types : Names} {ys : Syns} {parts : Parts}
-    (at : Lists old now below g types ys parts) →
-    goes_on_listing (rest_of now) ≡ false →
-    GotParts old now (after ys (Reading.list_of (Reading.read below) g types (rest_of old))) parts
-lists_end at off = record { trees = at.trees; holds = at.holds; reads = at.same ∙ else_is _ off; grows = at.grows }

@@ -27,7 +27,7 @@ use Rattle.c_tree.specs.Grammar.{is_typedef_node, count, Goal, Expression}
 use Rattle.c_tree.specs.Grammar.{TypeName, Specifiers, Specifier, Member, Enumerator, Qualifier, Declarator, Parameter}
 use Rattle.c_tree.specs.Grammar.{Initializer, Derives, Declares, Repeated}
 use Rattle.c_phrases.specs.Reading.{Names, is_open_parenthesis, is_close_parenthesis, is_close_bracket, is_open_brace}
-use Rattle.c_phrases.specs.Reading.{is_close_brace, is_semicolon, is_star, is_text, begins_specifier, begins_declarator}
+use Rattle.c_phrases.specs.Reading.{is_semicolon, is_star, is_text, begins_specifier, begins_declarator}
 use Rattle.c_phrases.specs.Reading.{starts_with, starts, begins_type, goes_on_specifying, opens_type, level, goes_on}
 use Rattle.c_phrases.proofs.Tools.{both_true, both_false, le_of, shut_le, behind}
 use Rattle.c_phrases.proofs.Symbols.{word_is}
@@ -213,14 +213,6 @@ stops_edge x s l le e =
           omega arith
     ]
 
-pub edge_low : (x : Syn) → edge x ≤ 16
-edge_low x = elim (edges x) [
-  | loose a b c d ↦ omega arith
-  | middle a b ↦ omega arith
-  | tight a b c d ↦ omega arith
-  | whole a b ↦ omega arith
-]
-
 stops_by : (k : Tail) (l m : ℕ) → l ≤ 15 → pull_by k ≤ l → goes_on k l m ≡ false
 stops_by (Tails.Joins p) l m le e = ap (λ v. v && nat_le (infix_level p) m) (shut_le l (infix_level p) (omega arith))
 stops_by Tails.Asks l m le e = ap (λ v. v && nat_le 3 m) (shut_le l 2 (omega arith))
@@ -329,10 +321,6 @@ no_close_parenthesis _ e = refl
 pub no_close_bracket : (s : Symbol) → is_end s ≡ false → is_close_bracket s ≡ false
 no_close_bracket Symbols.CloseBracket e = cc
 no_close_bracket _ e = refl
-
-pub no_close_brace : (s : Symbol) → is_end s ≡ false → is_close_brace s ≡ false
-no_close_brace Symbols.CloseBrace e = cc
-no_close_brace _ e = refl
 
 pub no_open_brace : (s : Symbol) → is_end s ≡ false → is_open_brace s ≡ false
 no_open_brace Symbols.OpenBrace e = cc

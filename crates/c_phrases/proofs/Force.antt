@@ -58,10 +58,6 @@ dropped f xs n ys zs e l =
     sym (drop-map f n xs) ∙ ap (λ v. drop n v) (split f xs ys zs e)
     ∙ last_part (reverse zs) (reverse ys) n (length-reverse zs ∙ l)
 
-pub reversed_take : {A B : Type 0} (f : A → B) (xs : List A) (n : ℕ) (ys zs : List B) → reverse (map f xs) ≡ ys ++ zs →
-    length zs ≡ n → reverse (map f (take n xs)) ≡ zs
-reversed_take f xs n ys zs e l = ap reverse (taken f xs n ys zs e l) ∙ reverse-reverse zs
-
 map_reverse : {A B : Type 0} (f : A → B) (xs : List A) → map f (reverse xs) ≡ reverse (map f xs)
 map_reverse f [] = refl
 map_reverse f (x ∷ xs) = ap (λ v. map f v) (reverse_cons x xs) ∙ map-append f (reverse xs) (x ∷ [])

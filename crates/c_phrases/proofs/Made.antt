@@ -70,9 +70,6 @@ stand_then : {ns : List Node} {is : List ℕ} {xs : Syns} {i : ℕ} {x : Syn} �
 stand_then none s = next s none
 stand_then (next t k) s = next t (stand_then k s)
 
-max_zero : (a : ℕ) → max a 0 ≡ a
-max_zero a = omega arith
-
 max_assoc : (a b c : ℕ) → max (max a b) c ≡ max a (max b c)
 max_assoc a b c = omega arith
 
@@ -159,10 +156,6 @@ fails_memory e o same = rw same tt
 
 -- Runs of parts
 
-pub runs_begin : {reads : List Lexeme → Syns × List Lexeme} {cursor : Cursor} {parts : Parts} →
-    Holds cursor.nodes.items parts nil → RunsOn reads cursor cursor parts
-runs_begin h = record { trees = nil; holds = h; same = refl; grows = grows_same }
-
 pub runs_more : {reads : List Lexeme → Syns × List Lexeme} {old now next : Cursor} {parts parts' : Parts} {part : Part}
     {x : Syn} →
     RunsOn reads old now parts → reads (rest_of now) ≡ (more x (reads (rest_of next)).0, (reads (rest_of next)).1) →
@@ -204,7 +197,3 @@ first_leaf Kinds.OpenArray t = refl
 first_leaf Kinds.Array t = refl
 first_leaf Kinds.Function t = refl
 first_leaf _ t = refl
-
--- what was read, where it fails only for want of memory
-pub fails_only : {A : Type 0} (o : Option A) (e : Stop) → e ≡ NoMemory → Fails e o
-fails_only o e same = rw same tt

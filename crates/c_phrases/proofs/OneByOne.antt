@@ -12,10 +12,6 @@ pub tag_is : {ts r : List Lexeme} {t : Lexeme} → ts ≡ t ∷ r → is_word (s
     tag ts ≡ (one (node Kinds.Tag t nil), r)
 tag_is e word = ap tag e ∙ then_is _ word
 
-pub tag_none : (ts : List Lexeme) → starts is_word ts ≡ false → tag ts ≡ (nil, ts)
-tag_none [] e = refl
-tag_none (t ∷ ts) e = else_is _ e
-
 pub pieces_more : {ts r : List Lexeme} {t : Lexeme} → ts ≡ t ∷ r → is_text (symbol t) ≡ true →
     pieces ts ≡ (more (node Kinds.Text t nil) (pieces r).0, (pieces r).1)
 pieces_more e text = ap pieces e ∙ then_is _ text

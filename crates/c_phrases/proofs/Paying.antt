@@ -86,9 +86,6 @@ pays {k = k} {m} p e =
 pub roomy_paid : {a b : Cursor} {k : ℕ} → Paid a b k → IsRoomy a → IsRoomy b
 roomy_paid p r = let s = p.room in omega arith
 
-pub roomy_owed : {a b : Cursor} → Owed a b 0 → IsRoomy a → IsRoomy b
-roomy_owed p r = let s = p.room in omega arith
-
 pub room_paid : {a b : Cursor} {k : ℕ} → Paid a b k → IsRoomy a → length b.nodes.items < 2 ^ 32
 room_paid p r = let s = p.room in omega arith
 

@@ -783,8 +783,8 @@ fn members_are_known(rt: HostRuntime) {
     assert!(rt; passes(are_members_known(rt.alloc())));
 }
 
-// The place of a declaration of an object whose type breaks rules, which of them, in the order of `Faults`, and the code
-// that comes first.
+// The place of a declaration of an object whose type breaks rules, which of them, in the order of `Faults`, and the
+// code that comes first.
 type Broken = (u32, (bool, bool, bool), u16);
 
 const LOWEST: [Broken; 3] = [

@@ -2311,9 +2311,8 @@ rows =
     nil)) (more (node Kinds.MemberName (at 57 (codes "a")) nil) nil))) nil)) nil))
     (more (node Kinds.Return (at 59 (codes "return")) (more (node Kinds.Number (at 66 (codes "0")) nil) nil))
     nil)))) nil)))) nil))) 133 50 ∷
-    -- int main(void){char
-    -- a[40];putchar(48+cheri_tag_get(a));putchar(cheri_length_get(a));putchar(48+cheri_tag_get(cheri_tag_clear(a)));return
-    -- 0;}
+    -- int main(void){char a[40];putchar(48+cheri_tag_get(a));putchar(cheri_length_get(a));
+    -- putchar(48+cheri_tag_get(cheri_tag_clear(a)));return 0;}
     row (node Kinds.File (at 1 (codes "")) (more
     (node Kinds.FunctionDefinition (at 1 (codes "int"))
     (more (node Kinds.Specifiers (at 1 (codes "int"))
@@ -7415,7 +7414,8 @@ pub a_program : typing (node Kinds.File (at 1 (codes ""))
         params = [];
         vars = record { name = record { start = 20; end = 21 }; place = column 20; of = int; simple = true } ∷ [];
         body = action (Block (0 ∷ [])) no_terms
-            (with_action (action (Init 0 0) (with_term (leaf (Constant 1) int (column 22)) no_terms) no_actions (column 20))
+            (with_action
+            (action (Init 0 0) (with_term (leaf (Constant 1) int (column 22)) no_terms) no_actions (column 20))
             (with_action (action Return (with_term (join (Arithmetic op.Add)
             (step Load (leaf (Var 0) int (column 31)) int (column 31)) (leaf (Constant 2) int (column 33)) int
             (column 32)) no_terms) no_actions (column 24)) no_actions))

@@ -17,10 +17,6 @@ use Rattle.c_tree.proofs.OneAnswer.{one_answer}
 use Rattle.c_tree.proofs.Weighed.{weight_of_program}
 use Rattle.c_tree.proofs.ViewRoom.{same_room}
 
--- two readings of a file are one
-same_tokens : (bytes : List ℕ) (o : ReadsOnce bytes) (a b : List Lexeme) → IsCut bytes a → IsCut bytes b → a ≡ b
-same_tokens bytes o a b s t = o.tokens a b s.lexes t.lexes
-
 same_syntax : (bytes : List ℕ) (o : ReadsOnce bytes) (a b : List Lexeme) (x y : Syn) → IsRead bytes a x →
     IsRead bytes b y → x ≡ y
 same_syntax bytes o a b x y s t =

@@ -129,10 +129,13 @@ expressions_sum : (p : Typed) → IsOrdered p →
     sum_by expr_weight p.exprs ≡ sum_by (W p) (flat_map (λ (s : Stmt). values s.kind) p.stmts)
 expressions_sum p o =
     let n = length p.exprs in
-    let nodes = sum_upto (λ e. expr_weight e + sum_by (W p) (operands e.kind)) (W p) p.exprs 0 (λ k e g. let z : 0 + k ≡ k = omega arith in rw z (expr_is p o k e g)) in
+    let nodes = sum_upto (λ e. expr_weight e + sum_by (W p) (operands e.kind)) (W p) p.exprs 0
+    (λ k e g. let z : 0 + k ≡ k = omega arith in rw z (expr_is p o k e g)) in
     let split = sum_both expr_weight (λ (e : Expr). sum_by (W p) (operands e.kind)) p.exprs in
     let flat = sum_flat (W p) (λ (e : Expr). operands e.kind) p.exprs in
-    let inner = each_flat (λ x. x < n) (λ (e : Expr). operands e.kind) p.exprs (λ k e g. each_of (λ x. x < n) (operands e.kind) (λ j a h. let b = o.operands_before k j a e g h in let c = slice_get_below p.exprs k e g in omega arith)) in
+    let inner = each_flat (λ x. x < n) (λ (e : Expr). operands e.kind) p.exprs
+    (λ k e g. each_of (λ x. x < n) (operands e.kind)
+    (λ j a h. let b = o.operands_before k j a e g h in let c = slice_get_below p.exprs k e g in omega arith)) in
     let outer = each_flat (λ x. x < n) (λ (s : Stmt). values s.kind) p.stmts
     (λ k s g. each_of (λ x. x < n) (values s.kind) (λ j a h. o.values_there k j a s g h)) in
     let uses = used_once (W p) n (expression_uses p) (each_append (λ x. x < n) _ _ inner outer) o.expressions_once in
@@ -166,12 +169,15 @@ statements_sum : (p : Typed) → IsOrdered p →
     ≡ sum_by (λ (f : FunDef). V p f.body) p.funs
 statements_sum p o =
     let n = length p.stmts in
-    let nodes = sum_upto (λ s. own p s + sum_by (V p) (parts s.kind)) (V p) p.stmts 0 (λ k s g. let z : 0 + k ≡ k = omega arith in rw z (stmt_is p o k s g)) in
+    let nodes = sum_upto (λ s. own p s + sum_by (V p) (parts s.kind)) (V p) p.stmts 0
+    (λ k s g. let z : 0 + k ≡ k = omega arith in rw z (stmt_is p o k s g)) in
     let split = sum_both (own p) (λ (s : Stmt). sum_by (V p) (parts s.kind)) p.stmts in
     let split_own = sum_both stmt_weight (λ (s : Stmt). sum_by (W p) (values s.kind)) p.stmts in
     let flat = sum_flat (V p) (λ (s : Stmt). parts s.kind) p.stmts in
     let flat_values = sum_flat (W p) (λ (s : Stmt). values s.kind) p.stmts in
-    let inner = each_flat (λ x. x < n) (λ (s : Stmt). parts s.kind) p.stmts (λ k s g. each_of (λ x. x < n) (parts s.kind) (λ j a h. let b = o.parts_before k j a s g h in let c = slice_get_below p.stmts k s g in omega arith)) in
+    let inner = each_flat (λ x. x < n) (λ (s : Stmt). parts s.kind) p.stmts
+    (λ k s g. each_of (λ x. x < n) (parts s.kind)
+    (λ j a h. let b = o.parts_before k j a s g h in let c = slice_get_below p.stmts k s g in omega arith)) in
     let outer = each_map (λ x. x < n) (λ (f : FunDef). f.body) p.funs (λ k f g. (o.funs k f g).1) in
     let uses = used_once (V p) n (statement_uses p) (each_append (λ x. x < n) _ _ inner outer) o.statements_once in
     let sum = sum_by-append (V p) (flat_map (λ (s : Stmt). parts s.kind) p.stmts)

@@ -1,7 +1,7 @@
 -- Statements as typing makes them (C11 6.8).
 use Rattle.std.proofs.Common.{◌≡◌, ℕ, Bool, true, false, List, [], ◌∷◌, ◌++◌, Option, Some, None, refl, sym, ap, ◌∙◌}
 use Rattle.std.specs.Prelude.{not, ◌||◌}
-use Rattle.std.proofs.lemmas.Bool.{false≢true, ne_eqb, eqb-false}
+use Rattle.std.proofs.lemmas.Bool.{false≢true, ne_eqb, eqb-false, or_parts}
 use Rattle.ck_base.specs.Tokens.{Lexeme}
 use Rattle.c_tree.specs.Programs.{reading_of, reading, readings}
 use Rattle.c_tree.specs.Readings.{Context, Reading}
@@ -105,10 +105,6 @@ same_sym None (Some b) e = refl
 same_sym (Some a) None e = refl
 same_sym (Some a) (Some b) e = ne_eqb b a (λ i. eqb-false a b e (sym i))
 
-neither : (a b : Bool) → (a || b) ≡ false → (a ≡ false) × (b ≡ false)
-neither true b e = absurd (false≢true (sym e))
-neither false b e = (refl, e)
-
 not_true : (b : Bool) → not b ≡ true → b ≡ false
 not_true true e = absurd (false≢true e)
 not_true false e = refl
@@ -118,14 +114,14 @@ lacks_more : (v w : Option ℕ) (n : ℕ) (ls : List Label) → same_value v w �
     has_label v (ls ++ record { value = w; before = n } ∷ []) ≡ false
 lacks_more v w n [] e h = ap (λ b. b || false) e
 lacks_more v w n (l ∷ ls) e h =
-    let k = neither (same_value v l.value) (has_label v ls) h in
+    let k = or_parts (same_value v l.value) (has_label v ls) h in
     ap (λ b. b || has_label v (ls ++ record { value = w; before = n } ∷ [])) k.0 ∙ lacks_more v w n ls e k.1
 
 once_more : (v : Option ℕ) (n : ℕ) (ls : List Label) → has_label v ls ≡ false → AreOnce ls →
     AreOnce (ls ++ record { value = v; before = n } ∷ [])
 once_more v n [] e h = (refl, tt)
 once_more v n (l ∷ ls) e h =
-    let k = neither (same_value v l.value) (has_label v ls) e in
+    let k = or_parts (same_value v l.value) (has_label v ls) e in
     (lacks_more l.value v n ls (same_sym v l.value k.0) h.0, once_more v n ls k.1 h.1)
 
 abbrev CasesMade : Cases → Type 0

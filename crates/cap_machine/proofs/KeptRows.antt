@@ -99,7 +99,8 @@ accesses t c place at a some held e =
     let p = found.1 in
     let low = p.low in
     let high = p.high in
-    let outside : (at < t.base) ⊎ (end_of t ≤ at) = elim (held.tagged p.tagged) as (λ _. (at < t.base) ⊎ (end_of t ≤ at)) [
+    let outside : (at < t.base) ⊎ (end_of t ≤ at) =
+    elim (held.tagged p.tagged) as (λ _. (at < t.base) ⊎ (end_of t ≤ at)) [
       | inl gate ↦ let x = gate.sentry in let y = p.unsealed in absurd (omega arith)
       | inr plain ↦ elim (cases_lt at t.base) as (λ _. (at < t.base) ⊎ (end_of t ≤ at)) [
         | inl before ↦ inl before
@@ -208,7 +209,8 @@ module _ (t : Text) (well : LiesWell t) (text : IsContainedText t) (m : Machine)
       elim (cases_Bool (sets_service (Imm Addi rd rs1 z))) as
       (λ _. IsContained t (next (with_register m rd (null_at (result_of Add (integer m rs1) (extended z)))))) [
         | inl sets ↦ written_kept (Imm Addi rd rs1 z) s refl rd (null_at (result_of Add (integer m rs1) (extended z)))
-            (null_confined t (result_of Add (integer m rs1) (extended z)) (result_below Add (integer m rs1) (extended z)))
+            (null_confined t (result_of Add (integer m rs1) (extended z))
+            (result_below Add (integer m rs1) (extended z)))
             (λ _. number_set rd rs1 z sets)
         | inr none ↦ set_integer_kept (Imm Addi rd rs1 z) s refl none rd (result_of Add (integer m rs1) (extended z))
             (result_below Add (integer m rs1) (extended z))

@@ -51,7 +51,8 @@ bounded_only c tagged user reserved flag start ordered end =
     let own = canonical_fields f start ordered end in
     let perms = f.perms_in_range in
     let otype = f.otype_in_range in
-    let same : with_bounds (plain_fields f.perms f.otype f.address) (base c) (top c) ≡ with_bounds f (base c) (top c) = same_fields _ _ (record {
+    let same : with_bounds (plain_fields f.perms f.otype f.address) (base c) (top c) ≡ with_bounds f (base c) (top c) =
+    same_fields _ _ (record {
       user = sym user;
       perms = mod-eq_of_lt perms;
       reserved = sym reserved;

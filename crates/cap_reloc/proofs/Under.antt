@@ -233,7 +233,10 @@ module _ (p : Typed) (m : Map) (legal : Legal p m) where
       let n = asked_by p in
       let gs = row_matches m (global_need p.types) 0 p.globals m.globals exact.0 (global_small p.types) global_base in
       let ls = row_matches m literal_need (length n.globals) p.literals m.literals exact.1 literal_small literal_base in
-      let es = subst (λ v. Paired (Matches m) (sentries_from v 0) (map (sentry m) m.entries)) legal.entries (sentries_match m 0 m.entries (λ k l. let z : 0 + k ≡ k = omega arith in ap (λ v. get_or m.entries v 0) z) entry_from entry_below) in
+      let at_entry : (k : ℕ) → k < length m.entries → get_or m.entries (0 + k) 0 ≡ get_or m.entries k 0 = λ k l.
+      let z : 0 + k ≡ k = omega arith in ap (λ v. get_or m.entries v 0) z in
+      let es = subst (λ v. Paired (Matches m) (sentries_from v 0) (map (sentry m) m.entries)) legal.entries
+      (sentries_match m 0 m.entries at_entry entry_from entry_below) in
       let h = heap_matches m (omega arith) in
       join_both (Matches m) _ _ (WholeHeap ∷ []) (heap m ∷ [])
       (join_both (Matches m) _ _ (sentries_from (length n.functions) 0) (map (sentry m) m.entries)

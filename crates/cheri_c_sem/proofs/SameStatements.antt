@@ -110,8 +110,8 @@ module _ {M : Type 0} (ops : Operations M) (w : World) where
   same_part n p local offset =
       record {
         at = λ s le k l h. (same_bind n _ _ _ _
-            (same_ask n p (λ m. ops.offset m (ops.whole m (s.first + local) 125) offset)) (λ v. same_give n (At p v))).at
-            s le k l h;
+            (same_ask n p (λ m. ops.offset m (ops.whole m (s.first + local) 125) offset))
+            (λ v. same_give n (At p v))).at s le k l h;
       }
 
   module _ (call call' : ℕ → List Value → Then M Value) (n : ℕ)

@@ -1,10 +1,6 @@
 -- What was found of a file that was read, or could not be.
-use Rattle.std.proofs.Common.{◌≡◌, ℕ, inl, inr, List, Option, Some, None, Result, Ok, Err, refl, sym, ap, ◌∙◌}
-use Rattle.std.specs.Prelude.{Vec}
-use Rattle.std.specs.declared.alloc.Global.{Global}
+use Rattle.std.proofs.Common.{◌≡◌, ℕ, List, Result, Ok, Err, refl, sym, ap, ◌∙◌}
 use Rattle.ck_base.specs.Calls.{Seen}
-use Rattle.ck_base.specs.Files.{FileMap, Gets}
-use Rattle.ck_base.specs.declared.outside.FileError.TheVariants.{Missing, TooLong}
 use Rattle.ck_base.specs.declared.outside.FileError.TheVariants as errors
 use Rattle.elf_file.specs.declared.image.Image.{Image}
 use Rattle.elf_file.specs.Reading.{reading}
@@ -21,27 +17,10 @@ use Rattle.ck_base.specs.declared.refusal.Refusal.TheVariants.{Code, NoMemory}
 use Rattle.bounds_place.specs.declared.sizes.Sizes.{Sizes}
 use Rattle.cheric_build.specs.FromFile.{IsFileRefusal}
 use Rattle.cheric_top.specs.Answers.{not_built, refused_as}
-use Rattle.cheric_top.specs.Command.{FilesSeen, HasRead, IsReadable, IsUnreadable, ExecStopped, NotBuilt}
-use Rattle.cheric_top.specs.Command.{BuildSays, files_seen}
+use Rattle.cheric_top.specs.Command.{FilesSeen, ExecStopped, NotBuilt}
+use Rattle.cheric_top.specs.Command.{BuildSays}
 
 -- ---- files
-
-pub gets_file : (told : Option FileMap) (faults : ℕ) (name : List ℕ) (v : Vec ℕ Global) → Gets told name (Ok v) →
-    HasRead (files_seen told faults) name v.items
-gets_file None faults name v h = (tt, h)
-gets_file (Some files) faults name v h = (h.1, h.0)
-
-pub gets_missing : (told : Option FileMap) (name : List ℕ) → Gets told name (Err Missing) → IsUnreadable told name
-gets_missing None name h = absurd h
-gets_missing (Some files) name h = (files, refl, inl h)
-
-pub gets_too_long : (told : Option FileMap) (name : List ℕ) → Gets told name (Err TooLong) → IsUnreadable told name
-gets_too_long None name h = absurd h
-gets_too_long (Some files) name h = (files, refl, inr h)
-
-pub gets_unread : (told : Option FileMap) (name : List ℕ) → Gets told name (Err errors.NoMemory) → IsReadable told name
-gets_unread None name h = h
-gets_unread (Some files) name h = h
 
 -- ---- building
 

@@ -4,8 +4,8 @@ use Rattle.ck_base.specs.World.{Outcome}
 use Rattle.ck_base.specs.Calls.{BeginsWith}
 
 -- The two sides in one world: what the machine comes to with at most so many instructions, and the meaning with at most
--- so many turns; the machine's ending where it did all the instructions; which endings of the meaning are "one more turn
--- is needed" and "outside"; and what an ending of the machine reports.
+-- so many turns; the machine's ending where it did all the instructions; which endings of the meaning are "one more
+-- turn is needed" and "outside"; and what an ending of the machine reports.
 pub record Sides (E F : Type 0) : Type 0 where
   pub machine : (instructions : ℕ) → Outcome E
   pub meaning : (turns : ℕ) → Outcome F

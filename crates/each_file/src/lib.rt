@@ -1,7 +1,7 @@
 //! Each C file is accepted or refused.
 //!
-//! Promise: a file is a typed program, or the first rule that it breaks refuses it, and never both (`each_file`). So the
-//! definitions leave no file out, whatever a parser or an elaborator does.
+//! Promise: a file is a typed program, or the first rule that it breaks refuses it, and never both (`each_file`). So
+//! the definitions leave no file out, whatever a parser or an elaborator does.
 //! Definitions (`specs/`): `Each`; `File` of `c_tree`.
 //! Main lemma (`proofs/`): `Deciding`, rule by rule; what typing gives can be written down, by `written_programs`.
 #![tactic(auto)]

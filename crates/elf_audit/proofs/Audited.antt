@@ -234,7 +234,8 @@ module _ (t : Text) (base : t.base % 16 ≡ 0) (size : length t.bytes % 16 ≡ 0
         let i = found.0 in
         let s : Stands t x i = record { place = place; is = found.1 } in
         let at_call : is_call i ≡ true → Stands t x Ecall = λ h. subst (λ j. Stands t x j) (call_is i h) s in
-        let last : (x + 4 == end_of t && not (is_plain_jump i)) ≡ false = elim (cases_Bool (x + 4 == end_of t)) as (λ _. (x + 4 == end_of t && not (is_plain_jump i)) ≡ false) [
+        let last : (x + 4 == end_of t && not (is_plain_jump i)) ≡ false =
+        elim (cases_Bool (x + 4 == end_of t)) as (λ _. (x + 4 == end_of t && not (is_plain_jump i)) ≡ false) [
           | inl end ↦
               let e = eqb-true (x + 4) (end_of t) end in
               let l = text.last in

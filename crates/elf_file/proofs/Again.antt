@@ -424,7 +424,8 @@ module _ (r : Rest) (i : Image) (k : IsRestOf i r) (fits : FitsFields i) (rules 
       let h = headers_of i in
       let p = parts r i k in
       let j = image_in h (file_with r i) in
-      let most : 12 ≤ length (words_fields i) = let n = length-append (image_words i.version i.table h) (count_words (has_count i) i.count) in omega (arith, n) in
+      let most : 12 ≤ length (words_fields i) =
+      omega (arith, length-append (image_words i.version i.table h) (count_words (has_count i) i.count)) in
       let version : j.version ≡ i.version =
       word_again (words_at h) 0 i.version (omega (arith, most)) (omega arith) refl in
       let table : j.table.0 ≡ i.table.0 = word_again (words_at h + 48) 6 i.table.0 (omega (arith, most)) refl refl in

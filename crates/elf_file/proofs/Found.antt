@@ -343,8 +343,9 @@ module _ (file : List ℕ) (i : Image) (h : AreBytes file) (p : Passes file i) w
       let size = words_size hs.counted in
       let least = words_size_least hs.counted in
       let next : names_at hs ≡ words_at hs + size + gap_behind size = omega arith in
-      let gap : (the_rest file).words_gap ++ names_on (the_rest file) (image_in hs file) ≡ drop (words_at hs + size) file =
-      ap (λ (y : List ℕ). (the_rest file).words_gap ++ y) (names_cut ∙ ap (λ (n : ℕ). drop n file) next)
+      let rest = the_rest file in
+      let gap : rest.words_gap ++ names_on rest (image_in hs file) ≡ drop (words_at hs + size) file =
+      ap (λ (y : List ℕ). rest.words_gap ++ y) (names_cut ∙ ap (λ (n : ℕ). drop n file) next)
       ∙ cut (words_at hs + size) (gap_behind size) file in
       ap (λ (y : List ℕ). spelled (count_words hs.counted (if hs.counted then x else 0)) ++ y) gap
       ∙ counted_cut hs.counted (words_at hs) file h (omega (arith, room))

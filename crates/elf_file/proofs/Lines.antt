@@ -177,6 +177,10 @@ module _ (xs : List (List ℕ)) (size base pc at : ℕ) (ordered : lines_ok 0 si
     where
       never : (j : ℕ) → j < length xs → (j < k) ⊎ (k ≤ j) → base + (line_of (get_or xs j [])).at ≡ pc → ⊥
       never j inside (inl below) same =
-          let less : (line_of (get_or xs j [])).at < at = ranked _ at _ (sym ((parted comparisons_rise).0 j [] (omega arith) below)) in omega arith
+          let less : (line_of (get_or xs j [])).at < at =
+          ranked _ at _ (sym ((parted comparisons_rise).0 j [] (omega arith) below)) in
+          omega arith
       never j inside (inr above) same =
-          let more : at < (line_of (get_or xs j [])).at = ranked _ at _ (sym ((parted comparisons_rise).1 j [] above inside)) in omega arith
+          let more : at < (line_of (get_or xs j [])).at =
+          ranked _ at _ (sym ((parted comparisons_rise).1 j [] above inside)) in
+          omega arith

@@ -1,4 +1,4 @@
--- The generated file: a valid C file of as many functions as one asks for.
+-- The text of the generated file: as many functions as one asks for, and a `main` that calls each a hundred times.
 use Rattle.std.specs.Prelude.{ℕ, zero, suc, ◌+◌, List, [], ◌++◌, codes, decimal}
 
 -- function k, on a line of its own

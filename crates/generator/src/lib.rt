@@ -1,4 +1,4 @@
-//! A valid C file of as many functions as one asks for.
+//! The text of a C file of as many functions as one asks for.
 //!
 //! Promise: the file is exactly that of the definition.
 //! Definitions (`specs/`): `Generated`.

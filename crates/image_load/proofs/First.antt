@@ -175,7 +175,9 @@ reloc_confined : (t : Text) (r : Reloc) (i : Extent) → IsGood i r → IsContai
 reloc_confined t r i good contained entry =
     let otype = if is_sentry r.perms then SENTRY else UNSEALED in
     let m = made r.base (r.base + r.length) (r.perms % 128) otype (address_of r) in
-    let perms : permits (capability_of r).fields.perms EXECUTE ≡ executes r = ap (λ p. permits p EXECUTE) m.permitted ∙ ap (λ n. eqb n 1) (let q : r.perms % 128 % 4096 / 2 ^ EXECUTE % 2 ≡ r.perms / 2 ^ EXECUTE % 2 = omega arith in q) in
+    let q : r.perms % 128 % 4096 / 2 ^ EXECUTE % 2 ≡ r.perms / 2 ^ EXECUTE % 2 = omega arith in
+    let perms : permits (capability_of r).fields.perms EXECUTE ≡ executes r =
+    ap (λ p. permits p EXECUTE) m.permitted ∙ ap (λ n. eqb n 1) q in
     record {
       address = omega (arith, m.stands_at);
       tagged = λ _. elim (cases_Bool (executes r)) as
@@ -212,14 +214,16 @@ relocs_kept t well initial out (r ∷ rs) m h contained entries has =
     let from = g.0.from in
     let to = g.0.to in
     let even = g.0.even in
-    let apart : (r.place < t.base) ⊎ (end_of t ≤ r.place) = elim (cases_lt r.place t.base) as (λ _. (r.place < t.base) ⊎ (end_of t ≤ r.place)) [
+    let apart : (r.place < t.base) ⊎ (end_of t ≤ r.place) =
+    elim (cases_lt r.place t.base) as (λ _. (r.place < t.base) ⊎ (end_of t ≤ r.place)) [
       | inl before ↦ inl before
       | inr behind ↦ elim (cases_lt r.place (end_of t)) as (λ _. (r.place < t.base) ⊎ (end_of t ≤ r.place)) [
         | inl within ↦ absurd (out r.place from (omega arith) behind within)
         | inr past ↦ inr past
       ]
     ] in
-    let one : IsContainedMemory t (written m r.place new true) = elim (cases_Bool (is_inside m r.place)) as (λ _. IsContainedMemory t (written m r.place new true)) [
+    let one : IsContainedMemory t (written m r.place new true) =
+    elim (cases_Bool (is_inside m r.place)) as (λ _. IsContainedMemory t (written m r.place new true)) [
       | inl inside ↦ capability_has t well m has r.place (capability_of r) inside even apart held
       | inr nowhere ↦
           let misfits : fits_inside m r.place (length new) ≡ false =
@@ -335,7 +339,8 @@ module _ (i : Image) (fine : judged i ≡ Ok tt) (contained : Contained i) (text
   null_all : (k : ℕ) → IsConfined (text_in i) (slice_index_or (replicate 32 (null_at 0)) k (null_at 0))
   null_all k = elim (cases_lt k 32) as (λ _.
       IsConfined (text_in i) (slice_index_or (replicate 32 (null_at 0)) k (null_at 0))) [
-        | inl within ↦ rw (get_or-replicate 32 k (null_at 0) (null_at 0) within) (null_confined (text_in i) 0 (omega arith))
+        | inl within ↦ rw (get_or-replicate 32 k (null_at 0) (null_at 0) within)
+            (null_confined (text_in i) 0 (omega arith))
         | inr past ↦ rw (get_or_past (replicate 32 (null_at 0)) k (null_at 0) past)
             (null_confined (text_in i) 0 (omega arith))
       ]

@@ -1,9 +1,9 @@
 -- The regions of an image that is not refused ascend and do not meet.
 use Rattle.std.proofs.Common.{◌≡◌, ◌≢◌, ℕ, zero, suc, ◌+◌, ◌%◌, ◌<◌, ◌≤◌, ◌^◌, ◌⊎◌, inl, inr, Bool, true, false, cond}
 use Rattle.std.proofs.Common.{eqb, List, [], ◌∷◌, length, Ok, Err, refl, sym, ap, ◌∙◌, subst, arith}
-use Rattle.std.specs.Prelude.{◌&&◌, ◌||◌, not, nat_lt}
+use Rattle.std.specs.Prelude.{◌&&◌, not, nat_lt}
 use Rattle.std.specs.List.{insert, prefix_len}
-use Rattle.std.proofs.lemmas.Bool.{eqb-true, leb-true, lt-ltb, ltb-true, ltb-false, false≢true}
+use Rattle.std.proofs.lemmas.Bool.{eqb-true, leb-true, lt-ltb, ltb-true, ltb-false, false≢true, or_parts}
 use Rattle.tag_mem.specs.Regions.{IsRegion, LieFrom}
 use Rattle.tag_mem.specs.declared.region.Region.{Region}
 use Rattle.elf_file.specs.declared.image.Image.{Image}
@@ -142,10 +142,6 @@ lie_all t d h s f =
 
 -- ---- what an image keeps that is not refused
 
-or_none : (a b : Bool) → (a || b) ≡ false → (a ≡ false) × (b ≡ false)
-or_none false b h = (refl, h)
-or_none true b h = absurd (false≢true (sym h))
-
 not_true : (b : Bool) → not b ≡ true → b ≡ false
 not_true false h = refl
 not_true true h = absurd (false≢true h)
@@ -158,11 +154,11 @@ spread t d h s fit free =
     let c = and_both _ _ b.0 in
     let e = and_both _ _ c.0 in
     let f = and_both _ _ e.0 in
-    let o5 = or_none _ _ free in
-    let o4 = or_none _ _ o5.0 in
-    let o3 = or_none _ _ o4.0 in
-    let o2 = or_none _ _ o3.0 in
-    let o1 = or_none _ _ o2.0 in
+    let o5 = or_parts _ _ free in
+    let o4 = or_parts _ _ o5.0 in
+    let o3 = or_parts _ _ o4.0 in
+    let o2 = or_parts _ _ o3.0 in
+    let o1 = or_parts _ _ o2.0 in
     record {
       text = lies_well_is t f.0;
       initial = lies_well_is d f.1;
@@ -226,7 +222,8 @@ unfolding judged
 judged_own i =
     let t = text_of i in
     let d = initial_of i in
-    let none : ◌≢◌ {A = Judged} (Ok tt) (Err refusal.NoMemory) = λ h. let g : ◌≡◌ {A = Judged} (Ok tt) (Err refusal.NoMemory) = h in cc in
+    let none : ◌≢◌ {A = Judged} (Ok tt) (Err refusal.NoMemory) = λ h.
+    let g : ◌≡◌ {A = Judged} (Ok tt) (Err refusal.NoMemory) = h in cc in
     own_guard (segments_fit t d i.heap i.stack) refusal.Segment _ (λ h. cc)
     (own_guard (not (some_overlap t d i.heap i.stack)) refusal.Overlap _ (λ h. cc)
     (own_guard (lies_inside i.table d) refusal.Overlap _ (λ h. cc)

@@ -97,9 +97,6 @@ sign_works pos j e unary.Minus h w = (h, w)
 sign_works pos j e unary.Complement h w = (h, w)
 sign_works pos j e unary.LogicalNot h w = w
 
-not_works : (pos : Pos) (j : Kind) (e : Ex) → Works e → Works (sign_of pos j e unary.LogicalNot)
-not_works pos j e w = w
-
 module _ (p : Typed) (vars : List VarDef) where
   constant_works : (n : ℕ) (k : Kind) → Works (meant.constant n k)
   constant_works n (Plain k) = tt

@@ -70,7 +70,8 @@ pub trait Operations {
     /// The base of the bounds of a capability, which is a number of 64 bits.
     fn base(&self, v: Value) -> Result<u64, Fault>
         requires { IsWord ((meaning self.now).work (held self.now) sem.Base (value_of v) nothing) }
-        ensures { (x : values.Value) → number_seen result ≡ (meaning self.now).work (held self.now) sem.Base (value_of v) x };
+        ensures { (x : values.Value) →
+            number_seen result ≡ (meaning self.now).work (held self.now) sem.Base (value_of v) x };
 
     /// What else is asked of a capability, or made of it.
     fn work(&self, work: Work, v: Value, x: Value) -> Result<Value, Fault>

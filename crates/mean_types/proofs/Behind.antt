@@ -93,10 +93,6 @@ pub record IsBegun (types : List CType) (facts : List TypeFacts) (n : ℕ) : Typ
 pub begun_none : (types : List CType) → IsBegun types [] 0
 begun_none types = record { count = refl; each = λ t f h e. absurd (let g : None ≡ Some f = e in cc) }
 
-pub begun_all : (types : List CType) (facts : List TypeFacts) (n : ℕ) → IsBegun types facts n → n ≡ length types →
-    AreTypesOf types facts
-begun_all types facts n b e = record { count = b.count ∙ e; each = b.each }
-
 pushed_each : (types : List CType) (facts : List TypeFacts) (n : ℕ) (g : TypeFacts) → IsBegun types facts n →
     AreFactsOf types (n % 2 ^ 32) g → (t : ℕ) (f : TypeFacts) → t < 2 ^ 32 → slice_get (facts ++ g ∷ []) t ≡ Some f →
     AreFactsOf types t f

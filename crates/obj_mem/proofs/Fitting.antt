@@ -101,7 +101,8 @@ near_decodes base owns long p low high at f w e =
     let fi = f.inside in
     let d = encoded_decodes (base + low) (base + high) (base + low) enc (omega arith) (omega arith) (omega arith) in
     let z = near_lies base owns low high at pf pt fo fi w e in
-    let k = keeps_near (encoded_internal (base + low) (base + high)) (encoded_t (base + low) (base + high)) (encoded_b (base + low) (base + high)) (base + low) ((base + at) % 2 ^ 64)
+    let k = keeps_near (encoded_internal (base + low) (base + high)) (encoded_t (base + low) (base + high))
+    (encoded_b (base + low) (base + high)) (base + low) ((base + at) % 2 ^ 64)
     (encoded_t_below (base + low) (base + high)) (encoded_b_below (base + low) (base + high)) (omega (arith, d.0))
     (omega (arith, d.0, d.1)) (omega (arith, d.1)) (omega (arith, d.0, z.0)) (omega (arith, d.1, z.1)) in
     record { base_is = k.0 ∙ d.0; top_is = k.1 ∙ d.1 }

@@ -2,7 +2,7 @@
 use Rattle.std.proofs.Common.{◌≡◌, ℕ, ◌+◌, ◌-◌, ◌%◌, ◌^◌, ◌≤◌, ◌==◌, ◌&&◌, ◌||◌, Bool, true, false, not, nat_lt, nat_le}
 use Rattle.std.proofs.Common.{List, Option, Some, Ok, refl, sym, arith, subst}
 use Rattle.std.specs.Prelude.{slice_get, if◌then◌else◌}
-use Rattle.std.proofs.lemmas.Bool.{cond_both}
+use Rattle.std.proofs.lemmas.Bool.{cond_both, or_parts}
 use Rattle.std.proofs.lemmas.Bool.Decides.{nat_tests}
 use Rattle.std.proofs.lemmas.Nat.{pow_pos}
 use Rattle.cap_concentrate.specs.Rounding.{bounds_exponent, rounded_up, least_base, least_top}
@@ -41,10 +41,6 @@ is_le a b h = grind (arith, nat_tests)
 
 not_below : (a b : ℕ) → nat_lt a b ≡ false → b ≤ a
 not_below a b e = grind (arith, nat_tests)
-
-both_false : (b c : Bool) → (b || c) ≡ false → (b ≡ false) × (c ≡ false)
-both_false true c e = absurd cc
-both_false false c e = (refl, e)
 
 exactly : (exact : Bool) (b t c d : ℕ) → b ≡ c → t ≡ d → (not exact || (b == c && t == d)) ≡ true
 exactly true b t c d e f = grind (arith, nat_tests)
@@ -129,5 +125,5 @@ module _ (s t : List Shape) (functions : ℕ) (a : Addresses) (same : Paired Sam
       go true c e f = tt
       go false true e f = tt
       go false false e f =
-          let d = both_false _ _ e in
+          let d = or_parts _ _ e in
           narrowed o low high at p g len exact (not_below _ _ d.0) (not_below _ _ d.1) f

@@ -163,14 +163,6 @@ bounded_address : (low high perms y x : ℕ) → with_address (bounded low high 
 unfolding with_bounds
 bounded_address low high perms y x = refl
 
-bounded_usable : (low high perms y : ℕ) → usable (bounded low high perms UNSEALED y) ≡ true
-unfolding with_bounds
-bounded_usable low high perms y = refl
-
-bounded_start : (low high perms y : ℕ) → (bounded low high perms UNSEALED y).fields.address ≡ y
-unfolding with_bounds
-bounded_start low high perms y = refl
-
 request_is : (low high perms y len : ℕ) → with_request (bounded low high perms UNSEALED y) len ≡ bounded (least_base y
     (y + len)) (least_top y (y + len)) perms UNSEALED y
 unfolding with_request with_bounds

@@ -7,7 +7,7 @@ use Rattle.cap_concentrate.specs.Rounding.{alignment, owned, bounds_exponent, ro
 use Rattle.cap_concentrate.specs.Decoding.{base_of, base_at}
 use Rattle.cap_concentrate.specs.declared.fields.Fields.{Fields}
 use Rattle.cap_concentrate.proofs.Least.{rounded_up_ge}
-use Rattle.std.proofs.lemmas.Bool.{cond_both}
+use Rattle.std.proofs.lemmas.Bool.{cond_both, or_parts}
 use Rattle.std.proofs.lemmas.Nat.{pow_pos, and_le_l}
 use Rattle.cap_concentrate.proofs.Owned.{owned-owned}
 use Rattle.std.proofs.Math.Nat.{mul-mod_left}
@@ -50,10 +50,6 @@ both_ways P (Err (F.Unspecified u)) y h g = tt
 
 pub not_below : (a b : ℕ) → nat_lt a b ≡ false → b ≤ a
 not_below a b e = grind (arith, nat_tests)
-
-both_false : (b c : Bool) → (b || c) ≡ false → (b ≡ false) × (c ≡ false)
-both_false true c e = absurd cc
-both_false false c e = (refl, e)
 
 least_top_ge : (start end : ℕ) → end ≤ least_top start end
 unfolding least_top
@@ -100,7 +96,7 @@ module _ (s : List Shape) (functions : ℕ) where
       go true c e f = tt
       go false true e f = tt
       go false false e f =
-          let d = both_false (nat_lt (least_base at (at + len)) low) (nat_lt high (least_top at (at + len))) e in
+          let d = or_parts (nat_lt (least_base at (at + len)) low) (nat_lt high (least_top at (at + len))) e in
           let up : least_top at (at + len) ≤ high = not_below high (least_top at (at + len)) d.1 in
           let t = least_top_ge at (at + len) in
           let n = not_rounding at len f in

@@ -266,7 +266,8 @@ turn_take os starts from next align i start size h positive same is whole multip
                 | inr g ↦
                     subst (λ u. Apart u (object os j).length (get_or (set starts i next) k 0) (object os k).length)
                     (sym (there j o.0))
-                    (subst (λ v. Apart (get_or starts j 0) (object os j).length v (object os k).length) (sym (there k g.0))
+                    (subst (λ v. Apart (get_or starts j 0) (object os j).length v (object os k).length)
+                    (sym (there k g.0))
                     (t.placed.apart j k hj hk o.1 g.1 n))
               ]
         ]

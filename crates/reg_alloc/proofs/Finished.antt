@@ -30,7 +30,10 @@ begun live calls homes free_from slots one free none = record {
   apart = λ i j d. absurd (none_done i d);
   taken = λ i r v d. absurd (none_done i d);
   pressure = λ n all.
-      let e : count_by (nat_lt n) free_from ≡ 0 = ap (λ (xs : List ℕ). count_by (nat_lt n) xs) free ∙ (sum_by-replicate (λ x. cond (nat_lt n x) 1 0) 23 0 ∙ rw (cond-false {A = ℕ} (nat_lt n 0) 1 0 (le-ltb n 0 (omega arith)))) in omega arith;
+      let e : count_by (nat_lt n) free_from ≡ 0 = ap (λ (xs : List ℕ). count_by (nat_lt n) xs) free
+      ∙ (sum_by-replicate (λ x. cond (nat_lt n x) 1 0) 23 0
+      ∙ rw (cond-false {A = ℕ} (nat_lt n 0) 1 0 (le-ltb n 0 (omega arith)))) in
+      omega arith;
   slots_below = λ i k d. absurd (none_done i d);
   slot_count = omega arith;
   registers = λ relaxed i k d. absurd (none_done i d);

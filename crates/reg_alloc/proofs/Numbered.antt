@@ -85,8 +85,7 @@ pub entries_more : (live : List Interval) (i : ℕ) (d : Interval) (ys : List En
 entries_more live i d ys l at =
     let v = get_or live i d in
     let size : length (take i live) ≡ i = length-take-le i live (omega arith) in
-    let same : entries_from 0 (take i live) ++ (record { interval = v; index = 0 + length (take i live) }) ∷ [] ≡ entries_from 0 (take i live) ++ (record { interval = v; index = i }) ∷ [] =
-    ap (λ (j : ℕ). let f : Entry = record { interval = v; index = j } in entries_from 0 (take i live) ++ f ∷ [])
-    (omega arith) in
+    let with_index : ℕ → List Entry = λ j. entries_from 0 (take i live) ++ (record { interval = v; index = j }) ∷ [] in
+    let same : with_index (0 + length (take i live)) ≡ with_index i = ap with_index (omega arith) in
     ap (λ (es : List Entry). let f : Entry = record { interval = v; index = i } in es ++ f ∷ []) at
     ∙ (sym same ∙ (sym (entries-push 0 (take i live) v) ∙ ap (entries_from 0) (sym (take_more live i d l))))

@@ -58,6 +58,3 @@ module _ (s : Selecting) (old new : Size) where
       → new.links ≡ old.links → Selects s (instr.Lib op to args) old new
   service_selected op to args p l =
       record { added = p.added; is = p.is; are = (l, library_words s op to args p.added p.are) }
-
-pub turn_selected : (s : Selecting) (old : Size) → Selects s instr.Turn old old
-turn_selected s old = record { added = []; is = sym (append-nil old.text); are = (refl, refl) }

@@ -1,10 +1,10 @@
 -- What is noted of the words of instructions, one after another.
-use Rattle.std.proofs.Common.{◌≡◌, ℕ, zero, suc, ◌+◌, ◌/◌, ◌<◌, ◌≤◌, ◌⊎◌, inl, inr, ⊎_elim, pos, Bool, true, false}
+use Rattle.std.proofs.Common.{◌≡◌, ℕ, zero, suc, ◌+◌, ◌/◌, ◌<◌, ◌≤◌, ◌⊎◌, ⊎_elim, pos, Bool, true, false}
 use Rattle.std.proofs.Common.{List, [], ◌∷◌, ◌++◌, length, refl, sym, ap, ◌∙◌, subst, arith, append_assoc}
 use Rattle.std.proofs.Common.{if◌then◌else◌, eq-eqb, get_or, take}
 use Rattle.std.specs.Prelude.{◌==◌, ◌||◌, not}
 use Rattle.std.specs.List.{All, Contains}
-use Rattle.std.proofs.lemmas.Bool.{and_parts, cases_eq, eqb-true, eqb-false, ne_eqb}
+use Rattle.std.proofs.lemmas.Bool.{and_parts, cases_eq, eqb-true, eqb-false, ne_eqb, or_parts, cases_Bool}
 use Rattle.std.proofs.lemmas.List.{append-nil, length-append, take_more}
 use Rattle.std.proofs.lemmas.List.Elements.{All-append, All-nil, All-push, All-weaker, Contains-append_left}
 use Rattle.std.proofs.lemmas.List.Elements.{Contains-append_right, Contains-push}
@@ -410,10 +410,6 @@ module _ (s : Selecting) where
         ap (λ v. place (i ∷ is) old new h (length (if v then is else behind l is))) e
         ∙ place_later i is old new h (length (behind l is)) (behind_few l is)
 
-  either : (v : Bool) → (v ≡ true) ⊎ (v ≡ false)
-  either true = inl refl
-  either false = inr refl
-
   label_stands : (l : ℕ) (is : List TacInstr) (old new : Size) (h : SelectsAll s is old new) → has_label is l ≡ true
       → Contains (all_marks is old new h) (mark_at l (place is old new h (length (behind l is))))
   label_stands l [] old new h has = absurd cc
@@ -428,19 +424,15 @@ module _ (s : Selecting) where
       (Contains-append_right (marks_of i (length old.text)) (all_marks is h.0 new h.2)
       (mark_at l (place is h.0 new h.2 (length (behind l is))))
       (label_stands l is h.0 new h.2 (ap (λ v. v || has_label is l) (sym e) ∙ has))))
-      (either (is_label i l))
+      (cases_Bool (is_label i l))
 
   no_label : (l : ℕ) (is : List TacInstr) (old new : Size) (h : SelectsAll s is old new) → has_label is l ≡ false
       → All (λ m. m.label ≡ l → ⊥) (all_marks is old new h)
   no_label l [] old new h none = All-nil (λ (m : Mark). m.label ≡ l → ⊥)
   no_label l (i ∷ is) old new h none =
-      let q = neither (is_label i l) (has_label is l) none in
+      let q = or_parts (is_label i l) (has_label is l) none in
       All-append (λ (m : Mark). m.label ≡ l → ⊥) (marks_of i (length old.text)) (all_marks is h.0 new h.2)
       (not_mark i l (length old.text) q.0) (no_label l is h.0 new h.2 q.1)
-    where
-      neither : (a b : Bool) → (a || b) ≡ false → (a ≡ false) × (b ≡ false)
-      neither true b e = absurd cc
-      neither false b e = (refl, e)
 
   not_later : (l : ℕ) (i : TacInstr) (is : List TacInstr) → is_label i l ≡ true → label_is_new i is ≡ true
       → has_label is l ≡ false
@@ -467,7 +459,7 @@ module _ (s : Selecting) where
       (λ (e : is_label i l ≡ false).
       All-weaker (λ (m : Mark). m.label ≡ l → ⊥) (λ (m : Mark). m.label ≡ l → m.at ≡ to) (λ m n x. absurd (n x))
       (marks_of i (length old.text)) (not_mark i l (length old.text) e))
-      (either (is_label i l)))
+      (cases_Bool (is_label i l)))
       (⊎_elim
       (λ (e : is_label i l ≡ true).
       All-weaker (λ (m : Mark). m.label ≡ l → ⊥) (λ (m : Mark). m.label ≡ l → m.at ≡ to) (λ m n x. absurd (n x))
@@ -476,7 +468,7 @@ module _ (s : Selecting) where
       All-weaker (λ (m : Mark). m.label ≡ l → m.at ≡ place is h.0 new h.2 (length (behind l is)))
       (λ (m : Mark). m.label ≡ l → m.at ≡ to) (λ m n x. n x ∙ sym (there l i is old new h e))
       (all_marks is h.0 new h.2) (label_once l is h.0 new h.2 q.1))
-      (either (is_label i l)))
+      (cases_Bool (is_label i l)))
 
   pub label_at : (l : ℕ) (is : List TacInstr) (old new : Size) (h : SelectsAll s is old new) → old.links.marks ≡ []
       → has_label is l ≡ true → labels_differ is ≡ true

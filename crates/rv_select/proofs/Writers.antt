@@ -4,7 +4,6 @@ use Rattle.std.proofs.Common.{get_or}
 use Rattle.std.proofs.Common.{set, take, refl, sym, ap, ◌∙◌, subst, arith, ⊎_elim}
 use Rattle.std.specs.Prelude.{Option, Some, slice_get, IfSome}
 use Rattle.std.specs.List.{Contains}
-use Rattle.std.proofs.Math.ListN.{replicate}
 use Rattle.std.proofs.lemmas.List.{take_more}
 use Rattle.std.proofs.lemmas.List.Elements.{Contains-append_cases}
 use Rattle.std.proofs.lemmas.Option.{slice_get_within, slice_get-get_or}
@@ -74,14 +73,6 @@ set_cases (y ∷ ys) (suc t) x (suc k) w e = ⊎_elim
     (set_cases ys t x k w e)
 
 -- ---- all entries
-
-pub nothing_written : (n : ℕ) → AllWrite 0 [] (replicate n Nothing)
-nothing_written n t w e = subst (Writes 0 [] t) (sym (each n t w e)) (omega arith, λ i c. absurd (omega (arith, c.1)))
-  where
-    each : (n t : ℕ) (w : Written) → slice_get (replicate n Nothing) t ≡ Some w → w ≡ Nothing
-    each zero t w e = absurd cc
-    each (suc n) zero w e = cc
-    each (suc n) (suc t) w e = each n t w e
 
 later : (params : ℕ) (t : ℕ) (w : Written) → params ≢ t → Writes params [] t w → Writes (params + 1) [] t w
 later params t Nothing d h = (let a = h.0 in omega (arith, a, d), h.1)

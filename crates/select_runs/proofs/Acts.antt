@@ -77,9 +77,6 @@ set_other m pc mem r q c other = by (nat_eq q 0)
     by true = refl
     by false = get_or-set_other m.regs r q c (null_at 0) other
 
-pub zero_register : (m : Machine) → register m 0 ≡ null_at 0
-zero_register m = refl
-
 -- ---- stretches
 
 pub join : (j k : ℕ) (l m n : Machine) → Leads j l m → Leads k m n → Leads (j + k) l n

@@ -1,8 +1,8 @@
 -- What is asked of capabilities and lengths, and made of them: the machine does it.
 use Rattle.std.proofs.Common.{◌≡◌, ℕ, zero, suc, ◌+◌, ◌-◌, ◌%◌, ◌^◌, ◌<◌, ◌≤◌, Bool, true, false, ◌||◌, List, ◌∷◌}
-use Rattle.std.proofs.Common.{length, Option, Some, None, refl, sym, ap, ◌∙◌, subst, arith, inl, inr, ◌⊎◌, ⊎_elim}
+use Rattle.std.proofs.Common.{length, Option, Some, None, refl, sym, ap, ◌∙◌, subst, arith, ◌⊎◌, ⊎_elim}
 use Rattle.std.specs.Prelude.{slice_set, Result, Ok, Err}
-use Rattle.std.proofs.lemmas.Bool.{and_parts, ltb-true}
+use Rattle.std.proofs.lemmas.Bool.{and_parts, ltb-true, or_cases}
 use Rattle.ck_base.specs.World.{World}
 use Rattle.ck_int.specs.declared.kinds.IntKind.{IntKind}
 use Rattle.ck_int.specs.declared.kinds.IntKind.TheVariants as int
@@ -95,10 +95,6 @@ truth_kept k kept false = kept false
 pub same_int : (a : Kind) (k : IntKind) → same_kind a (Plain k) ≡ true → is_int a ≡ true
 same_int (Plain j) k h = refl
 same_int (Capability signed) k h = cc
-
-either : (a b : Bool) → (a || b) ≡ true → (a ≡ true) ⊎ (b ≡ true)
-either true b h = inl refl
-either false b h = inr h
 
 -- ---- an answer that is the value's
 
@@ -259,7 +255,7 @@ module _ (s : Setting) (code : List Instr) (x : IsText s code) (stack : StackIsT
       (code_in s running) y (Plain int.I64)) ≡ true
       → (temp_in t y ≡ Int (number_of (temp_in t y))) × (number_of (temp_in t y) < 2 ^ 64)
   address_there y is_some fits = ⊎_elim (λ e. other_int y is_some int.U64 e) (λ e. other_int y is_some int.I64 e)
-      (either _ _ fits)
+      (or_cases _ _ fits)
 
   other_pointer : (y : ℕ) → b ≡ Some y → has_capability p sel.d (kinds_in s running) (code_in s running) y ≡ true
       → (is_integer (temp_in t y) ≡ false) × IsKnown t.mem.memory.shapes (functions_of s) (temp_in t y)

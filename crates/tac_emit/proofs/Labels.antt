@@ -3,7 +3,7 @@ use Rattle.std.proofs.Common.{◌≡◌, ℕ, ◌+◌, ◌<◌, ◌≤◌, Bool,
 use Rattle.std.proofs.Common.{subst, arith, ⊎_elim, inl, inr, ◌⊎◌}
 use Rattle.std.specs.Prelude.{◌==◌, ◌&&◌, ◌||◌, nat_lt}
 use Rattle.std.proofs.lemmas.Bool.Decides.{nat_tests}
-use Rattle.std.proofs.lemmas.Bool.{cases_lt}
+use Rattle.std.proofs.lemmas.Bool.{cases_lt, or_parts}
 use Rattle.c_tree.specs.declared.typed.FunDef.{FunDef}
 use Rattle.c_tree.specs.declared.typed.Typed.{Typed}
 use Rattle.tac_ir.specs.Meaning.{is_label}
@@ -44,10 +44,6 @@ closed_past e l le = let q : nat_lt l e.labels ≡ false = grind (arith, nat_tes
     ap (λ b. b && not (has_label e.code.items l)) q
 
 -- ---- a jump or a branch to an open label
-
--- an instruction that is no label
-not_label : TacInstr → Type 0
-not_label i = (l : ℕ) → is_label i l ≡ false
 
 module _ (a b : Emitter) (i : TacInstr) (h : Pushed a b i) (none : (l : ℕ) → is_label i l ≡ false) where
   or_none : (x : Bool) → (x || (false || false)) ≡ x
@@ -188,10 +184,6 @@ pending_then p d a b c ls h g = record {
   well = g.well;
 }
 
-both_false : (a b : Bool) → (a || b) ≡ false → (a ≡ false) × (b ≡ false)
-both_false true b h = absurd cc
-both_false false b h = (refl, h)
-
 true_and_false : (x : Bool) → x ≡ false → x ≡ true → ⊥
 true_and_false true e f = absurd cc
 true_and_false false e f = absurd cc
@@ -302,7 +294,7 @@ pending_swap p d a b k l ls h = record {
   opens = h.opens ∙ extensional (with_open (k ∷ l ∷ ls) (open_labels a)) (with_open (l ∷ k ∷ ls) (open_labels a))
       (λ z. or_swap (k == z) (l == z) (with_open ls (open_labels a) z));
   are_new =
-      let f = both_false (l == k) (with_open ls (open_labels a) k) h.are_new.0 in
+      let f = or_parts (l == k) (with_open ls (open_labels a) k) h.are_new.0 in
       let e : (k == l) ≡ false = let q = f.0 in grind (arith, nat_tests) in
       (ap (λ z. z || with_open ls (open_labels a) l) e ∙ h.are_new.1.0, (f.1, h.are_new.1.1));
   well = h.well;

@@ -16,7 +16,7 @@ use Rattle.tac_ir.specs.declared.code.TacKind.{TacKind}
 use Rattle.tac_emit.specs.declared.emitter.Emitter.{Emitter}
 use Rattle.tac_emit.specs.Emitted.{HasKind, is_capability, HasInt, HasCapability, Keeps, open_labels, Stands}
 use Rattle.tac_emit.specs.Emitted.{WellListed, Follows, Ends, IsWell, Built, Grown, Made, Pushed, Adds, SameKind}
-use Rattle.tac_emit.specs.Emitted.{SameCapability, IsTemp, Entered, Filled}
+use Rattle.tac_emit.specs.Emitted.{IsTemp, Entered, Filled}
 
 -- ---- truth values
 
@@ -236,9 +236,6 @@ pushed_grown a b i h lasts = record {
 pub built : (p : Typed) (d : FunDef) (a b : Emitter) → IsWell p d a → Grown a b → Built p d a b
 built p d a b w g = record { keeps = g.keeps; stands = g.stands; opens = g.opens; well = g.well p d w }
 
-pub grown_well : (p : Typed) (d : FunDef) (a b : Emitter) → IsWell p d a → Grown a b → IsWell p d b
-grown_well p d a b w g = g.well p d w
-
 pub built_then : (p : Typed) (d : FunDef) (a b c : Emitter) → Built p d a b → Built p d b c → Built p d a c
 built_then p d a b c f g = record {
   keeps = keeps_then a.kinds.items b.kinds.items c.kinds.items f.keeps g.keeps;
@@ -347,10 +344,6 @@ as_same a t u k h g = record { kind = k; to = h; from = g }
 
 pub as_temp : (a : Emitter) (t : ℕ) (k : TacKind) → HasKind a t k → IsTemp a t
 as_temp a t k h = record { kind = k; has = h }
-
-pub as_same_capability : (a : Emitter) (t u : ℕ) (k : TacKind) → HasKind a t k → HasKind a u k →
-    is_capability k ≡ true → SameCapability a t u
-as_same_capability a t u k h g e = record { kind = k; to = h; from = g; is = e }
 
 -- ---- an object is entered
 

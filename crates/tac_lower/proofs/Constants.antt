@@ -12,7 +12,7 @@ use Rattle.tac_ir.specs.WellFormed.{constant_fits, same_kind}
 use Rattle.tac_ir.specs.declared.code.TacKind.{TacKind}
 use Rattle.tac_ir.specs.declared.code.TacKind.TheVariants as kind
 use Rattle.tac_emit.specs.declared.emitter.Emitter.{Emitter}
-use Rattle.tac_emit.specs.Emitted.{HasKind, HasInt, IsWide, CountFits, Grown}
+use Rattle.tac_emit.specs.Emitted.{IsWide, CountFits, Grown}
 use Rattle.tac_lower.specs.Operands.{wide_of}
 use Rattle.tac_emit.proofs.Wells.{kept, kept_int}
 
@@ -64,11 +64,6 @@ pub address_fits : (s : Bool) (n : ℕ) → constant_fits (kind.Cap s) n ≡ tru
 address_fits s n = refl
 
 -- ---- counts
-
-pub count_fits : (e : Emitter) (shift : Bool) (k : IntKind) (t : ℕ) → (shift ≡ true → HasInt e t) →
-    (shift ≡ false → HasKind e t (kind.Int k)) → CountFits e shift k t
-count_fits e true k t f g = f refl
-count_fits e false k t f g = g refl
 
 pub wide_is : (k : TacKind) → IsWide (kind.Int (wide_of k))
 wide_is (kind.Int int.I8) = tt

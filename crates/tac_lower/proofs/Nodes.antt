@@ -117,9 +117,6 @@ module _ (p : Typed) (o : IsOrdered p) where
 
 -- ---- what a type's fitting says of kinds
 
-some_int : (t : Ty) (k : IntKind) (n : ℕ) → t ≡ ty.Int k n → kept_as t ≡ Some (kind.Int k)
-some_int t k n e = ap kept_as e
-
 bare_kept : (t : Ty) → kept_as (ty.bare t) ≡ kept_as t
 bare_kept (ty.Const t) = refl
 bare_kept t = refl

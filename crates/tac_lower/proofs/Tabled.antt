@@ -59,9 +59,6 @@ get_pushed [] y P h q (suc t) f e = absurd cc
 get_pushed (x ∷ xs) y P h q zero f e = h zero f e
 get_pushed (x ∷ xs) y P h q (suc t) f e = get_pushed xs y (λ n. P (suc n)) (λ n. h (suc n)) q t f e
 
-pub table_none : (all : List CType) → TableTo all [] 0
-table_none all = record { many = refl; entries = λ t f h. absurd cc }
-
 pub table_more : (all : List CType) (table : List TypeFacts) (n : ℕ) (f : TypeFacts) → TableTo all table n →
     FactsFit all n f → TableTo all (table ++ f ∷ []) (n + 1)
 table_more all table n f h q = record {
@@ -75,10 +72,6 @@ table_all all table h = record {
   entries = h.entries;
   past = λ t lt le. omega (arith, h.many);
 }
-
-pub entry_fits : (all : List CType) (table : List TypeFacts) (t : ℕ) (f : TypeFacts) → TableFits all table →
-    slice_get table t ≡ Some f → FactsFit all t f
-entry_fits all table t f h e = h.entries t f e
 
 -- a type past the table has no facts
 past_from : (fs : List TypeFacts) (t : ℕ) → slice_get fs t ≡ None → length fs ≤ t

@@ -50,9 +50,6 @@ record Same (c : Option CType) (t : Ty) : Type 0 where
   kept : kept_by c ≡ kept_as t
   target : is_some (target_by c) ≡ points t
 
-same_to : (c : Option CType) (s t : Ty) → s ≡ t → Same c s → Same c t
-same_to c s t e h = subst (λ z. Same c z) e h
-
 module _ (p : Typed) (o : IsOrdered p) where
   start : (d t : ℕ) (c : CType) → slice_get p.types t ≡ Some c →
       Same (bare_of (Some c) (bare_within d p.types)) (type_in p t) → Same (bare_within (suc d) p.types t) (type_in p t)

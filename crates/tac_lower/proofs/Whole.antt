@@ -314,7 +314,8 @@ module _ (p : Typed) (d : FunDef) (n : ℕ) (fits : FunctionFits p d) (o : IsOrd
     }
 
 -- no code so far
-pub code_none : {a b c : Emitter} → Added a b adding.none → Added b c adding.none → a.code.items ≡ [] → c.code.items ≡ []
+pub code_none : {a b c : Emitter} → Added a b adding.none → Added b c adding.none → a.code.items ≡ [] →
+    c.code.items ≡ []
 code_none {a = a} {b = b} {c = c} f g e =
     sym (append-nil c.code.items) ∙ g.is [] ∙ f.is [] ∙ append-nil a.code.items ∙ e
 

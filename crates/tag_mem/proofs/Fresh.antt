@@ -55,7 +55,8 @@ zeroed_at low (r ∷ rs) x h =
     elim (cases_Bool (has (fresh_area r) x)) [
       | inl here ↦
           let low : r.base ≤ x = starts (fresh_area r) x here in
-          let high : x < r.base + r.length = let end = ends (fresh_area r) x here in omega (arith, end, length-replicate {A = ℕ} r.length 0) in
+          let high : x < r.base + r.length =
+          omega (arith, ends (fresh_area r) x here, length-replicate {A = ℕ} r.length 0) in
           record {
             inside = is_inside-cons (fresh_area r) (fresh rs) x ∙ rw (here, sym same ∙ here) refl;
             byte = λ _. byte_at-here (fresh_area r) (fresh rs) x here

@@ -66,7 +66,8 @@ module _ (base : ℕ) (gs : List (List ℕ)) (tags : List Bool) (at : ℕ) (area
       ∙ replaced_part bytes new place (at % 16) (omega (arith, granule_below, length_granules gs)) granule
       ∙ ap (λ (x : ℕ). replaced x new bytes) offset in
       let one : granules_to (at - base + length new) - place ≡ 1 = omega (arith, offset) in
-      let tags_are : set tags place tag ≡ replaced place (replicate (granules_to (at - base + length new) - place) tag) tags =
+      let tags_are : set tags place tag
+      ≡ replaced place (replicate (granules_to (at - base + length new) - place) tag) tags =
       replaced_one tags place tag tag_below ∙ ap (λ (n : ℕ). replaced place (replicate n tag) tags) (sym one) in
       ap (λ (b : List ℕ). record { base = base; bytes = b; tags = set tags place tag }) bytes_are
       ∙ ap (λ (t : List Bool). record { base = base; bytes = replaced (at - base) new bytes; tags = t }) tags_are

@@ -1,9 +1,8 @@
 -- The number that bytes spell, and the bytes of a number.
-use Rattle.std.proofs.Common.{◌≡◌, ℕ, zero, suc, ◌+◌, ◌-◌, ◌*◌, ◌/◌, ◌%◌, ◌^◌, ◌<◌, ◌≤◌, List, [], ◌∷◌, ◌++◌, length}
-use Rattle.std.proofs.Common.{take, drop, replicate, get_or, refl, sym, ap, ◌∙◌, arith}
+use Rattle.std.proofs.Common.{◌≡◌, ℕ, zero, suc, ◌+◌, ◌-◌, ◌*◌, ◌/◌, ◌%◌, ◌^◌, ◌<◌, ◌≤◌, List, [], ◌∷◌, length}
+use Rattle.std.proofs.Common.{take, drop, get_or, refl, sym, ap, ◌∙◌, arith}
 use Rattle.std.specs.Prelude.{All}
 use Rattle.std.specs.Int.{byte_at, byte_worth, bytes_low_first, from_le_bytes, sum_through, w64, w128}
-use Rattle.std.proofs.lemmas.List.{drop-replicate, length-append, length-drop}
 use Rattle.std.proofs.lemmas.List.Elements.{All-head, All-tail, All-from_get_or}
 use Rattle.std.proofs.Math.Nat.{div-div-eq-div-mul, div-one, pow-suc, pow-succ', mul_comm, one-le-pow}
 use lib.Arith.{mod-mul}
@@ -34,12 +33,6 @@ worth-number (b ∷ []) zero h = worth-one b
 worth-number (b ∷ (x ∷ bs)) zero h = absurd (omega arith)
 worth-number (b ∷ bs) (suc k) h = rw (worth-cons b bs k, worth-number bs k (omega arith)) refl
 
--- zeros behind the bytes add nothing
-number-zeros : (bs : List ℕ) (k : ℕ) → little_number (bs ++ replicate k 0) ≡ little_number bs
-number-zeros [] zero = refl
-number-zeros [] (suc k) = omega (arith, number-zeros [] k)
-number-zeros (b ∷ bs) k = ap (λ n. b + 256 * n) (number-zeros bs k)
-
 -- sixteen bytes
 pub number-whole : (bs : List ℕ) → length bs ≡ 16 → from_le_bytes w128 bs ≡ little_number bs
 unfolding worth
@@ -49,17 +42,6 @@ number-whole bs size = worth-number bs 15 (omega (arith, size))
 pub number-half : (bs : List ℕ) → length bs ≡ 8 → from_le_bytes w64 bs ≡ little_number bs
 unfolding worth
 number-half bs size = worth-number bs 7 (omega (arith, size))
-
--- bytes at the front of an array of zeros
-pub number-padded : (bs : List ℕ) → length bs ≤ 16 →
-    from_le_bytes w128 (bs ++ drop (length bs) (replicate 16 0)) ≡ little_number bs
-unfolding worth
-number-padded bs h =
-    let zeros : List ℕ = drop (length bs) (replicate 16 0) in
-    let rest : zeros ≡ replicate (16 - length bs) 0 = drop-replicate (length bs) 16 0 in
-    let size : length (bs ++ zeros) ≤ 16 =
-    omega (arith, length-append bs zeros, length-drop {A = ℕ} (length bs) (replicate 16 0)) in
-    worth-number (bs ++ zeros) 15 size ∙ ap (λ z. little_number (bs ++ z)) rest ∙ number-zeros bs (16 - length bs)
 
 -- n bytes spell no number of more bytes
 pub number-below : (bs : List ℕ) → All (λ b. b < 256) bs → little_number bs < 256 ^ length bs
@@ -131,7 +113,8 @@ pub number-spelled : (bs : List ℕ) (v : ℕ) → ((k : ℕ) → k < length bs 
 number-spelled [] v each below = omega arith
 number-spelled (b ∷ bs) v each below =
     let low : b ≡ v % 256 = each 0 (omega arith) ∙ ap (λ n. n % 256) (div-one v) in
-    let high : v / 256 < 256 ^ length bs = let wide : v < 256 ^ length bs * 256 = rw (← pow-suc 256 (length bs)) below in omega (arith, wide) in
+    let wide : v < 256 ^ length bs * 256 = rw (← pow-suc 256 (length bs)) below in
+    let high : v / 256 < 256 ^ length bs = omega (arith, wide) in
     let rest = number-spelled bs (v / 256) (λ k h. each (suc k) (omega arith) ∙ ap (λ n. n % 256) (quotient v k)) high
     in
     omega (arith, low, rest)

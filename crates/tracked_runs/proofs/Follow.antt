@@ -191,7 +191,8 @@ module _ {S E : Type 0} (limits : Limits E) (act : S → Act S E) (w : World) wh
         (c.0, subst (λ (y : Done). BeginsWith y.output (final n s).at.done.output) d_is c.1)
     agrees n b (Outside d) s (j, le, t, r, d_is) =
         ⊎_elim
-        (λ more. let p = subst (λ (y : Done). BeginsWith (final n s).at.done.output y.output) d_is (past_final n j s t (omega arith) r) in
+        (λ more. let p = subst (λ (y : Done). BeginsWith (final n s).at.done.output y.output) d_is
+        (past_final n j s t (omega arith) r) in
         outside_past (final n s).end refl p)
         (λ le. let c = cut_final n j s t le r in
         inl (c.0, inl (subst (λ (y : Done). BeginsWith y.output (final n s).at.done.output) d_is c.1)))
@@ -205,7 +206,8 @@ module _ {S E : Type 0} (limits : Limits E) (act : S → Act S E) (w : World) wh
     pub keeps_up : (m b n : ℕ) (o : Course F) (s : Moment S) → b ≤ n → Follows m b o s → KeepsUp o (final n s)
     keeps_up m b n (Finished d f) s le (j, lt, t, e, r, h, rep, d_is) =
         let x = final_ended j n s t e (omega arith) r h in (
-          subst (λ (y : Done). BeginsWith (final n s).at.done.output y.output) d_is (past_final n j s t (omega arith) r),
+          subst (λ (y : Done). BeginsWith (final n s).at.done.output y.output) d_is
+              (past_final n j s t (omega arith) r),
           (e, ap (λ v. v.end) x, rep),
         )
     keeps_up m b n (Waiting d) s le (j, ge, le1, t, r, d_is) =

@@ -1,20 +1,17 @@
 -- Frames of a program's functions are those that a legal map may have.
-use Rattle.std.proofs.Common.{◌≡◌, ℕ, suc, ◌+◌, ◌≤◌, List, [], ◌∷◌, length, map, Some, refl, sym, ap, ◌∙◌}
+use Rattle.std.proofs.Common.{◌≡◌, ℕ, suc, ◌+◌, List, [], ◌∷◌, length, map, Some, refl, sym, ap, ◌∙◌}
 use Rattle.std.proofs.Common.{subst, arith}
 use Rattle.std.specs.Prelude.{slice_get}
 use Rattle.std.proofs.lemmas.Option.{slice_get_within}
-use Rattle.std.proofs.lemmas.List.Elements.{All-weaker}
 use Rattle.c_tree.specs.TreeWeight.{function_weight}
 use Rattle.c_tree.specs.declared.typed.FunDef.{FunDef}
 use Rattle.c_tree.specs.declared.typed.Typed.{Typed}
 use Rattle.obj_mem.specs.Legal.{AreFrames, IsFrame}
 use Rattle.obj_mem.specs.Needs.{local_needs, function_needs, weight_by, weight_in}
 use Rattle.obj_mem.specs.declared.map.Frame.{Frame}
-use Rattle.reg_alloc.specs.declared.places.Home.{Home}
-use Rattle.reg_alloc.specs.declared.places.Home.TheVariants.{Register, Slot}
 use Rattle.reg_alloc.specs.declared.places.Places.{Places}
 use Rattle.purecap_abi.specs.Frames.{HasFrame}
-use Rattle.purecap_abi.specs.Saving.{IsSlotBelow, IsFor, AreHomes}
+use Rattle.purecap_abi.specs.Saving.{IsFor}
 use Rattle.tac_ir.specs.Costs.{outgoing}
 use Rattle.tac_ir.specs.Within.{FunctionCosts}
 use Rattle.tac_ir.specs.declared.code.TacFun.{TacFun}
@@ -22,18 +19,6 @@ use Rattle.typed_build.specs.Frames.{HasHomes, FrameFits, FramesFit}
 use Rattle.typed_build.proofs.Texts.{there}
 
 -- ---- homes
-
-slot_same : (n m : ℕ) → n ≡ m → (h : Home) → IsSlotBelow n h → IsSlotBelow m h
-slot_same n m e (Register r) b = tt
-slot_same n m e (Slot s) b = omega (arith, b, e)
-
-pub are_homes : (f : TacFun) (homes : List Home) (w : ℕ) → HasHomes f homes → FunctionCosts w f → w ≤ 7780
-    → AreHomes homes
-are_homes f homes w h c light = record {
-  slots = All-weaker (IsSlotBelow f.temps) (IsSlotBelow (length homes))
-      (slot_same f.temps (length homes) (sym h.len)) homes h.slots;
-  few = omega (arith, h.len, c.temps, light);
-}
 
 -- ---- one frame
 

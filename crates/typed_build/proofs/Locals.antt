@@ -1,9 +1,9 @@
 -- The locals of a function that are within the limit are locals for which there is a frame.
 use Rattle.std.proofs.Common.{◌≡◌, ℕ, zero, suc, ◌+◌, ◌*◌, ◌/◌, ◌%◌, ◌<◌, ◌≤◌, ◌⊎◌, max, Bool, true, false, List, []}
 use Rattle.std.proofs.Common.{◌∷◌, length, map, Option, Some, None, refl, sym, ap, ◌∙◌, subst, arith, inl, inr}
-use Rattle.std.specs.Prelude.{slice_get, nat_le, nat_lt, sum_by, ◌||◌, if◌then◌else◌}
+use Rattle.std.specs.Prelude.{slice_get, nat_le, nat_lt, sum_by, if◌then◌else◌}
 use Rattle.std.specs.List.{All, list_any}
-use Rattle.std.proofs.lemmas.Bool.{cases_lt, cases_eq}
+use Rattle.std.proofs.lemmas.Bool.{cases_lt, cases_eq, or_parts}
 use Rattle.std.proofs.lemmas.Bool.Decides.{nat_tests}
 use Rattle.std.proofs.lemmas.List.{length-map}
 use Rattle.std.proofs.lemmas.List.Elements.{All-nil, All-cons}
@@ -28,7 +28,7 @@ use Rattle.c_tree.specs.Layout.{Extent, size_limit, bytes_of, scalar, with_exten
 use Rattle.c_tree.specs.Layout.{whole, times, extent_of, extent_within, extent}
 use Rattle.c_tree.proofs.Aligned.{IsPower, max_power, alignment_is_power, extent_aligned}
 use Rattle.obj_mem.specs.Legal.{ObjectNeed, owned_of, alignment_of, room_of}
-use Rattle.obj_mem.specs.Needs.{nothing_of, need_by, need_of, local_need, local_needs}
+use Rattle.obj_mem.specs.Needs.{nothing_of, need_by, local_need, local_needs}
 use Rattle.bounds_place.specs.Placing.{data_room, locals_exceed, exceeds}
 use Rattle.bounds_place.specs.Rows.{owned_need}
 use Rattle.purecap_abi.specs.Frames.{IsLocal, AreLocals, room}
@@ -188,10 +188,6 @@ are_locals types d h =
     }
 
 -- ---- of a program that is within its limit
-
-or_parts : (a b : Bool) → (a || b) ≡ false → (a ≡ false) × (b ≡ false)
-or_parts true b h = absurd cc
-or_parts false b h = (refl, h)
 
 none_of : {A : Type 0} (test : A → Bool) (xs : List A) (k : ℕ) (x : A) → list_any test xs ≡ false
     → slice_get xs k ≡ Some x → test x ≡ false

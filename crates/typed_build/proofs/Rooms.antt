@@ -3,7 +3,7 @@ use Rattle.std.proofs.Common.{◌≡◌, ℕ, zero, suc, ◌+◌, ◌<◌, ◌�
 use Rattle.std.proofs.Common.{Some, refl, sym, ap, ◌∙◌, arith, inl}
 use Rattle.std.specs.Prelude.{slice_get, sum_by, nat_lt, ◌||◌, if◌then◌else◌}
 use Rattle.std.specs.List.{filter, list_any}
-use Rattle.std.proofs.lemmas.Bool.{false≢true, le-leb, le-ltb, ltb-false}
+use Rattle.std.proofs.lemmas.Bool.{false≢true, le-leb, le-ltb, ltb-false, or_parts}
 use Rattle.std.proofs.lemmas.List.Sums.{sum_by-cons}
 use Rattle.ck_base.specs.declared.refusal.Refusal.{Refusal}
 use Rattle.ck_base.specs.declared.refusal.Refusal.TheVariants.{Code, NoMemory}
@@ -75,17 +75,13 @@ locals_room types (v ∷ vs) h =
 or_both : (a b : Bool) → a ≡ false → b ≡ false → (a || b) ≡ false
 or_both a b e f = rw (e, f) refl
 
-or_none : (a b : Bool) → (a || b) ≡ false → (a ≡ false) × (b ≡ false)
-or_none true b e = absurd (false≢true (sym e))
-or_none false b e = (refl, e)
-
 any_none : {X : Type 0} (test : X → Bool) (xs : List X) → list_any test xs ≡ false → (k : ℕ) (x : X) →
     slice_get xs k ≡ Some x → test x ≡ false
 any_none test [] e k x g = absurd cc
 any_none test (y ∷ ys) e zero x g =
     let s : y ≡ x = cc in
-    ap test (sym s) ∙ (or_none (test y) (list_any test ys) e).0
-any_none test (y ∷ ys) e (suc k) x g = any_none test ys (or_none (test y) (list_any test ys) e).1 k x g
+    ap test (sym s) ∙ (or_parts (test y) (list_any test ys) e).0
+any_none test (y ∷ ys) e (suc k) x g = any_none test ys (or_parts (test y) (list_any test ys) e).1 k x g
 
 none_any : {X : Type 0} (test : X → Bool) (xs : List X) → ((k : ℕ) (x : X) → slice_get xs k ≡ Some x → test x ≡ false) →
     list_any test xs ≡ false
@@ -114,7 +110,7 @@ module _ (p : Typed) (q : Program) (o : IsOrdered p) (s : Shows p q) (w : WellTy
 
   room_within : exceeds p ≡ false → HasRoom p
   room_within e =
-      let r = or_none (nat_lt size_limit (data_room p)) (list_any (locals_exceed p.types) p.funs) e in
+      let r = or_parts (nat_lt size_limit (data_room p)) (list_any (locals_exceed p.types) p.funs) e in
       record {
         statics = omega (arith, statics, ltb-false size_limit (data_room p) r.0);
         locals = λ f k g. omega (

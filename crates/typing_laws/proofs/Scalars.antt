@@ -231,10 +231,6 @@ bare_elements_ok ts (Tagged n) h = h
 pub complete_not_void : (ts : List TagState) (t : Ty) → Complete ts t → bare t ≡ Void → ⊥
 complete_not_void ts t c e = none-some c.0 (ap (type_extent ts) (sym e) ∙ bare_extent ts t ∙ c.1)
 
-pub complete_not_function : (ts : List TagState) (t : Ty) → Complete ts t → is_function t ≡ true → ⊥
-complete_not_function ts (Function r ps) c e = none-some c.0 c.1
-complete_not_function ts t c e = false≢true e
-
 pub extent_there : (o : Option Extent) → has_extent o ≡ true → (x : Extent) × (o ≡ Some x)
 extent_there None e = absurd (false≢true e)
 extent_there (Some x) e = (x, refl)

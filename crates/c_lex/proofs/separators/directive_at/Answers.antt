@@ -1,15 +1,11 @@
-use Rattle.std.proofs.Common.{◌≡◌, ℕ, ◌≤◌, Bool, true, false, ◌||◌, List, [], ◌∷◌, length, drop, get_or, refl, arith}
-use Rattle.std.proofs.lemmas.Bool.{eq-eqb, ne_eqb}
+use Rattle.std.proofs.Common.{◌≡◌, ℕ, ◌≤◌, true, false, ◌||◌, List, [], ◌∷◌, length, drop, get_or, refl, arith}
+use Rattle.std.proofs.lemmas.Bool.{eq-eqb, ne_eqb, or_parts}
 use Rattle.std.proofs.lemmas.List.{take_rest}
 use Rattle.ck_base.specs.Lexes.{is_marker, is_pragma, begins_skipped, begins_pack}
 use Rattle.c_lex.specs.declared.separators.Directive.{Directive}
 use Rattle.c_lex.specs.declared.separators.Directive.TheVariants.{Skipped, Pack, Missing}
 use Rattle.c_lex.specs.Pieces.{DescribesNamed, DescribesDirective}
 use Rattle.c_lex.proofs.separators.directive_at.Goals as goal
-
-both_false : (a b : Bool) → (a || b) ≡ false → (a ≡ false) × (b ≡ false)
-both_false true b e = cc
-both_false false b e = (refl, e)
 
 described : (bytes : List ℕ) → 1 ≤ length bytes → get_or bytes 0 0 ≡ 35 → (named : Directive) →
     DescribesNamed (drop 1 bytes) named → DescribesDirective bytes named
@@ -18,7 +14,7 @@ described [] some hash named says = absurd (omega arith)
 described (b ∷ bs) some hash Skipped says = rw (eq-eqb b 35 hash) says
 described (b ∷ bs) some hash Pack says = rw (eq-eqb b 35 hash) says
 described (b ∷ bs) some hash Missing says =
-    let neither = both_false (is_marker bs) (is_pragma bs) says in
+    let neither = or_parts (is_marker bs) (is_pragma bs) says in
     rw (eq-eqb b 35 hash) (rw (neither.0, neither.1) refl)
 
 missing : (bytes : List ℕ) → (1 ≤ length bytes → get_or bytes 0 0 ≡ 35 → ⊥) →

@@ -29,7 +29,8 @@ returns-then-n-eq0 c =
 
 pub loop-left-preserved : goal.loop-left-preserved
 loop-left-preserved c =
-    let r = row_more _ _ (extent_within (c.loop-left.left - 1) c.args.types.now c.in-Part.inner) _ c.in-Part.n c.product-count.result c.loop-left.invariant.row
+    let r = row_more _ _ (extent_within (c.loop-left.left - 1) c.args.types.now c.in-Part.inner) _ c.in-Part.n
+    c.product-count.result c.loop-left.invariant.row
     (extent_step c.args.types.now c.loop-left.left c.loop-left.of c.loop-left-test.true
     ∙ c.in-Part.ensures.is (extent_within (c.loop-left.left - 1) c.args.types.now))
     (omega (arith, c.if-n-eq0.false)) c.product-count.ensures in

@@ -111,7 +111,8 @@ returns-clause-places c =
     let d = c.deref.ensures.value ∙ c.in_ok-pointers.ensures in
     let is = c.in_ok-relocs.ensures
     ∙ ap (λ cs. entries m.table.0 cs ++ flat_map (link_relocs p cs) (zip p.globals m.globals)) e in
-    let i = initial p m c.requires.legal c.deref.result.now c.stretch_of-stretch.result.base c.stretch_of-stretch.result.length c.in_ok-bytes.bytes.items d
+    let i = initial p m c.requires.legal c.deref.result.now c.stretch_of-stretch.result.base
+    c.stretch_of-stretch.result.length c.in_ok-bytes.bytes.items d
     c.stretch_of-stretch.ensures.from c.stretch_of-stretch.ensures.to c.in_ok-bytes.ensures.length
     c.in_ok-bytes.ensures.each in
     subst (λ rs. All (IsInside c.stretch_of-stretch.result.base (length c.in_ok-bytes.bytes.items)) rs) (sym is)

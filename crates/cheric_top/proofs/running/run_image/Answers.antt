@@ -13,7 +13,8 @@ returns g c =
     (g.O.Sink.held c.args.out.now) (g.O.Sink.faults c.args.out.now) in
     let after = seen (g.I.Source.left c.run-end.new.input) (g.I.Source.faults c.run-end.new.input)
     (g.O.Sink.held c.run-end.new.out) (g.O.Sink.faults c.run-end.new.out) in
-    let run = IsRun-less limits act state_and_ending (λ x. x.1) c.args.steps c.in_ok-machine.machine before after (c.run-end.new.self, c.run-end.result) c.run-end.ensures.run in (
+    let run = IsRun-less limits act state_and_ending (λ x. x.1) c.args.steps c.in_ok-machine.machine before after
+    (c.run-end.new.self, c.run-end.result) c.run-end.ensures.run in (
       c.in_ok-machine.ensures.value.0,
       record {
         ending = c.run-end.result;

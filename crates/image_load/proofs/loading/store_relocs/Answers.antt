@@ -34,8 +34,9 @@ loop-r-preserved c =
     let e = sym c.in-Some.ensures.value in
     let bits : c.memory_bits.result ≡ memory_bits (capability_of c.in-Some.r).fields =
     c.memory_bits.ensures ∙ ap (λ (x : Cap). memory_bits x.fields) c.capability_of-c.ensures in
-    let m : c.set_cap.new.self ≡ written c.loop-r.mem c.in-Some.r.place (little_bytes 16 (memory_bits (capability_of c.in-Some.r).fields)) true =
-    c.set_cap.ensures.value ∙ ap (λ (b : ℕ). written c.loop-r.mem c.in-Some.r.place (little_bytes 16 b) true) bits in
+    let put : ℕ → List Area = λ b. written c.loop-r.mem c.in-Some.r.place (little_bytes 16 b) true in
+    let m : c.set_cap.new.self ≡ put (memory_bits (capability_of c.in-Some.r).fields) =
+    c.set_cap.ensures.value ∙ ap put bits in
     record {
       well = (loadable rs c.loop-r.k c.in-Some.r (initial_of c.args.view.now) e c.loop-r.invariant.well).1;
       so_far = ap (λ (x : List Area). relocated x (drop (c.loop-r.k + 1) rs)) m

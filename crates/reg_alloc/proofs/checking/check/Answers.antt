@@ -6,7 +6,9 @@ use Rattle.reg_alloc.proofs.checking.check.Goals.{then-homes-live, else-homes-li
 
 pub returns-then-all_fit : goal.returns-then-all_fit
 returns-then-all_fit c =
-    let facts : (length c.as_slice-homes.result.now ≡ length c.as_slice-live.result.now) × ((i : ℕ) → FitsAt c.as_slice-live.result.now c.as_slice-calls.result.now c.as_slice-homes.result.now i) =
+    let live = c.as_slice-live.result.now in
+    let homes = c.as_slice-homes.result.now in
+    let facts : (length homes ≡ length live) × ((i : ℕ) → FitsAt live c.as_slice-calls.result.now homes i) =
     elim c.if-homes-live.branch [
       | then-homes-live w ↦
           (w.if-homes-live.true, w.all_fit.ensures.0 (search rules))

@@ -16,6 +16,7 @@ pub returns : goal.returns
 returns c =
     let now : Bounds = c.args.self.now in
     let f : Fields = c.args.f.now in
-    let both = of_block f now.internal now.t now.b now.block now.base (top_of now.internal now.t now.b (now.block * 2048)) c.if-self-f.false c.if-self-f-2.false c.if-self-f-3.false
+    let both = of_block f now.internal now.t now.b now.block now.base
+    (top_of now.internal now.t now.b (now.block * 2048)) c.if-self-f.false c.if-self-f-2.false c.if-self-f-3.false
     (same now.internal f.internal c.if-self-f-4.false) now.base_is refl in
     record { base = λ _. both.0; top = λ _. omega (arith, both.1, now.top_is) }

@@ -82,7 +82,8 @@ loop-done-preserved c =
     let done : ℕ = c.loop-done.done in
     let n : ℕ = c.min-count.result in
     let so_far = c.loop-done.invariant in
-    let count : (n ≡ length bytes - done) ⊎ ((n ≡ 16) × (16 ≤ length bytes - done)) = elim (cases_Bool (leb (length bytes - done) 16)) [
+    let count : (n ≡ length bytes - done) ⊎ ((n ≡ 16) × (16 ≤ length bytes - done)) =
+    elim (cases_Bool (leb (length bytes - done) 16)) [
       | inl t ↦ inl (c.min-count.ensures ∙ min-eq_left (leb-true (length bytes - done) 16 t))
       | inr f ↦
           let more = leb-false (length bytes - done) 16 f in

@@ -26,7 +26,8 @@ pub returns : goal.returns
 returns c =
     let place = at_place c.self.inside.areas.items c.args.self.now c.args.at c.args.i c.index_mut.result.now
     c.self.view_is (sym c.requires.place) c.index_mut.ensures.value in
-    let memory : IsMemory c.args.self.now = let P : List Area → Type 0 = IsMemory in subst P c.self.view_is c.self.invariant in
+    let memory : IsMemory c.args.self.now =
+    let P : List Area → Type 0 = IsMemory in subst P c.self.view_is c.self.invariant in
     let found = ap (λ (m : List Area). area_at m c.args.at) (sym c.self.view_is) ∙ place.found in (
       (
         refl,
