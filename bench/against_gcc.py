@@ -1,8 +1,8 @@
 #!/usr/bin/env python3
 """bench/against_gcc.py [COUNT [SEED]]: compares COUNT generated programs (200 by default, from SEED 1 on) with gcc.
 
-Each is run by `./cheric run` and as `gcc -O0 -fwrapv -funsigned-char` builds it; both must put the same bytes and exit with the same
-number. It needs gcc and what ./cheric needs. It proves nothing and is no part of the gate."""
+Each is run by `./cheric run` and as `gcc -O0 -fwrapv -funsigned-char` builds it; both must put the same bytes and exit
+with the same number. It needs gcc and what ./cheric needs. It proves nothing and is no part of the gate."""
 import subprocess
 import sys
 import tempfile
@@ -21,7 +21,8 @@ def by_cheric(source):
 
 
 def by_gcc(source, target):
-    subprocess.run(["gcc", "-O0", "-w", "-fwrapv", "-funsigned-char", "-include", "stdio.h", "-o", target, source], check=True)
+    subprocess.run(["gcc", "-O0", "-w", "-fwrapv", "-funsigned-char", "-include", "stdio.h", "-o", target, source],
+                   check=True)
     run = subprocess.run([target], stdin=subprocess.DEVNULL, capture_output=True, timeout=10)
     return run.stdout, run.returncode
 

@@ -36,12 +36,13 @@ def parser(text):
     """A command line with the two options that these scripts share; `text` is the script's own description."""
     words = argparse.ArgumentParser(description=text, formatter_class=argparse.RawDescriptionHelpFormatter)
     words.add_argument("--jobs", type=int, default=1, help="calls at a time, 1 by default")
-    words.add_argument("--cheric", metavar="COMMAND", default=f"{ROOT}/cheric", help="the command, ./cheric of this repository by default")
+    words.add_argument("--cheric", metavar="COMMAND", default=f"{ROOT}/cheric",
+                       help="the command, ./cheric of this repository by default")
     return words
 
 
 def prepared(cheric=f"{ROOT}/cheric"):
-    """The command, as a path that holds in every folder. An unproved one, which is built anew for each call, is too slow for many."""
+    """The command, as a path that holds in every folder. An unproved one, built for each call, is too slow for many."""
     path = os.path.abspath(cheric)
     run = subprocess.run([path], stdin=subprocess.DEVNULL, capture_output=True, check=False)
     if b"unproved" in run.stderr:

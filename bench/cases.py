@@ -1,14 +1,15 @@
 #!/usr/bin/env python3
 """bench/cases.py FOLDER [--jobs N] [--only WORD] [--mean]: compares the answers of `./cheric` with stated ones.
 
-FOLDER has `cases/NAME` for each program and a list `answers.json` of what is known of it: `name`; `run`, the output as numbers of bytes,
-the line and the status of a run, where these depend on no address; `mean`, likewise for the strict meaning; and `count`, the last word
-of the built image's own part where that has thirteen. The input of a program is its own text.
+FOLDER has `cases/NAME` for each program and a list `answers.json` of what is known of it: `name`; `run`, the output as
+numbers of bytes, the line and the status of a run, where these depend on no address; `mean`, likewise for the strict
+meaning; and `count`, the last word of the built image's own part where that has thirteen. The input of a program is its
+own text.
 
-Each program is run by `run`, and by `build` and then `exec`. The last must answer as `run` does; both must answer what is stated. Where
-nothing is stated of a run, it must still be built, begin with the output of the strict meaning, and end in one of the ways in which a
-built program ends. With --mean the mode `mean` is compared too. The programs that are answered otherwise are printed, and the last line
-counts them. It proves nothing and is no part of the gate."""
+Each program is run by `run`, and by `build` and then `exec`. The last must answer as `run` does; both must answer what
+is stated. Where nothing is stated of a run, it must still be built, begin with the output of the strict meaning, and
+end in one of the ways in which a built program ends. With --mean the mode `mean` is compared too. The programs that are
+answered otherwise are printed, and the last line counts them. It proves nothing and is no part of the gate."""
 import json
 import os
 import struct
@@ -65,7 +66,8 @@ class Cases:
                 return [] if run.status == 10 and built.line == run.line else [f"build: {built}"]
             with open(elf, "rb") as file:
                 data = file.read()
-            faults = [] if built == Answer(b"", f"built {len(data)}", 0) else [f"build: {built}; the file has {len(data)} bytes"]
+            right = built == Answer(b"", f"built {len(data)}", 0)
+            faults = [] if right else [f"build: {built}; the file has {len(data)} bytes"]
             done = answer_of([self.cheric, "exec", elf], text)
             if done != run:
                 faults.append(f"exec: {done}; run {run}")

@@ -1,11 +1,12 @@
 #!/usr/bin/env python3
 """bench/dense_programs.py SEED [--steps]: writes a C program of dense expressions with side effects on standard output.
 
-C leaves the order of their parts open; the language of this repository fixes it. Operands go from left to right, arguments too, after the
-called function; an assignment takes the left place, then the right value, then stores; a compound one loads its left side after the right
-value; the values of a list in braces are stored in the order of their places. With --steps the same program is written with a statement
-of its own for each step in that order, for gcc: such a program means the same by any order that C allows. The same seed gives the same
-pair. What whole_programs.py says of divisors, shifts and indices holds here too."""
+C leaves the order of their parts open; the language of this repository fixes it. Operands go from left to right,
+arguments too, after the called function; an assignment takes the left place, then the right value, then stores; a
+compound one loads its left side after the right value; the values of a list in braces are stored in the order of their
+places. With --steps the same program is written with a statement of its own for each step in that order, for gcc: such
+a program means the same by any order that C allows. The same seed gives the same pair. What whole_programs.py says of
+divisors, shifts and indices holds here too."""
 import random
 import sys
 
@@ -382,7 +383,8 @@ class Program:
         if kind < 0.58:
             return Unary(f"({self.pick(INTS)})", self.value(depth - 1))
         if kind < 0.64:
-            operator, guard = self.pick([("<<", "({} & 7)"), (">>", "({} & 15)"), ("/", "(({} & 7) + 1)"), ("%", "(({} & 7) - 9)")])
+            operator, guard = self.pick(
+                [("<<", "({} & 7)"), (">>", "({} & 15)"), ("/", "(({} & 7) + 1)"), ("%", "(({} & 7) - 9)")])
             return Binary(operator, self.value(depth - 1), self.value(depth - 1), guard)
         if kind < 0.7:
             return Logical(self.pick(["&&", "||"]), self.value(depth - 1), self.value(depth - 1))
@@ -401,7 +403,8 @@ class Program:
 
     def compound(self, depth):
         operator, guard = self.pick([(one, "{}") for one in "+-*&|^"] +
-                                    [("<<", "({} & 7)"), (">>", "({} & 7)"), ("/", "(({} & 7) + 1)"), ("%", "(({} & 7) + 1)")])
+                                    [("<<", "({} & 7)"), (">>", "({} & 7)"), ("/", "(({} & 7) + 1)"),
+                                     ("%", "(({} & 7) + 1)")])
         return Compound(operator, self.place(depth - 1), self.value(depth - 1), guard)
 
     def call(self, depth):
@@ -527,7 +530,8 @@ class Program:
         both.same(f"{{ int {name} = {turns};")
         test, step = self.value(3), self.value(2)
         limit = f"{name}-- > 0 && "
-        both.dense.append({"while": f"while ({limit}{test.text}) {{", "do": "do {", "for": f"for (; {limit}{test.text}; {step.text}) {{"}[kind])
+        both.dense.append({"while": f"while ({limit}{test.text}) {{", "do": "do {",
+                           "for": f"for (; {limit}{test.text}; {step.text}) {{"}[kind])
         both.out.line("while (1) {")
         if kind != "do":
             self.stop(name, test)
@@ -627,7 +631,8 @@ class Program:
         for k in range(5):
             both.same(f"{'int' if k == 0 else self.pick(INTS)} g{k} = {self.random.randint(0, 99)};")
         for k in range(3):
-            both.same(f"static {self.pick(INTS)} a{k}[8] = {{{', '.join(str(self.random.randint(0, 99)) for _ in range(8))}}};")
+            both.same(f"static {self.pick(INTS)} a{k}[8] = "
+                      f"{{{', '.join(str(self.random.randint(0, 99)) for _ in range(8))}}};")
         both.same(f"static int b0[{2 * MIDDLE}] = {{7, 8}};")
         both.same(f"static short b1[{2 * MIDDLE}] = {{9}};")
         both.same(f"static struct R r0 = {{1, 2, 3, {{4, 5, 6, 7}}, {{8, 9}}, 10}}, r1, rs[{2 * MIDDLE}];")
@@ -648,7 +653,8 @@ class Program:
         for name in ["b0", "b1"]:
             both.same(f"for (int i = 0; i < {2 * MIDDLE}; i++) mix({name}[i]);")
         for name in self.records:
-            both.same(f"mix({name}.a); mix({name}.b); mix({name}.c); mix({name}.d[0] + {name}.d[3]); mix({name}.in.x); mix({name}.u);")
+            both.same(f"mix({name}.a); mix({name}.b); mix({name}.c); mix({name}.d[0] + {name}.d[3]); "
+                      f"mix({name}.in.x); mix({name}.u);")
         both.same("show(mixed);")
         both.same("return (int)(mixed & 127);")
         both.same("}")

@@ -3,8 +3,8 @@
 
 Each link leads to a file. Each name in the tables of definitions is a definition of the specs, a function, a type or a
 field. What stands behind a promise of docs/promises.md is a crate, functions of it and clauses of their contracts. With
---run each program of docs/causes.md and docs/refusals.md that stands beside its line is run by `./cheric` and must end by
-that line. It proves nothing and is no part of the gate."""
+--run each program of docs/causes.md and docs/refusals.md that stands beside its line is run by `./cheric` and must end
+by that line. It proves nothing and is no part of the gate."""
 import glob
 import os
 import re

@@ -1,10 +1,12 @@
 #!/usr/bin/env python3
-"""bench/front_against_gcc.py [COUNT [SEED]]: changes a few tokens in each of COUNT files (2000 by default) taken from the table of
-cheric_rows, and compares whether the front end accepts the file with whether `gcc -std=c11 -pedantic-errors` does.
+"""bench/front_against_gcc.py [COUNT [SEED]]: changes a few tokens in each of COUNT files (2000 by default) taken from
+the table of cheric_rows, and compares whether the front end accepts the file with whether `gcc -std=c11
+-pedantic-errors` does.
 
-A file is accepted where `cheric run` runs it, or refuses it only by 141 or 150. The files that are answered otherwise are printed by the
-code of the refusal or by gcc's error; each has to be a choice that docs/ states, as that an array of unknown length at file scope is 132,
-or that `;` may stand alone at file scope. It needs what ./cheric needs, and gcc. It proves nothing and is no part of the gate."""
+A file is accepted where `cheric run` runs it, or refuses it only by 141 or 150. The files that are answered otherwise
+are printed by the code of the refusal or by gcc's error; each has to be a choice that docs/ states, as that an array of
+unknown length at file scope is 132, or that `;` may stand alone at file scope. It needs what ./cheric needs, and gcc.
+It proves nothing and is no part of the gate."""
 import collections
 import random
 import re
@@ -16,9 +18,10 @@ from calls import ROOT, prepared
 
 CHERIC = f"{ROOT}/cheric"
 TABLE = f"{ROOT}/crates/cheric_rows/src/front_tables.rt"
-TOKEN = re.compile(r"[A-Za-z_]\w*|\.?\d[\w.]*|'(?:[^'\\]|\\.)*'|\"(?:[^\"\\]|\\.)*\"|<<=|>>=|->|\+\+|--|<<|>>|<=|>=|==|!=|&&|\|\||[-+*/%&|^]=|\S")
-POOL = """int char unsigned long short void _Bool const static extern typedef struct union enum * & - + ~ ! ( ) [ ] 0 1 7 300 2147483648
-4294967295 x a p i sizeof , ; = == < ? : % << && return 0u 1l 'a' "ab" u g f main s c v q -> . ++ -- += /""".split()
+TOKEN = re.compile(r"[A-Za-z_]\w*|\.?\d[\w.]*|'(?:[^'\\]|\\.)*'|\"(?:[^\"\\]|\\.)*\"|"
+                   r"<<=|>>=|->|\+\+|--|<<|>>|<=|>=|==|!=|&&|\|\||[-+*/%&|^]=|\S")
+POOL = """int char unsigned long short void _Bool const static extern typedef struct union enum * & - + ~ ! ( ) [ ] 0 1 7
+300 2147483648 4294967295 x a p i sizeof , ; = == < ? : % << && return 0u 1l 'a' "ab" u g f main s c v q -> . ++ -- += /""".split()
 # What is declared before a file.
 BEFORE = """typedef unsigned long size_t, ptraddr_t, uintptr_t, uint64_t; typedef long ptrdiff_t, intptr_t, int64_t;
 typedef signed char int8_t; typedef short int16_t; typedef int int32_t;
@@ -62,20 +65,23 @@ def main():
         source, before = f"{folder}/a.c", f"{folder}/before.h"
         with open(before, "w", encoding="utf-8") as file:
             file.write(BEFORE)
-        gcc = ["gcc", "-std=c11", "-fsyntax-only", "-funsigned-char", "-pedantic-errors", "-fno-builtin", "-Wno-pointer-sign", "-include", before, source]
+        gcc = ["gcc", "-std=c11", "-fsyntax-only", "-funsigned-char", "-pedantic-errors", "-fno-builtin",
+               "-Wno-pointer-sign", "-include", before, source]
         prepared()
         for _ in range(count):
             text = changed(random.choice(seeds))
             with open(source, "w", encoding="utf-8") as file:
                 file.write(text)
-            ours = subprocess.run([CHERIC, "run", source, "--steps", "1000"], stdin=subprocess.DEVNULL, stdout=subprocess.DEVNULL, stderr=subprocess.PIPE)
+            ours = subprocess.run([CHERIC, "run", source, "--steps", "1000"], stdin=subprocess.DEVNULL,
+                                  stdout=subprocess.DEVNULL, stderr=subprocess.PIPE)
             line = ours.stderr.decode().strip().split("\n")[-1]
             refusal = re.match(r"refused (\d+)", line)
             accepts = not refusal or refusal[1] in ("141", "150")
             theirs = subprocess.run(gcc, stdout=subprocess.DEVNULL, stderr=subprocess.PIPE)
             if accepts != (theirs.returncode == 0):
                 error = re.search(r"error: (.*)", theirs.stderr.decode())
-                differing[f"cheric accepts; gcc: {error[1]}" if accepts and error else f"gcc accepts; cheric: {line}"].append(text)
+                differing[f"cheric accepts; gcc: {error[1]}" if accepts and error
+                          else f"gcc accepts; cheric: {line}"].append(text)
     print(f"{count - sum(map(len, differing.values()))} of {count} files are answered alike")
     for why, texts in sorted(differing.items()):
         print(f"{why} ({len(texts)})\n    {min(texts, key=len)}")

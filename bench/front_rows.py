@@ -1,8 +1,10 @@
 #!/usr/bin/env python3
-"""bench/front_rows.py: the front end by `./cheric` on the files of the tables in crates/cheric_rows, each worked out by hand from the rules.
+"""bench/front_rows.py: the front end by `./cheric` on the files of the tables in crates/cheric_rows, each worked out by
+hand from the rules.
 
-A file is `typed` where `cheric build` builds it; else the code and the place have to be those of the row. The gate runs the same rows as
-tests, over the front end alone. It needs what ./cheric needs. It proves nothing and is no part of the gate."""
+A file is `typed` where `cheric build` builds it; else the code and the place have to be those of the row. The gate runs
+the same rows as tests, over the front end alone. It needs what ./cheric needs. It proves nothing and is no part of the
+gate."""
 import ast
 import re
 import subprocess

@@ -36,7 +36,8 @@ def entries(folder):
 
 def sizes_of(crate):
     at = f"{ROOT}/crates/{crate}"
-    lines = [lines_below(f"{at}/{part}", end) for part, end in (("src", ".rt"), ("specs", ".antt"), ("proofs", ".antt"))]
+    parts = (("src", ".rt"), ("specs", ".antt"), ("proofs", ".antt"))
+    lines = [lines_below(f"{at}/{part}", end) for part, end in parts]
     return [*lines, entries(f"{at}/must-fail"), entries(f"{at}/wrong-bodies")]
 
 
@@ -64,7 +65,8 @@ def run_gate():
             if line.startswith("rt: ") and line.endswith(" proved\n"):
                 print(f"{(time.monotonic() - began) / 60:6.1f} min  {line[4:].strip()}", flush=True)
     used = resource.getrusage(resource.RUSAGE_CHILDREN)
-    print(f"{last}: {(time.monotonic() - began) / 60:.1f} minutes, {(used.ru_utime + used.ru_stime) / 60:.0f} of the processors")
+    print(f"{last}: {(time.monotonic() - began) / 60:.1f} minutes, {(used.ru_utime + used.ru_stime) / 60:.0f} of the "
+          f"processors")
     return gate.returncode
 
 

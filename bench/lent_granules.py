@@ -1,9 +1,9 @@
 #!/usr/bin/env python3
 """bench/lent_granules.py: a granule that memory lends can't be used after the next write.
 
-In a copy of the sources the tests of machine_rows get a function that reads a lent granule behind a write. The compiler must
-refuse it, by E0502; with the write before the loan it must take it, and the tests must pass. It takes minutes, proves nothing,
-and is no part of the gate."""
+In a copy of the sources the tests of machine_rows get a function that reads a lent granule behind a write. The compiler
+must refuse it, by E0502; with the write before the loan it must take it, and the tests must pass. It takes minutes,
+proves nothing, and is no part of the gate."""
 import os
 import shutil
 import subprocess

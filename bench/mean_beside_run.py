@@ -1,10 +1,12 @@
 #!/usr/bin/env python3
-"""bench/mean_beside_run.py [COUNT [SEED]] [--dense | --trap] [--jobs N]: compares the strict meaning of generated programs with their runs.
+"""bench/mean_beside_run.py [COUNT [SEED]] [--dense | --trap] [--jobs N]: compares the strict meaning of generated
+programs with their runs.
 
-COUNT programs of whole_programs.py (100 by default, from SEED 1 on; with --dense those of dense_programs.py, with --trap such as fail a
-check) go through `./cheric mean` and `./cheric run`, with the program's own text as their input. Where the strict meaning is defined, the
-run must put the same bytes and end alike. Where it ends by a reason, outside or at the limit of turns, the run must begin with its bytes;
-these are counted by their reason. It proves nothing and is no part of the gate."""
+COUNT programs of whole_programs.py (100 by default, from SEED 1 on; with --dense those of dense_programs.py, with
+--trap such as fail a check) go through `./cheric mean` and `./cheric run`, with the program's own text as their input.
+Where the strict meaning is defined, the run must put the same bytes and end alike. Where it ends by a reason, outside
+or at the limit of turns, the run must begin with its bytes; these are counted by their reason. It proves nothing and is
+no part of the gate."""
 import collections
 import sys
 import tempfile

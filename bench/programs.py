@@ -1,19 +1,22 @@
 #!/usr/bin/env python3
 """bench/programs.py SEED: writes a C program over integers on standard output, of a weight of at most 100.
 
-The same seed gives the same program. It ends, writes some bytes, and means the same by any compiler of C11 that wraps signed sums and
-has an unsigned `char`: divisors are from 1 to 8, shift counts from 0 to 7, and no operand has an effect."""
+The same seed gives the same program. It ends, writes some bytes, and means the same by any compiler of C11 that wraps
+signed sums and has an unsigned `char`: divisors are from 1 to 8, shift counts from 0 to 7, and no operand has an
+effect."""
 import random
 import sys
 
-TYPES = ["int", "unsigned", "long", "unsigned long", "long long", "short", "unsigned short", "char", "signed char", "unsigned char", "_Bool"]
+TYPES = ["int", "unsigned", "long", "unsigned long", "long long", "short", "unsigned short", "char", "signed char",
+         "unsigned char", "_Bool"]
 INFIX = ["+", "-", "*", "&", "|", "^", "<", ">", "<=", ">=", "==", "!=", "&&", "||"]
 LIMIT = 100
 
 
 class Program:
-    """A program while it is written; `left` is the weight that it may still have. Weights are counted too high rather than too low: a
-    value that is read weighs 3, with its load and a conversion, and an operation 3, with conversions of its operands."""
+    """A program while it is written; `left` is the weight that it may still have. Weights are counted too high rather
+    than too low: a value that is read weighs 3, with its load and a conversion, and an operation 3, with conversions of
+    its operands."""
 
     def __init__(self, seed):
         self.random = random.Random(seed)
@@ -26,7 +29,8 @@ class Program:
 
     def number(self):
         self.pay(2)
-        return str(self.random.choice([0, 1, 2, 3, 7, 10, 65, 127, 128, 255, 256, 1000, 32767, 65535, 2147483647, 4294967295]))
+        return str(self.random.choice(
+            [0, 1, 2, 3, 7, 10, 65, 127, 128, 255, 256, 1000, 32767, 65535, 2147483647, 4294967295]))
 
     def operand(self):
         if self.names and self.random.random() < 0.7:

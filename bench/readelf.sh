@@ -1,7 +1,8 @@
 #!/bin/sh
-# bench/readelf.sh [FILE.c]: builds a C file, examples/hi.c by default, and shows that binutils read the ELF file that is
-# written: `readelf -a` and `objdump -d` give no warning, and the machine, the entry, the segments and the sections are right.
-# It needs Debian's binutils-riscv64-linux-gnu, and what ./cheric needs. It proves nothing and is no part of the gate.
+# bench/readelf.sh [FILE.c]: builds a C file, examples/hi.c by default, and shows that binutils read the ELF file that
+# is written: `readelf -a` and `objdump -d` give no warning, and the machine, the entry, the segments and the sections
+# are right. It needs Debian's binutils-riscv64-linux-gnu, and what ./cheric needs. It proves nothing and is no part of
+# the gate.
 set -eu
 
 root=$(CDPATH='' cd -- "$(dirname -- "$0")/.." && pwd)

@@ -1,12 +1,12 @@
 #!/usr/bin/env python3
 """bench/refused_memory.py [--only NAME]: the proved command with one allocation refused at a time.
 
-Three files (one that puts two bytes, one that calls itself, one that counts the words of its input) in each of the modes
-`run`, `build`, `exec`, `map` and `list`, and `gen 3`. A line of words runs once for each number from 1 on, with the
-allocation of that number refused, until a run makes fewer. The answer must be the line's own, or that of `memory` with
-nothing put and no file. A library before the C library's counts the allocations; gcc builds it. Each line printed has a
-file, a mode, and how many allocations were refused. It needs what ./cheric needs, and gcc. It proves nothing and is no
-part of the gate."""
+Three files (one that puts two bytes, one that calls itself, one that counts the words of its input) in each of the
+modes `run`, `build`, `exec`, `map` and `list`, and `gen 3`. A line of words runs once for each number from 1 on, with
+the allocation of that number refused, until a run makes fewer. The answer must be the line's own, or that of `memory`
+with nothing put and no file. A library before the C library's counts the allocations; gcc builds it. Each line printed
+has a file, a mode, and how many allocations were refused. It needs what ./cheric needs, and gcc. It proves nothing and
+is no part of the gate."""
 import argparse
 import os
 import subprocess
@@ -88,7 +88,8 @@ class Command:
         for number in range(1, MOST):
             got = self.answer(words, given, number)
             if got[2] == FEWER:
-                print(f"{name} {words[0]}: {number - 1} allocations refused, {otherwise} answered otherwise", flush=True)
+                print(f"{name} {words[0]}: {number - 1} allocations refused, {otherwise} answered otherwise",
+                      flush=True)
                 return otherwise
             if got not in (own, (b"", b"memory\n", MEMORY, False)):
                 otherwise += 1

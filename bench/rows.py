@@ -1,6 +1,7 @@
 #!/usr/bin/env python3
-"""bench/rows.py: runs small files by `./cheric`, over real files and streams, and compares output, line and status with what the rules
-of docs/ give. Its last line counts the rows. It needs what ./cheric needs. It proves nothing and is no part of the gate."""
+"""bench/rows.py: runs small files by `./cheric`, over real files and streams, and compares output, line and status with
+what the rules of docs/ give. Its last line counts the rows. It needs what ./cheric needs. It proves nothing and is no
+part of the gate."""
 import json
 import os
 import resource
@@ -24,7 +25,8 @@ RUN = [
     ("int main(void){return 300;}", "", "", "exit 44", 1),
     ("int main(void){return 2047;}", "", "", "exit 255", 1),
     ("int main(void){return 2048;}", "", "", "exit 0", 0),
-    ("int main(void){int a=7,z=0,m=-2147483647-1,k=-1;if(a/z==-1)putchar(65);if(m/k==m)putchar(66);return 0;}", "", "AB", "exit 0", 0),
+    ("int main(void){int a=7,z=0,m=-2147483647-1,k=-1;if(a/z==-1)putchar(65);if(m/k==m)putchar(66);return 0;}", "",
+     "AB", "exit 0", 0),
     (ECHO, "", "", "exit 0", 0),
     (ECHO, "abc", "abc", "exit 0", 0),
     ("int main(void){return 0;}@", "", "", "refused 100 1:26", 10),
@@ -54,23 +56,31 @@ RUN = [
     ("int f(void);" + END, "", "", "exit 0", 0),
 ]
 
-# A C file, what `run` puts and its line (None where it has an own row, or where addresses decide), what `mean` puts and its line.
+# A C file, what `run` puts and its line (None where it has an own row, or where addresses decide), what `mean` puts and
+# its line.
 MEAN = [
-    ("int main(void){int a[10];int i;for(i=0;i<=10;i=i+1){a[i]=i;putchar(65+i);}return 0;}", ("ABCDEFGHIJ", "trap bounds 1:54"),
+    ("int main(void){int a[10];int i;for(i=0;i<=10;i=i+1){a[i]=i;putchar(65+i);}return 0;}",
+     ("ABCDEFGHIJ", "trap bounds 1:54"),
      "ABCDEFGHIJ", "trap bounds 1:54"),
     ("int main(void){char *p=malloc(100000);p[100095]=1;putchar(79);p[100096]=1;return 0;}", ("O", "trap bounds 1:64"),
      "", "unspecified padding 1:40"),
-    ("int main(void){int x=5;int *p=&x;unsigned char *c=(unsigned char*)&p;c[0]=c[0];putchar(48+*p);return 0;}", ("", "trap tag 1:91"),
+    ("int main(void){int x=5;int *p=&x;unsigned char *c=(unsigned char*)&p;c[0]=c[0];putchar(48+*p);return 0;}",
+     ("", "trap tag 1:91"),
      "", "unspecified address 1:76"),
-    ("int main(void){\nchar a[40];char *p=a+400;p=p-400;p[0]=65;putchar(a[0]);\np=a+20000;p=p-20000;\np[0]=66;return 0;}",
+    ("int main(void){\nchar a[40];char *p=a+400;p=p-400;p[0]=65;putchar(a[0]);\np=a+20000;p=p-20000;\np[0]=66;return "
+     "0;}",
      ("A", "trap tag 4:2"), "A", "unspecified excursion 3:4"),
-    ("int main(void){int a=7,z=0,m=-2147483647-1,k=-1;if(a/z==-1)putchar(65);if(m/k==m)putchar(66);return 0;}", ("AB", "exit 0"),
+    ("int main(void){int a=7,z=0,m=-2147483647-1,k=-1;if(a/z==-1)putchar(65);if(m/k==m)putchar(66);return 0;}",
+     ("AB", "exit 0"),
      "", "unspecified undefined 1:53"),
-    ("int main(void){char *s=\"ab\";putchar(s[0]);s[1]=65;return 0;}", ("a", "trap store 1:44"), "a", "trap store 1:44"),
-    ("int main(void){int x=8;struct P{int *p;char c;}a,b;a.p=&x;b=a;putchar(48+*b.p);return 0;}", ("8", "exit 0"), "8", "exit 0"),
+    ("int main(void){char *s=\"ab\";putchar(s[0]);s[1]=65;return 0;}", ("a", "trap store 1:44"), "a",
+     "trap store 1:44"),
+    ("int main(void){int x=8;struct P{int *p;char c;}a,b;a.p=&x;b=a;putchar(48+*b.p);return 0;}", ("8", "exit 0"), "8",
+     "exit 0"),
     ("int *f(void){int x=1;return &x;}int main(void){int *p=f();return *p;}", None, "", "outside 1:66"),
     ("int main(void){int x;return x;}", ("", "exit 0"), "", "unspecified unwritten 1:29"),
-    ("int *f(void){int x=1;return &x;}int main(void){int *p=f();int *q=f();return p==q;}", None, "", "unspecified address 1:78"),
+    ("int *f(void){int x=1;return &x;}int main(void){int *p=f();int *q=f();return p==q;}", None, "",
+     "unspecified address 1:78"),
     ("int main(void){int x=1,y=2;return &x==&y;}", ("", "exit 0"), "", "exit 0"),
     ("int main(void){int x=1,y=2;return &x<&y;}", None, "", "unspecified address 1:37"),
     ("int main(void){return 1<<32;}", ("", "exit 1"), "", "unspecified undefined 1:24"),
@@ -104,7 +114,8 @@ class Rows:
         got = (run.stdout.decode("latin-1") if run.stdout is not None else output, run.stderr.decode(), run.returncode)
         first = got[1].splitlines()[0] if got[1] else ""
         # A refusal by 120 is at any place, and texts are put without a line.
-        same = first.startswith(line + " ") if line == "refused 120" else got[1] == ("" if line is None else line + "\n")
+        whole = "" if line is None else line + "\n"
+        same = first.startswith(line + " ") if line == "refused 120" else got[1] == whole
         if (output is not None and got[0] != output) or got[2] != status or not same:
             self.wrong += 1
             print(f"cheric {' '.join(words)}: {got}, and not {(output, line, status)}")
@@ -117,7 +128,8 @@ class Rows:
             resource.setrlimit(resource.RLIMIT_FSIZE, (1, 1))
 
         with open(f"{self.folder}/output", "wb") as out:
-            run = subprocess.run([CHERIC, *words], cwd=self.folder, stdin=subprocess.DEVNULL, stdout=out, stderr=subprocess.PIPE,
+            run = subprocess.run([CHERIC, *words], cwd=self.folder, stdin=subprocess.DEVNULL, stdout=out,
+                                 stderr=subprocess.PIPE,
                                  preexec_fn=limited)
         got = (self.read("output").decode("latin-1"), run.stderr.decode(), run.returncode)
         os.remove(f"{self.folder}/output")
@@ -129,7 +141,8 @@ class Rows:
         tty.setraw(far)
         os.write(far, b"a")
         os.close(far)
-        run = subprocess.run([CHERIC, *words], cwd=self.folder, stdin=near, stdout=subprocess.PIPE, stderr=subprocess.PIPE)
+        run = subprocess.run([CHERIC, *words], cwd=self.folder, stdin=near, stdout=subprocess.PIPE,
+                             stderr=subprocess.PIPE)
         os.close(near)
         got = (run.stdout.decode("latin-1"), run.stderr.decode(), run.returncode)
         self.holds(f"cheric {' '.join(words)}: {got}", got == (output, line + "\n", status))
@@ -227,7 +240,7 @@ def len_of_build(rows):
 
 
 def example_rows(rows):
-    """The examples; what each one shows stands in its first lines. Where a frame's size decides the output, it is not compared."""
+    """The examples; what each one shows stands in its first lines. Output that a frame's size decides isn't compared."""
     for name, taken, output, line, status in [
         ("hi.c", "", "Hi", "exit 0", 0), ("bytes.c", "", "Hi", "exit 0", 0), ("bye.c", "", "bye", "exit 44", 1),
         ("echo.c", "one line\n", "one line\n", "exit 0", 0), ("trap_tag.c", "", "7", "trap tag 8:19", 2),
@@ -239,7 +252,8 @@ def example_rows(rows):
         ("far_pointer.c", "", "A", "trap tag 10:6", 2), ("capabilities.c", "", "1\n40\n8\n4\n", "trap bounds 16:6", 2),
         ("heap_is_full.c", "", "YN", "exit 0", 0), ("list.c", "sorted\n", "deorst", "exit 6", 1),
         ("function_pointers.c", "", "7\n3\n10\n2\n", "exit 0", 0), ("structs.c", "", "8\n2\n5\n", "exit 0", 0),
-        ("words.c", "to be or not to be\n", "be 2\nnot 1\nor 1\nto 2\n", "exit 0", 0), ("wraps.c", "", "WDRS", "exit 0", 0),
+        ("words.c", "to be or not to be\n", "be 2\nnot 1\nor 1\nto 2\n", "exit 0", 0),
+        ("wraps.c", "", "WDRS", "exit 0", 0),
         ("stack_exhausted.c", "", None, "stack 4:12", 3),
     ]:
         rows.row(["run", f"{ROOT}/examples/{name}"], output, line, status, taken)

@@ -1,18 +1,18 @@
 #!/usr/bin/env python3
-"""bench/size.py [COUNT] [--record] [--cheric COMMAND]: sizes of texts and times of building against `riscv64-linux-gnu-gcc`, and what
-stands in registers.
+"""bench/size.py [COUNT] [--record] [--cheric COMMAND]: sizes of texts and times of building against
+`riscv64-linux-gnu-gcc`, and what stands in registers.
 
-The programs are the file that `gen 64` generates, and COUNT programs of whole_programs.py (50 by default) that are within the limit of
-weight. For each tool the bytes of all texts are summed, and the median of five builds of each program. gcc's text is that of an object
-file, without a library: at -O0 with and without compressed instructions, which cheric has none of, and at -O1. A text of cheric has the
-start and the allocation in line too.
+The programs are the file that `gen 64` generates, and COUNT programs of whole_programs.py (50 by default) that are
+within the limit of weight. For each tool the bytes of all texts are summed, and the median of five builds of each
+program. gcc's text is that of an object file, without a library: at -O0 with and without compressed instructions, which
+cheric has none of, and at -O1. A text of cheric has the start and the allocation in line too.
 
-A temp that has no register stands in a slot of its function's frame. A use of one is a load or a store of a slot, and a use of a register
-is an operand c5 to c27; both are counted in the listed code between prologues and epilogues. The instructions of a turn are found by the
-least limits of steps within which a loop of 1,000 turns ends, and one of 2,000.
+A temp that has no register stands in a slot of its function's frame. A use of one is a load or a store of a slot, and a
+use of a register is an operand c5 to c27; both are counted in the listed code between prologues and epilogues. The
+instructions of a turn are found by the least limits of steps within which a loop of 1,000 turns ends, and one of 2,000.
 
-The tables are Markdown; with --record they replace their section of docs/measurements.md. It needs what ./cheric needs, and
-gcc-riscv64-linux-gnu. It proves nothing and is no part of the gate."""
+The tables are Markdown; with --record they replace their section of docs/measurements.md. It needs what ./cheric needs,
+and gcc-riscv64-linux-gnu. It proves nothing and is no part of the gate."""
 import argparse
 import collections
 import re
@@ -27,8 +27,10 @@ from calls import ROOT, answer_of, prepared
 from whole_programs import program
 
 CHERIC = f"{ROOT}/crates/cheric_cli/out/cheric_cli"
-GCC = ["riscv64-linux-gnu-gcc", "-w", "-fwrapv", "-funsigned-char", "-include", "stdint.h", "-include", "stddef.h", "-c"]
-TOOLS = [("gcc -O0", ["-O0"]), ("gcc -O0, no compressed instructions", ["-O0", "-march=rv64imafd"]), ("gcc -O1", ["-O1"])]
+GCC = ["riscv64-linux-gnu-gcc", "-w", "-fwrapv", "-funsigned-char", "-include", "stdint.h", "-include", "stddef.h",
+       "-c"]
+TOOLS = [("gcc -O0", ["-O0"]), ("gcc -O0, no compressed instructions", ["-O0", "-march=rv64imafd"]),
+         ("gcc -O1", ["-O1"])]
 LOOP = "int main(void){int s=0;int i;for(i=0;i<%d;i=i+1)s=s+i;return s;}\n"
 PAGE, HEADING = f"{ROOT}/docs/measurements.md", "## Texts, registers and turns"
 KEPT = [8, 9, *range(18, 28)]
@@ -38,7 +40,8 @@ FRAME = re.compile(r"(clc|csc) c(\d+),(\d+)\(c2\)")
 
 def generated(n):
     """The file that `gen` generates of n functions."""
-    lines = [f"int f{k}(int x){{int a[8];int i;for(i=0;i<8;i=i+1)a[i]=x+i*{k + 3};return a[x&7]%251;}}" for k in range(n)]
+    lines = [f"int f{k}(int x){{int a[8];int i;for(i=0;i<8;i=i+1)a[i]=x+i*{k + 3};return a[x&7]%251;}}" for k
+             in range(n)]
     calls = "".join(f"s=f{k}(s);" for k in range(n))
     return "\n".join([*lines, f"int main(void){{int s;int n;s=1;for(n=0;n<100;n=n+1){{{calls}}}return s;}}"]) + "\n"
 
@@ -90,9 +93,11 @@ def measured(cheric, texts, work):
 def table(title, rows, count):
     """The table of the tools, with the ratios of cheric to each."""
     _, size, took = rows[0]
-    lines = [f"{title}:", "", "| Tool | Text, bytes | cheric's to it | Time, ms | cheric's to it |", "|---|---|---|---|---|"]
+    lines = [f"{title}:", "", "| Tool | Text, bytes | cheric's to it | Time, ms | cheric's to it |",
+             "|---|---|---|---|---|"]
     for tool, other, time_of in rows:
-        lines.append(f"| {tool} | {other:,} | {size / other:.2f} | {1000 * time_of / count:.1f} | {took / time_of:.2f} |")
+        lines.append(f"| {tool} | {other:,} | {size / other:.2f} | {1000 * time_of / count:.1f} | "
+                     f"{took / time_of:.2f} |")
     return [*lines, ""]
 
 
@@ -159,11 +164,12 @@ def registers_of(code):
 
 
 def homes(cheric, texts, work):
-    """Of all functions of the programs: how many there are, how many have no slot, all slots, and the uses of slots and registers."""
+    """Of all functions: how many there are, how many have no slot, all slots, and the uses of slots and registers."""
     functions = [code for text in texts for code in bodies(cheric, text, work)]
     slots = [slots_of(code) for code in functions]
     uses = sum(map(registers_of, functions))
-    return len(functions), sum(not it for it in slots), sum(map(len, slots)), sum(sum(it.values()) for it in slots), uses
+    return len(functions), sum(not it for it in slots), sum(map(len, slots)), sum(sum(it.values()) for it
+                                                                                  in slots), uses
 
 
 # Turns of a loop.
@@ -198,8 +204,10 @@ def section(cheric, count):
         lines += table(f"{count} generated programs of the whole language, times on average", all_of_them, count)
         lines += ["| What | Measured | Wanted |", "|---|---|---|"]
         lines.append(f"| text of the 64 functions to that of gcc -O0 | {one[0][1] / one[1][1]:.2f} | at most 1.1 |")
-        lines.append(f"| text of the {count} programs to that of gcc -O0 | {all_of_them[0][1] / all_of_them[1][1]:.2f} | at most 1.9 |")
-        lines.append(f"| time of `build` of the 64 functions to `gcc -O0 -c` | {one[0][2] / one[1][2]:.2f} | at most 0.2 |")
+        lines.append(f"| text of the {count} programs to that of gcc -O0 | "
+                     f"{all_of_them[0][1] / all_of_them[1][1]:.2f} | at most 1.9 |")
+        lines.append(f"| time of `build` of the 64 functions to `gcc -O0 -c` | {one[0][2] / one[1][2]:.2f} | at most "
+                     f"0.2 |")
         for name, texts in [("the 64 functions", first), (f"the {count} programs", others)]:
             functions, clear, slots, uses, registers = homes(cheric, texts, work)
             share = 100 * registers / (registers + uses)

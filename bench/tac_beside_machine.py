@@ -1,15 +1,16 @@
 #!/usr/bin/env python3
-"""bench/tac_beside_machine.py [COUNT [SEED]] [--random | --dense] [--meaning] [--keep FOLDER]: three-address code by `run_tac` and by the machine.
+"""bench/tac_beside_machine.py [COUNT [SEED]] [--random | --dense] [--meaning] [--keep FOLDER]: three-address code by
+`run_tac` and by the machine.
 
-COUNT programs of whole_programs.py (100 by default, from SEED 1 on), with --dense those of dense_programs.py, are lowered
-and built; `run_tac` runs the code under the map of the build, and the machine the image, both with the program's text as
-their input. With --random the code is made by the generator of tac_beside_machine/code.rt.txt, for the functions and types
-of tac_beside_machine/program.c: every instruction, operation and kind. It goes through homes, frames and selection, and the
-machine's run is compared with `run_tac`'s. With --meaning the placed run of `mean` under the map of the build stands in
-the place of `run_tac`. Both must put the same bytes, take as many, and end alike; where no turn is left,
-or the meaning leaves the rest open, one output must begin with the other. Each line printed has a program and how both
-answered, and the last one counts the answers. With --keep the programs are put into FOLDER. It runs on a copy of the
-sources with no proof (`rt try`), for minutes; it proves nothing and is no part of the gate."""
+COUNT programs of whole_programs.py (100 by default, from SEED 1 on), with --dense those of dense_programs.py, are
+lowered and built; `run_tac` runs the code under the map of the build, and the machine the image, both with the
+program's text as their input. With --random the code is made by the generator of tac_beside_machine/code.rt.txt, for
+the functions and types of tac_beside_machine/program.c: every instruction, operation and kind. It goes through homes,
+frames and selection, and the machine's run is compared with `run_tac`'s. With --meaning the placed run of `mean` under
+the map of the build stands in the place of `run_tac`. Both must put the same bytes, take as many, and end alike; where
+no turn is left, or the meaning leaves the rest open, one output must begin with the other. Each line printed has a
+program and how both answered, and the last one counts the answers. With --keep the programs are put into FOLDER. It
+runs on a copy of the sources with no proof (`rt try`), for minutes; it proves nothing and is no part of the gate."""
 import argparse
 import collections
 import os
@@ -24,7 +25,8 @@ import whole_programs
 from calls import ROOT
 
 NAME = "tac_beside_machine"
-USES = ("ck_base ck_int c_tree cap_layout bounds_place obj_mem tac_ir tac_run c_mean rv_select typed_build cheric_build "
+USES = ("ck_base ck_int c_tree cap_layout bounds_place obj_mem tac_ir tac_run c_mean rv_select typed_build "
+        "cheric_build "
         "cap_machine elf_file image_load")
 # What the copy of typed_build offers beside its own: the steps from three-address code to an image.
 OFFERS = """
@@ -81,7 +83,8 @@ def main():
         args = [str(seed) for seed in seeds] if words.random else programs(folder, seeds, words)
         if words.meaning:
             args.insert(0, "meaning")
-        run = subprocess.run(["rt", "try", "--steps", "1", "--seconds", SECONDS, "--data", "program.c=program.c", "--", *args],
+        run = subprocess.run(["rt", "try", "--steps", "1", "--seconds", SECONDS, "--data", "program.c=program.c", "--",
+                              *args],
                              cwd=folder, capture_output=True, text=True, check=False)
     print(run.stdout, end="")
     counts = collections.Counter(re.findall(r"^\S+: (\w+)$", run.stdout, re.MULTILINE))

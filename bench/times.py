@@ -1,12 +1,14 @@
 #!/usr/bin/env python3
-"""bench/times.py [PART..]: times, sizes and memory of cheric, each beside its peers in the same run. The parts are, all by default:
+"""bench/times.py [PART..]: times, sizes and memory of cheric, each beside its peers in the same run. The parts are, all
+by default:
 
-- building: `cheric build` on the largest accepted ones of 200 generated programs, beside `gcc -O0` and `tcc`, and the bytes of their
-  texts beside `riscv64-linux-gnu-gcc -O0`;
+- building: `cheric build` on the largest accepted ones of 200 generated programs, beside `gcc -O0` and `tcc`, and the
+  bytes of their texts beside `riscv64-linux-gnu-gcc -O0`;
 - running: a loop over integers by `cheric run` and by `qemu-riscv64`, and the instructions of a second;
 - front: the front end on 100 KB of functions, structs and initialisers, beside `gcc -fsyntax-only` and `tcc`;
 - long: files of 4,194,304 bytes, tokens and declarations, beside `gcc -fsyntax-only` and `tcc`;
-- hostile: files that are large in one thing, as chains of typedef names, unions in one another and an initialiser of a million values.
+- hostile: files that are large in one thing, as chains of typedef names, unions in one another and an initialiser of a
+  million values.
 
 A file over the limit of weight ends with `refused 142 1:1` after the front end. A peer that is not there is left out.
 The memory is the peak of resident bytes of the one process. It needs what ./cheric needs. It proves nothing and is no
@@ -29,7 +31,7 @@ MAIN = "int main(void){return 0;}"
 
 
 class Run:
-    """One run of a command: its seconds, its peak of resident bytes in MB, its status and the last line of its standard error."""
+    """One run of a command: seconds, the peak of resident bytes in MB, the status, the last line of standard error."""
 
     def __init__(self, words):
         with tempfile.TemporaryFile() as err:
@@ -81,7 +83,8 @@ def show(rows):
     """A line for each command, and how its time compares with that of the first one."""
     first = rows[0][1].seconds
     for name, run in rows:
-        print(f"    {name}: {1000 * run.seconds:.2f} ms ({run.seconds / first:.2f} times the first), {run.memory:.1f} MB")
+        print(f"    {name}: {1000 * run.seconds:.2f} ms ({run.seconds / first:.2f} times the first), "
+              f"{run.memory:.1f} MB")
 
 
 def building(work):
@@ -98,7 +101,8 @@ def building(work):
             size[k] += text_size(target)
     print(f"building the {len(largest)} longest of 200 programs, on average:")
     for k, words in enumerate(tools):
-        print(f"    {os.path.basename(words[0])}: {1000 * took[k] / len(largest):.2f} ms ({took[k] / took[0]:.2f} times the first), "
+        print(f"    {os.path.basename(words[0])}: {1000 * took[k] / len(largest):.2f} ms ({took[k] / took[0]:.2f} "
+              f"times the first), "
               f"{size[k] // len(largest)} bytes of text ({size[k] / size[0]:.2f} times the first)")
 
 
@@ -200,8 +204,10 @@ def hostile(work):
     source = f"{work}/hostile.c"
     many = 50_000
     chain = "typedef int T0;" + "".join(f"typedef T{k}*T{k + 1};" for k in range(many)) + f"T{many} p;"
-    unions = "union U0{int a;};" + "".join(f"union U{k + 1}{{union U{k} a,b;}};" for k in range(many)) + f"union U{many} u;"
-    structs = "struct S0{int a;};" + "".join(f"struct S{k + 1}{{struct S{k} a;}};" for k in range(many)) + f"struct S{many} s;"
+    unions = "union U0{int a;};" + "".join(f"union U{k + 1}{{union U{k} a,b;}};" for k
+                                           in range(many)) + f"union U{many} u;"
+    structs = "struct S0{int a;};" + "".join(f"struct S{k + 1}{{struct S{k} a;}};" for k
+                                             in range(many)) + f"struct S{many} s;"
     objects = "".join(f"char c{k}[67000000];" for k in range(many))
     values = "".join(f"int a{k}={k};" for k in range(many))
     functions = "".join(f"int f{k}(void){{return {k};}}" for k in range(many))

@@ -1,13 +1,15 @@
 #!/usr/bin/env python3
-"""bench/whole_against_gcc.py [COUNT [SEED]] [--dense | --trap] [--jobs N] [--keep FOLDER]: compares generated programs with gcc.
+"""bench/whole_against_gcc.py [COUNT [SEED]] [--dense | --trap] [--jobs N] [--keep FOLDER]: compares generated programs
+with gcc.
 
 COUNT programs of whole_programs.py (100 by default, from SEED 1 on) are run by `./cheric run` and as
-`gcc -O0 -fwrapv -funsigned-char` builds them; both get the program's own text as their input, and must put the same bytes and exit with
-the same number. With --dense the programs are those of dense_programs.py: cheric gets the dense one, gcc the one with its steps written
-out. With --trap one statement fails a check of the machine, and an exit stands in its place for gcc: a run that comes there must end by
-that check at its place. Programs over the limit of weight (142), and those that are not built yet (150), are counted apart. With --keep
-the programs that are answered otherwise are put into FOLDER, as SEED.c and, where gcc gets another text, SEED.gcc.c. It needs gcc and what
-./cheric needs. It proves nothing and is no part of the gate."""
+`gcc -O0 -fwrapv -funsigned-char` builds them; both get the program's own text as their input, and must put the same
+bytes and exit with the same number. With --dense the programs are those of dense_programs.py: cheric gets the dense
+one, gcc the one with its steps written out. With --trap one statement fails a check of the machine, and an exit stands
+in its place for gcc: a run that comes there must end by that check at its place. Programs over the limit of weight
+(142), and those that are not built yet (150), are counted apart. With --keep the programs that are answered otherwise
+are put into FOLDER, as SEED.c and, where gcc gets another text, SEED.gcc.c. It needs gcc and what ./cheric needs. It
+proves nothing and is no part of the gate."""
 import os
 import subprocess
 import sys
@@ -83,7 +85,8 @@ def main():
             print(f"seed {seed}: {got}; gcc {want}", flush=True)
             if words.keep:
                 keep(words.keep, seed, *pair(seed, words)[:2])
-    print(f"{words.count} programs, {heavy} of them too heavy (142), {unbuilt} not built yet (150), {other} answered otherwise than by gcc")
+    print(f"{words.count} programs, {heavy} of them too heavy (142), {unbuilt} not built yet (150), {other} answered "
+          f"otherwise than by gcc")
     return 1 if other else 0
 
 

@@ -1,7 +1,8 @@
-"""Pieces of programs for whole_programs.py: each one is text at file scope that ends with a function `int pieceK(int a)`.
+"""Pieces of programs for whole_programs.py: each one is text at file scope that ends with a function `int pieceK(int
+a)`.
 
-In a text T1 to T3 stand for integer types, N1 to N3 for small numbers from 1 to 9, and K for the number of the piece, so that its names are
-its own. The number beside it bounds the statements that a call does. `a` may have any value."""
+In a text T1 to T3 stand for integer types, N1 to N3 for small numbers from 1 to 9, and K for the number of the piece,
+so that its names are its own. The number beside it bounds the statements that a call does. `a` may have any value."""
 
 PIECES = [
     (60, """static int oddK(unsigned n);

@@ -1,28 +1,36 @@
 #!/usr/bin/env python3
 """bench/whole_programs.py SEED [--trap]: writes a C program of the whole language on standard output.
 
-The same seed gives the same program: functions, some of them with an effect and some without one, recursion with a bound, pointers to
-objects, functions and pointers, arrays of several dimensions, structs, unions, enums, typedefs, initialisers, statics, strings, all
-statements and operators, all integer types and their conversions, lists and trees from `malloc`. It ends, writes what it computes by
-`putchar`, and means the same by any compiler of C11 on little-endian bytes with these sizes of integers, an unsigned `char` and sums that
-wrap, whatever the size of a pointer: divisors are not zero, shift counts are below the width, indices are inside, each object is written
-before it is read, a union is read through the member that was written last, and an expression has at most one effect between two
-sequence points that another part of it could see. `stdint.h` must be included for compilers that do not declare its names.
+The same seed gives the same program: functions, some of them with an effect and some without one, recursion with a
+bound, pointers to objects, functions and pointers, arrays of several dimensions, structs, unions, enums, typedefs,
+initialisers, statics, strings, all statements and operators, all integer types and their conversions, lists and trees
+from `malloc`. It ends, writes what it computes by `putchar`, and means the same by any compiler of C11 on little-endian
+bytes with these sizes of integers, an unsigned `char` and sums that wrap, whatever the size of a pointer: divisors are
+not zero, shift counts are below the width, indices are inside, each object is written before it is read, a union is
+read through the member that was written last, and an expression has at most one effect between two sequence points that
+another part of it could see. `stdint.h` must be included for compilers that do not declare its names.
 
-With --trap one statement somewhere fails a check of the machine; a comment in the last line says which check, and where."""
+With --trap one statement somewhere fails a check of the machine; a comment in the last line says which check, and
+where."""
 import random
 import sys
 
 from whole_pieces import piece
 
-PLAIN = ["int", "unsigned", "long", "unsigned long", "long long", "unsigned long long", "short", "unsigned short", "char",
-         "signed char", "unsigned char", "_Bool", "int", "long", "int8_t", "uint16_t", "int32_t", "uint64_t", "size_t", "ptrdiff_t"]
+PLAIN = ["int", "unsigned", "long", "unsigned long", "long long", "unsigned long long", "short", "unsigned short",
+         "char",
+         "signed char", "unsigned char", "_Bool", "int", "long", "int8_t", "uint16_t", "int32_t", "uint64_t", "size_t",
+         "ptrdiff_t"]
 # Their size is that of a pointer, so no `sizeof` of them is written out.
 INTS = PLAIN + ["intptr_t", "uintptr_t"]
-NUMBERS = ["0", "1", "2", "3", "5", "7", "10", "31", "63", "65", "100", "127", "128", "255", "256", "1000", "32767", "32768", "65535",
-           "65536", "99999", "2147483647", "2147483648", "4294967295", "4294967296", "0x7fffffffffffffff", "0xffffffffffffffff",
-           "0x80000000", "0xffffu", "017", "0377", "12345678901l", "7u", "9ul", "3ll", "40ull", "'a'", "'\\n'", "'\\0'", "'\\x7f'",
-           "'\\377'", "'\\\\'", "'\"'", "(-1)", "(-2)", "(-128)", "(-32768)", "(-2147483647-1)", "(-9223372036854775807-1)"]
+NUMBERS = ["0", "1", "2", "3", "5", "7", "10", "31", "63", "65", "100", "127", "128", "255", "256", "1000", "32767",
+           "32768", "65535",
+           "65536", "99999", "2147483647", "2147483648", "4294967295", "4294967296", "0x7fffffffffffffff",
+           "0xffffffffffffffff",
+           "0x80000000", "0xffffu", "017", "0377", "12345678901l", "7u", "9ul", "3ll", "40ull", "'a'", "'\\n'", "'\\0'",
+           "'\\x7f'",
+           "'\\377'", "'\\\\'", "'\"'", "(-1)", "(-2)", "(-128)", "(-32768)", "(-2147483647-1)",
+           "(-9223372036854775807-1)"]
 INFIX = ["+", "-", "*", "&", "|", "^", "<", ">", "<=", ">=", "==", "!=", "&&", "||"]
 STRINGS = ["a", "be", "or not", "words", "x\\n", "\\x41\\102C", "tab\\t", "q\\\"q", "two\" \"parts", ""]
 LENGTHS = [len("a"), len("be"), len("or not"), len("words"), 2, 3, 4, 3, len("twoparts"), 0]
@@ -90,7 +98,7 @@ class Record:
 
 
 class Pointer:
-    """A pointer to the first of at least `length` objects. What it points to has static storage duration where `lasting` holds."""
+    """A pointer to the first of at least `length` objects, of static storage duration where `lasting` holds."""
 
     def __init__(self, of, length, const=False):
         self.of, self.length, self.const = of, length, const
@@ -100,11 +108,12 @@ class Pointer:
         return ("const " if self.const else "") + self.of.declared(inner)
 
     def __eq__(self, other):
-        return isinstance(other, Pointer) and (self.of, self.length, self.const) == (other.of, other.length, other.const)
+        return isinstance(other, Pointer) and (self.of, self.length, self.const) == (other.of, other.length,
+                                                                                     other.const)
 
 
 class Root:
-    """A named place. `fixed` is one that is only read; `simple` is a local whose address is never taken; `level` is 0 for globals."""
+    """A named place. `fixed`: it is only read; `simple`: a local whose address is not taken; `level`: 0 for globals."""
 
     def __init__(self, text, kind, fixed=False, simple=False, level=0):
         self.text, self.kind, self.fixed, self.simple, self.level = text, kind, fixed, simple, level
@@ -118,8 +127,8 @@ class Function:
 
 
 class Program:
-    """A program while it is written. Where `trapping` holds, one statement fails a check: `trap` is then its line, counted from 0, and
-    the end of the run."""
+    """A program while it is written. Where `trapping` holds, one statement fails a check: `trap` is then its line,
+    counted from 0, and the end of the run."""
 
     def __init__(self, seed, trapping=False):
         self.random = random.Random(seed)
@@ -255,18 +264,21 @@ class Program:
         if kind < 0.27:
             return f"(({self.int_type().name}){self.value(depth - 1)})"
         if kind < 0.35:
-            divisor = self.pick([f"(({self.value(depth - 2)} & 7) + 1)", f"(({self.value(depth - 2)} & 7) - 9)", "7", "(-3)", "10u"])
+            divisor = self.pick(
+                [f"(({self.value(depth - 2)} & 7) + 1)", f"(({self.value(depth - 2)} & 7) - 9)", "7", "(-3)", "10u"])
             return f"({self.value(depth - 1)} {self.pick('/%')} {divisor})"
         if kind < 0.43:
             if self.chance(0.3):
                 return f"((long){self.value(depth - 1)} {self.pick(['<<', '>>'])} ({self.value(depth - 2)} & 63))"
-            return f"({self.value(depth - 1)} {self.pick(['<<', '>>'])} ({self.value(depth - 2)} & {self.pick([7, 15, 31])}))"
+            value, shift = self.value(depth - 1), self.pick(["<<", ">>"])
+            return f"({value} {shift} ({self.value(depth - 2)} & {self.pick([7, 15, 31])}))"
         if kind < 0.5:
             return f"({self.value(depth - 1)} ? {self.value(depth - 1)} : {self.value(depth - 1)})"
         if kind < 0.53:
             return f"({self.value(depth - 2)}, {self.value(depth - 1)})"
         if kind < 0.56:
-            what = self.pick([f"({self.pick(PLAIN)})", f"({self.pick(NUMBERS)} + 1)", f"(char[{self.random.randint(1, 9)}])", " 1l"])
+            what = self.pick([f"({self.pick(PLAIN)})", f"({self.pick(NUMBERS)} + 1)",
+                              f"(char[{self.random.randint(1, 9)}])", " 1l"])
             return f"(int)sizeof{what}"
         if kind < 0.63:
             return self.call(depth, pure=True) or self.value(depth - 1)
@@ -328,12 +340,15 @@ class Program:
                 texts.append(f"&{root.text}")
             if isinstance(kind, Array) and kind.of == of and kind.length >= length:
                 over = kind.length - length
-                texts.append(root.text if over == 0 or self.chance(0.5) else f"({root.text} + {self.random.randint(0, over)})")
+                texts.append(root.text if over == 0 or self.chance(0.5)
+                             else f"({root.text} + {self.random.randint(0, over)})")
                 if length == 1:
                     texts.append(f"&{root.text}[{self.index(kind.length, depth - 1)}]")
             if isinstance(kind, Record):
                 texts += self.addresses_in(root, of, length)
-            if isinstance(kind, Pointer) and not lasting and kind.of == of and kind.length >= length and (const or not kind.const):
+            if isinstance(kind,
+                          Pointer) and not lasting and kind.of == of and kind.length >= length and (const or
+                                                                                                    not kind.const):
                 texts.append(root.text)
         return self.pick(texts) if texts else None
 
@@ -367,7 +382,8 @@ class Program:
 
     def effect(self, depth, kept=()):
         """An expression with effects, and the simple locals that it writes; `kept` are not written."""
-        simple = self.places(lambda root: root.simple and not root.fixed and isinstance(root.kind, Int) and root.text not in kept)
+        simple = self.places(lambda root: root.simple and not root.fixed and isinstance(root.kind, Int) and root.text
+                             not in kept)
         kind = self.random.random()
         if depth <= 0 or not simple or kind < 0.1:
             return self.value(max(depth, 1)), set()
@@ -392,7 +408,7 @@ class Program:
         return f"({one} ? {two} : {three})", first | second | third
 
     def assignment(self, depth):
-        """An assignment, a compound one or a step, whose other parts change nothing; None where nothing may be written."""
+        """An assignment, a compound one or a step, whose other parts change nothing; None where nothing may be."""
         place = self.place(depth, writable=True)
         if not place:
             return None
@@ -415,11 +431,13 @@ class Program:
         if isinstance(kind, Int):
             return self.constant() if constant else self.value(self.random.randint(0, 2))
         if isinstance(kind, Array):
-            if kind.of in (Int("char"), Int("unsigned char"), Int("signed char")) and kind.length > 3 and self.chance(0.4):
+            if kind.of in (Int("char"), Int("unsigned char"),
+                           Int("signed char")) and kind.length > 3 and self.chance(0.4):
                 return self.pick(["\"abc\"", "\"a\\n\"", "\"\"", "{\"xyz\"}"])
             several = [self.initializer(kind.of, constant) for _ in range(self.random.randint(1, kind.length))]
         elif isinstance(kind, Record):
-            several = [self.initializer(of, constant) for _, of in kind.members[:self.random.randint(1, len(kind.members))]]
+            count = self.random.randint(1, len(kind.members))
+            several = [self.initializer(of, constant) for _, of in kind.members[:count]]
         else:
             return "0"
         return "{" + ", ".join(several) + ("," if self.chance(0.1) else "") + "}"
@@ -427,7 +445,8 @@ class Program:
     def constant(self):
         one, two = self.pick(NUMBERS), self.pick(NUMBERS[:12])
         return self.pick([one, one, f"({one} {self.pick('+-*&|^')} {two})", f"({self.pick(PLAIN)}){one}", f"~{one}",
-                          f"({one} ? {two} : 3)", f"sizeof(long) * {two}", f"{one} / 7", f"(1 << {self.random.randint(0, 20)})"])
+                          f"({one} ? {two} : 3)", f"sizeof(long) * {two}", f"{one} / 7",
+                          f"(1 << {self.random.randint(0, 20)})"])
 
     # Statements.
 
@@ -478,7 +497,8 @@ class Program:
         for root in arrays:
             name, length, of = root.text, root.kind.length, root.kind.of
             if isinstance(of, Int):
-                texts += [("bounds", f"{name}@[{length}] = 1;"), ("bounds", f"mix({name}@[{length}]);"), ("bounds", f"{name}@[-1]++;"),
+                texts += [("bounds", f"{name}@[{length}] = 1;"), ("bounds", f"mix({name}@[{length}]);"),
+                          ("bounds", f"{name}@[-1]++;"),
                           ("bounds", f"@*({name} + {length}) += 2;"), ("bounds", f"mix((&{name}[{length - 1}])@[1]);"),
                           ("execute", f"((int (*)(int))(void *){name})@(1);")]
                 if of.name in ("int", "long") and length > 1:
@@ -492,7 +512,8 @@ class Program:
         for root in records:
             member, of = root.kind.members[0]
             if isinstance(of, Int):
-                texts += [("bounds", f"(&{root.text}.{member})@[1] = 3;"), ("bounds", f"mix((&{root.text})[1]@.{member});")]
+                texts += [("bounds", f"(&{root.text}.{member})@[1] = 3;"),
+                          ("bounds", f"mix((&{root.text})[1]@.{member});")]
             elif isinstance(of, Array) and isinstance(of.of, Int):
                 texts += [("bounds", f"{root.text}.{member}@[{of.length}] = 3;")]
         cause, text = self.pick(texts)
@@ -521,7 +542,8 @@ class Program:
     def copied(self):
         """A struct is assigned, or a pointer is set to another object of static storage duration."""
         own = self.function.pure
-        roots = self.places(lambda root: isinstance(root.kind, (Record, Pointer)) and not root.fixed and not (own and root.level == 0))
+        roots = self.places(lambda root: isinstance(root.kind, (Record, Pointer)) and not root.fixed and
+                            not (own and root.level == 0))
         if not roots:
             return
         root = self.pick(roots)
@@ -535,7 +557,8 @@ class Program:
         texts += [f"{one.text}[{self.index(one.kind.length, 1)}]" for one in self.roots
                   if isinstance(one.kind, Array) and one.kind.of is root.kind]
         one, two = self.pick(texts), self.pick(texts)
-        self.line(f"{root.text} = {self.pick([one, one, f'({self.value(1)} ? {one} : {two})', f'({self.value(1)}, {one})'])};")
+        values = [one, one, f"({self.value(1)} ? {one} : {two})", f"({self.value(1)}, {one})"]
+        self.line(f"{root.text} = {self.pick(values)};")
 
     def ended(self):
         """A `break`, a `continue` or a `return` under a condition."""
@@ -601,7 +624,8 @@ class Program:
             labels[0] = f"case {self.pick(self.enumerators)} + 100:"
         if self.chance(0.7):
             labels.insert(self.random.randint(0, count), "default:")
-        test = self.pick([f"{self.value(2)} & 7", f"{self.value(2)} % 8", f"(short){self.value(1)}", f"({self.effect(2)[0]}) & 3"])
+        test = self.pick([f"{self.value(2)} & 7", f"{self.value(2)} % 8", f"(short){self.value(1)}",
+                          f"({self.effect(2)[0]}) & 3"])
         self.line(f"switch ({test}) {{")
         outer = self.loops
         for label in labels:
@@ -677,7 +701,8 @@ class Program:
 
     def walked(self):
         """A loop that walks over an array by a pointer."""
-        roots = self.places(lambda root: isinstance(root.kind, Array) and isinstance(root.kind.of, Int) and not root.simple)
+        roots = self.places(lambda root: isinstance(root.kind, Array) and isinstance(root.kind.of, Int) and
+                            not root.simple)
         target = self.place(1, writable=True)
         if not roots or not target:
             return
@@ -692,13 +717,15 @@ class Program:
             f"for ({where} = {root.text} + {length}; {name} != {root.text};) {change} *--{name};",
             f"for ({where} = &{root.text}[{length}]; {name} > {root.text}; --{name}) {change} {name}[-1];",
             f"{{ {where} = {root.text}; do {change} *{name}++; while ({name} - {root.text} < {length}); }}",
-            f"{{ {where} = {root.text}; while ({name} != &{root.text}[{length}]) {{ {change} *{name}; {name} += 1; }} }}",
+            f"{{ {where} = {root.text}; while ({name} != &{root.text}[{length}]) {{ {change} *{name}; {name} += 1; "
+            f"}} }}",
         ]))
 
     # Pieces that are written out.
 
     def snippet(self):
-        piece = self.pick([self.union_piece, self.list_piece, self.string_piece, self.table_piece, self.pointer_integer_piece,
+        piece = self.pick([self.union_piece, self.list_piece, self.string_piece, self.table_piece,
+                           self.pointer_integer_piece,
                            self.heap_piece, self.matrix_piece, self.out_piece])
         piece()
 
@@ -707,7 +734,8 @@ class Program:
         name = self.name("u")
         self.left -= 5
         self.line("{")
-        self.line(f"union {{ {one} a; {two} b[3]; struct {{ {three} x; {one} y; }} c; }} {name} = {{{self.value(1)}}}, {name}z;")
+        self.line(f"union {{ {one} a; {two} b[3]; struct {{ {three} x; {one} y; }} c; }} {name} = "
+                  f"{{{self.value(1)}}}, {name}z;")
         self.line(f"mix({name}.a);")
         self.line(f"{name}.b[{self.index(3, 1)}] = {self.value(1)};")
         self.line(f"{name}.b[1] = {self.value(2)};")
@@ -726,12 +754,15 @@ class Program:
         node = self.name("N")
         order = self.pick(["<", ">", "<="])
         for text in [
-            "{", f"struct {node} {{ {self.int_type().name} v; struct {node} *next; char c[3]; }} *head = 0, *at, **way;",
+            "{", f"struct {node} {{ {self.int_type().name} v; struct {node} *next; char c[3]; }} "
+            "*head = 0, *at, **way;",
             f"for (int i = 0; i < {turns}; i++) {{", f"at = malloc(sizeof(struct {node}));", "if (!at) exit(3);",
             f"at->v = {self.value(1)} + i * {self.pick(NUMBERS)};", "at->c[0] = at->c[1] = at->c[2] = i;",
-            f"for (way = &head; *way && (*way)->v {order} at->v; way = &(*way)->next);", "at->next = *way;", "*way = at;", "}",
+            f"for (way = &head; *way && (*way)->v {order} at->v; way = &(*way)->next);", "at->next = *way;",
+            "*way = at;", "}",
             "for (at = head; at; at = at->next) mix(at->v);",
-            "{", f"struct {node} *back = 0, *rest;", "while (head) {", "rest = head->next;", "head->next = back;", "back = head;",
+            "{", f"struct {node} *back = 0, *rest;", "while (head) {", "rest = head->next;", "head->next = back;",
+            "back = head;",
             "head = rest;", "}", "for (; back; back = back->next) mix(back->v + back->c[1]);", "}",
             f"for (way = &head, at = 0; *way; way = &(*way)->next);", "mix(way == &head);", "}",
         ]:
@@ -745,7 +776,8 @@ class Program:
         self.line("{")
         self.line(f"{self.pick(['const ', ''])}char *{name} = \"{STRINGS[k]}\";")
         self.line(self.pick([f"while (*{name}) putchar(*{name}++);", f"for (; *{name}; ++{name}) mix(*{name});",
-                             f"for (int i = 0; {name}[i]; i++) putchar({name}[i]);", f"if (*{name}) do mix(*{name}++); while (*{name});"]))
+                             f"for (int i = 0; {name}[i]; i++) putchar({name}[i]);",
+                             f"if (*{name}) do mix(*{name}++); while (*{name});"]))
         self.line(f"mix(sizeof \"{STRINGS[k]}\");")
         self.line("}")
 
@@ -760,10 +792,12 @@ class Program:
         self.line(f"mix({self.pick([f'{table}[{at}]', f'(*{table}[{at}])', f'(**{table}[{at}])'])}({self.value(2)}));")
         if self.chance(0.4):
             name = self.name("f")
-            self.line(f"{{ int (*{name})(int) = {table}[{self.index(length, 1)}]; show({name}({self.value(1)}) + ({name} == {table}[0])); }}")
+            self.line(f"{{ int (*{name})(int) = {table}[{self.index(length, 1)}]; show({name}({self.value(1)}) + "
+                      f"({name} == {table}[0])); }}")
 
     def pointer_integer_piece(self):
-        roots = self.places(lambda root: isinstance(root.kind, Array) and isinstance(root.kind.of, Int) and not root.fixed)
+        roots = self.places(lambda root: isinstance(root.kind, Array) and isinstance(root.kind.of, Int) and
+                            not root.fixed)
         if not roots:
             return
         root, name = self.pick(roots), self.name("p")
@@ -789,7 +823,8 @@ class Program:
         self.line("}")
 
     def matrix_piece(self):
-        roots = self.places(lambda root: isinstance(root.kind, Array) and isinstance(root.kind.of, Array) and isinstance(root.kind.of.of, Int))
+        roots = self.places(lambda root: isinstance(root.kind, Array) and isinstance(root.kind.of, Array)
+                            and isinstance(root.kind.of.of, Int))
         if not roots:
             return
         root, name = self.pick(roots), self.name("m")
@@ -799,7 +834,8 @@ class Program:
         self.line("{")
         self.line(f"{const}{of} (*{name})[{columns}] = {root.text};")
         self.line(f"for (int i = 0; i < {rows}; i++)")
-        self.line(f"for (int j = 0; j < {columns}; j++) mix({self.pick([f'{name}[i][j]', f'*(*({name} + i) + j)', f'(*({name} + i))[j]'])});")
+        self.line(f"for (int j = 0; j < {columns}; j++) "
+                  f"mix({self.pick([f'{name}[i][j]', f'*(*({name} + i) + j)', f'(*({name} + i))[j]'])});")
         self.line(f"mix(&{name}[{rows}] - {name} + (int)sizeof({root.text}) / (int)sizeof *{name});")
         self.line("}")
 
@@ -862,7 +898,8 @@ class Program:
             text = self.pick([f"{name} + {over}", f"&{name}[{over}]", f"{over} + {name}"])
         else:
             kind, text = Pointer(of, 1, fixed), f"&{name}"
-            inner = [(member, one) for member, one in of.members if isinstance(one, Int)] if isinstance(of, Record) else []
+            inner = [] if not isinstance(of, Record) else [
+                (member, one) for member, one in of.members if isinstance(one, Int)]
             if inner and self.chance(0.5):
                 member, one = self.pick(inner)
                 kind, text = Pointer(one, 1, fixed), f"&{name}.{member}"
@@ -897,7 +934,8 @@ class Program:
         self.line(f"{words}{head} {{")
         for name, of in zip(names, takes):
             self.roots.append(Root(name, of, simple=True, level=1))
-        if takes and gives and isinstance(takes[0], Int) and takes[0].name in ("int", "long", "unsigned") and self.chance(0.4):
+        if (takes and gives and isinstance(takes[0], Int) and takes[0].name in ("int", "long", "unsigned")
+                and self.chance(0.4)):
             self.recursion(one, names, takes)
         self.body(self.random.randint(2, 7) * self.scale)
         if gives:
@@ -913,7 +951,8 @@ class Program:
         for root in self.roots:
             if root.text == names[0]:
                 root.fixed = True
-        arguments = ", ".join([f"{names[0]} - 1"] + [name if isinstance(of, Pointer) else self.value(1) for name, of in zip(names[1:], takes[1:])])
+        others = [name if isinstance(of, Pointer) else self.value(1) for name, of in zip(names[1:], takes[1:])]
+        arguments = ", ".join([f"{names[0]} - 1"] + others)
         name = self.name("v")
         self.line(f"{one.gives.name} {name} = 1;")
         self.line(f"if ({names[0]} > 0) {name} = {one.name}({arguments});")
@@ -942,7 +981,8 @@ class Program:
             self.functions.append(one)
             names.append(one)
         table = self.name("table")
-        self.line(self.pick([f"static int (*{table}[3])(int) =", f"typedef int (*P{table})(int);\nstatic const P{table} {table}[] ="]) +
+        self.line(self.pick([f"static int (*{table}[3])(int) =",
+                             f"typedef int (*P{table})(int);\nstatic const P{table} {table}[] ="]) +
                   f" {{{names[0].name}, &{names[1].name}, {names[2].name}}};")
         self.tables.append((table, 3, max(one.cost for one in names)))
 
@@ -1000,8 +1040,8 @@ def program(seed):
 
 
 def trapping(seed):
-    """A program with a statement that fails a check, the same with an exit by TRAPPED there, and the line on the end of a run that comes
-    there, as `trap bounds 7:3`."""
+    """A program with a statement that fails a check, the same with an exit by TRAPPED there, and the line on the end of
+    a run that comes there, as `trap bounds 7:3`."""
     one = Program(seed, trapping=True)
     text = one.text()
     if one.trap is None:

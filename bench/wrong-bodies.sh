@@ -1,6 +1,7 @@
 #!/usr/bin/env bash
-# bench/wrong-bodies.sh [CRATE..]: tries the wrong bodies of crates/CRATE/wrong-bodies, which the gate does not try (by default those of
-# every crate that has some). The prover must refuse each. It works on a copy of the repository, and takes minutes for each crate.
+# bench/wrong-bodies.sh [CRATE..]: tries the wrong bodies of crates/CRATE/wrong-bodies, which the gate does not try (by
+# default those of every crate that has some). The prover must refuse each. It works on a copy of the repository, and
+# takes minutes for each crate.
 set -euo pipefail
 top=$(cd "$(dirname "$0")/.." && pwd)
 work=$(mktemp -d)
