@@ -34,14 +34,14 @@ struct_places tags (m ∷ ms) x =
     or_none (next_within x (type_extent tags m.of))
     (λ y. (member_offset y x, m.of) ∷ struct_places tags ms (behind y x))
 
--- of a union the first member alone counts
-abbrev pub first_place : List Part → List (ℕ × Ty)
-first_place [] = []
-first_place (m ∷ ms) = (0, m.of) ∷ []
+-- of a union the first member alone counts, if it is within the limit
+abbrev pub first_place : List TagState → List Part → List (ℕ × Ty)
+first_place tags [] = []
+first_place tags (m ∷ ms) = or_none (within (type_extent tags m.of)) (λ y. (0, m.of) ∷ [])
 
 abbrev pub record_places : List TagState → RecordKind → List Part → List (ℕ × Ty)
 record_places tags Struct ms = struct_places tags ms no_members
-record_places tags Union ms = first_place ms
+record_places tags Union ms = first_place tags ms
 
 abbrev pub known_places : List TagState → RecordKind → Option (List Part) → List (ℕ × Ty)
 known_places tags k None = []

@@ -1,6 +1,6 @@
 -- Structs and unions: new ones, and their members.
-use Rattle.std.proofs.Common.{◌≡◌, ℕ, zero, suc, ◌<◌, ◌≤◌, List, [], ◌∷◌, ◌++◌, length, set, take, map, Option, Some}
-use Rattle.std.proofs.Common.{None, Ok, Err, Bool, true, false, refl, sym, ap, subst, ◌∙◌, arith, inl, inr}
+use Rattle.std.proofs.Common.{◌≡◌, ℕ, zero, suc, ◌^◌, ◌<◌, ◌≤◌, List, [], ◌∷◌, ◌++◌, length, set, take, map, Option}
+use Rattle.std.proofs.Common.{Some, None, Ok, Err, Bool, true, false, refl, sym, ap, subst, ◌∙◌, arith, inl, inr}
 use Rattle.std.proofs.Common.{length-append}
 use Rattle.std.specs.Prelude.{◌⊎◌, ◌||◌, is_some, slice_get, option_map, reverse, nat_le, nat_eq, if◌then◌else◌}
 use Rattle.std.specs.Global.{Vec}
@@ -11,7 +11,7 @@ use Rattle.ck_base.specs.declared.positions.Span.{Span}
 use Rattle.c_tree.specs.declared.syntax.RecordKind.{RecordKind}
 use Rattle.c_tree.specs.declared.syntax.RecordKind.TheVariants as records
 use Rattle.c_tree.specs.Layout.{Extent, size_limit, with_extent, members, no_members, whole, times, member_offset}
-use Rattle.c_tree.specs.Layout.{behind}
+use Rattle.c_tree.specs.Layout.{behind, within}
 use Rattle.cap_layout.specs.declared.answers.Layout.{Layout}
 use Rattle.cap_layout.specs.declared.answers.LayoutFault.{LayoutFault}
 use Rattle.cap_layout.specs.Answers.{Fits, Exceeds, IsLayout, extent_is}
@@ -45,7 +45,7 @@ use Rattle.c_interner.proofs.Growing.{types_of-push, length-types_of, type_at-le
 use Rattle.c_types.proofs.Plain.{there_is}
 use Rattle.c_types.proofs.Growth.{scopes_more, HaveTypes, stands_grown, tags_longer, kinds_longer}
 use Rattle.c_types.proofs.Growth.{slice_get-longer}
-use Rattle.c_types.proofs.Looking.{seen_at}
+use Rattle.c_types.proofs.Looking.{seen_at, seen_length}
 use Rattle.c_types.proofs.Sizing.{next_stays}
 
 -- ---- lists
@@ -171,7 +171,17 @@ record_stays : (ts us : List TagState) → ExtentsStay ts us → (kind : RecordK
     slice_get (map (λ (y : ℕ × Ty). y.0) (record_places ts kind ms)) k ≡ Some z →
     slice_get (map (λ (y : ℕ × Ty). y.0) (record_places us kind ms)) k ≡ Some z
 record_stays ts us g records.Struct ms k z e = struct_stays ts us g ms no_members k z e
-record_stays ts us g records.Union ms k z e = e
+record_stays ts us g records.Union [] k z e = e
+record_stays ts us g records.Union (m ∷ ms) k z e = by_extent (within (type_extent ts m.of)) refl e
+  where
+    by_extent : (o : Option Extent) → within (type_extent ts m.of) ≡ o →
+        slice_get (map (λ (y : ℕ × Ty). y.0) (or_none o (λ y. (0, m.of) ∷ []))) k ≡ Some z →
+        slice_get (map (λ (y : ℕ × Ty). y.0) (or_none (within (type_extent us m.of)) (λ y. (0, m.of) ∷ []))) k ≡ Some z
+    by_extent None f i = absurd (none-some z i)
+    by_extent (Some y) f i =
+        let h : within (type_extent us m.of) ≡ Some y =
+        next_stays no_members y (type_extent ts m.of) (type_extent us m.of) f (extent_stays ts us g m.of) in
+        rw h i
 
 known_stays : (ts us : List TagState) → ExtentsStay ts us → (kind : RecordKind) (ms : Option (List Part)) (k z : ℕ) →
     slice_get (map (λ (y : ℕ × Ty). y.0) (known_places ts kind ms)) k ≡ Some z →
@@ -195,11 +205,12 @@ extents_stay ts us g n x e = by_tag (slice_get ts n) refl e
     by_tag (Some t) f i = let u = g.old n t f in rw u.1 (u.2.extent ∙ i)
 
 members_stay : (file : List ℕ) (stale : Bool) (tables : List (ℕ × MemberTable)) (ts us : List TagState) →
-    TagsStay ts us → ShowsMembers file stale tables ts → ShowsMembers file stale tables us
-members_stay file stale tables ts us g h = record {
+    TagsStay ts us → length us ≤ 2 ^ 32 → ShowsMembers file stale tables ts → ShowsMembers file stale tables us
+members_stay file stale tables ts us g few h = record {
   numbers = λ n name. h.numbers n name ∙ ap (λ o. first_part file o name) (by_parts n (slice_get ts n) refl);
   offsets = λ f n k z e. by_starts n k z (slice_get ts n) refl (h.offsets f n k z e);
   sizes = λ n u e m. by_open n u (slice_get ts n) refl e m;
+  few = few;
 }
   where
     none_before : (o : Option TagState) → (u : TagState) → o ≡ Some u → u.members ≡ None → parts_of o ≡ None
@@ -279,9 +290,8 @@ tagged_set ts is n i j e o h k m f = let x = h k m f in by_number x.0 x.1 x.2 (n
 pub stands_tags : (sc : Scopes) (v : Vec TagInfo) (p : Typed) (s : State) (ms : List TagState) → Stands sc p s →
     length sc.tags.items ≤ length v.items → map (tag_kept p.types (types_of p.types)) v.items ≡ map tag_seen ms →
     HaveTypes (types_of p.types) v.items → AreOfKinds p.types v.items → AreTagged (types_of p.types) v.items →
-    TagsStay s.tags ms →
-    Stands (record sc { tags = v }) p (record s { tags = ms })
-stands_tags sc v p s ms h le e t kinds are m = record {
+    TagsStay s.tags ms → length ms ≤ 2 ^ 32 → Stands (record sc { tags = v }) p (record s { tags = ms })
+stands_tags sc v p s ms h le e t kinds are m few = record {
   scopes = subst (λ x. ShowScopes x (length v.items) (reverse sc.scopes.items) s.scopes) (append-nil (types_of p.types))
       (scopes_more (types_of p.types) [] (length sc.tags.items) (length v.items)
       (reverse sc.scopes.items) s.scopes le h.scopes);
@@ -289,7 +299,7 @@ stands_tags sc v p s ms h le e t kinds are m = record {
   tag_types = t;
   kinds = kinds;
   tagged = are;
-  members = members_stay sc.file.now sc.stale sc.named.entries s.tags ms m h.members;
+  members = members_stay sc.file.now sc.stale sc.named.entries s.tags ms m few h.members;
   objects = h.objects;
   globals = h.globals;
   begun = h.begun;
@@ -303,10 +313,10 @@ stands_tags sc v p s ms h le e t kinds are m = record {
 
 pub stands_new_tag : (sc : Scopes) (v : Vec TagInfo) (p q : Typed) (s : State) (k : RecordKind) (n of : ℕ) →
     Stands sc p s → q.types ≡ p.types ++ ctypes.Incomplete n ∷ [] → q ≡ record p { types = q.types } →
-    of ≡ length p.types → n ≡ length sc.tags.items →
+    of ≡ length p.types → n ≡ length sc.tags.items → n < 2 ^ 32 →
     v.items ≡ sc.tags.items ++ record { kind = k; begun = false; of = of; room = None } ∷ [] →
     Stands (record sc { tags = v }) q (record s { tags = s.tags ++ no_tag k ∷ [] })
-stands_new_tag sc v p q s k n of h e r o m g =
+stands_new_tag sc v p q s k n of h e r o m small g =
     let i : TagInfo = record { kind = k; begun = false; of = of; room = None } in
     let new : List CType = ctypes.Incomplete n ∷ [] in
     let ts = types_of p.types in
@@ -340,7 +350,11 @@ stands_new_tag sc v p q s k n of h e r o m g =
       | inr y ↦ (i, rw (g, ← numbers_same n b y.1, m) (slice_get-push sc.tags.items i), is ∙ sym y.0)
     ])
     (members_stay sc.file.now sc.stale sc.named.entries s.tags (s.tags ++ no_tag k ∷ []) (tags_pushed s.tags k)
-    h.members)
+    (omega (
+      arith,
+      seen_length (tag_kept p.types ts) tag_seen sc.tags.items s.tags h.tags,
+      length-append s.tags (no_tag k ∷ []),
+    )) h.members)
     in
     subst (λ z. Stands (record sc { tags = v }) z (record s { tags = s.tags ++ no_tag k ∷ [] }))
     (ap (λ cs. record p { types = cs }) (sym e) ∙ sym r) all
@@ -402,7 +416,7 @@ with_tag sc p s n i j u t v h e o g k l q =
       | inr y ↦ subst (λ (z : TagInfo). IsOfKind z.kind (slice_get p.types z.of)) (sym o ∙ y.1) (h.kinds n i e)
     ]))
     (rw g (tagged_set (types_of p.types) sc.tags.items n i j e of h.tagged))
-    (tags_set s.tags n u t l q)
+    (tags_set s.tags n u t l q) (rw (length-set s.tags n t) h.members.few)
   where
     same_set : (xs ys : List SeenTag) (n : ℕ) (x y : SeenTag) → xs ≡ ys → x ≡ y → set xs n x ≡ set ys n y
     same_set xs ys n x y d f = cc
@@ -660,6 +674,7 @@ members_noted file old stale before after ts tags n b ms parts u t h d e fresh h
     | inl x ↦ h.sizes j w x g
     | inr x ↦ absurd (none-some parts (sym g ∙ ap (λ (y : TagState). y.members) (sym x.1) ∙ m))
   ];
+  few = rw (length-set tags n t) h.few;
 }
   where
     others : (j : ℕ) → nat_eq n j ≡ false → slice_get (set tags n t) j ≡ slice_get tags j

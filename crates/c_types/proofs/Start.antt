@@ -211,6 +211,7 @@ stands_beginning sc p c s t m o b l f g u h i are = record {
     numbers = λ n name. refl;
     offsets = λ f n k z e. absurd (none-some z e);
     sizes = λ n u e. absurd (none-some u e);
+    few = omega arith;
   });
   objects = rw o refl;
   globals = rw g refl;

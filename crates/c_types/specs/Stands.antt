@@ -1,6 +1,6 @@
 -- What the scopes and the lists of a program stand for: the state of the typing of a file.
 use Rattle.std.specs.Prelude.{◌≡◌, ℕ, ℤ, ◌<◌, Bool, false, List, [], ◌∷◌, length, min, map, reverse, Option, Some, None}
-use Rattle.std.specs.Prelude.{◌+◌, if◌then◌else◌, option_map, slice_get, slice_range, bytes_eq, nat_eq}
+use Rattle.std.specs.Prelude.{◌+◌, ◌^◌, ◌≤◌, if◌then◌else◌, option_map, slice_get, slice_range, bytes_eq, nat_eq}
 use Rattle.std.specs.Map.{lookup}
 use Rattle.ck_base.specs.declared.positions.Pos.{Pos}
 use Rattle.ck_base.specs.declared.positions.Span.{Span}
@@ -166,8 +166,8 @@ offset_among (Some t) k = slice_get t.offsets.items k
 abbrev pub starts_in : List TagState → Option TagState → List ℕ
 starts_in tags t = map (λ (x : ℕ × Ty). x.0) (tag_places tags t)
 
--- The tables of the structs and unions by the numbers of their tags, whose offsets hold unless they are stale. What has
--- no members has no size
+-- The tables of the structs and unions by the numbers of their tags, which have 32 bits; the offsets hold unless they
+-- are stale. What has no members has no size
 pub record ShowsMembers (file : List ℕ) (stale : Bool) (tables : List (ℕ × MemberTable)) (tags : List TagState) :
     Type 0 where
   pub numbers : (n : ℕ) (name : List ℕ) →
@@ -175,6 +175,7 @@ pub record ShowsMembers (file : List ℕ) (stale : Bool) (tables : List (ℕ × 
   pub offsets : stale ≡ false → (n k z : ℕ) → offset_among (lookup (nat_eq n) tables) k ≡ Some z →
       slice_get (starts_in tags (slice_get tags n)) k ≡ Some z
   pub sizes : (n : ℕ) (t : TagState) → slice_get tags n ≡ Some t → t.members ≡ None → t.extent ≡ None
+  pub few : length tags ≤ 2 ^ 32
 
 -- ---- objects and functions
 

@@ -9,7 +9,7 @@ use Rattle.cap_concentrate.proofs.Least.{rounded_up_ge}
 use Rattle.c_tree.specs.declared.syntax.RecordKind.{RecordKind}
 use Rattle.c_tree.specs.declared.syntax.RecordKind.TheVariants.{Struct, Union}
 use Rattle.c_tree.specs.Layout.{Extent, with_extent, times, member_align, member_offset, behind, beside, no_members}
-use Rattle.c_tree.specs.Layout.{whole, size_limit, size_of}
+use Rattle.c_tree.specs.Layout.{whole, within, size_limit, size_of}
 use Rattle.c_tree.specs.Types.{Ty, Array}
 use Rattle.c_tree.specs.Scopes.{Part, TagState, type_extent, tag_extent}
 use Rattle.c_tree.specs.Declarators.{members_extent, record_extent}
@@ -133,19 +133,19 @@ module _ (ts : List TagState) (all : AllTags ts) where
       later m ms w z (suc k) o u y f g e = g k e
 
   union_place : (ms : List Part) (z : Extent) (k o : ℕ) (u : Ty) → AllParts ts ms →
-      members_extent ts beside ms no_members ≡ Some z → slice_get (first_place ms) k ≡ Some (o, u) → Within ts z o u
+      members_extent ts beside ms no_members ≡ Some z → slice_get (first_place ts ms) k ≡ Some (o, u) → Within ts z o u
   unfolding Ends
   union_place [] z k o u h e q = absurd cc
-  union_place (m ∷ ms) z (suc k) o u h e q = absurd cc
-  union_place (m ∷ ms) z zero o u h e q =
+  union_place (m ∷ ms) z k o u h e q =
       let y = known_member beside m ms no_members z h.0 e in
+      let here : slice_get {X = ℕ × Ty} ((0, m.of) ∷ []) k ≡ Some (o, u) = placed no_members y.0 (λ x. (0, m.of) ∷ []) k (o, u)
+      (subst (λ x. slice_get {X = ℕ × Ty} (or_none (within x) (λ y. (0, m.of) ∷ [])) k ≡ Some (o, u)) y.1 q) in
       let r = power_of m.of y.0 y.1 in
       let p : IsPower 1 = (0, refl) in
       let b = members_end beside beside_ends behind_power ms (beside y.0 no_members) z h.1
       (behind_power y.0 no_members r p) y.2 in
       let a = member_align_power y.0 r in
-      let i = same_Some (0, m.of) (o, u) q in
-      subst (λ (v : ℕ × Ty). Within ts z v.0 v.1) i (record {
+      alone k here (record {
         extent = y.0;
         is = y.1;
         inside = let g = owned_ge y.0.size in omega (arith, b.0, g);
@@ -155,6 +155,10 @@ module _ (ts : List TagState) (all : AllTags ts) where
             (max_multiples 1 (member_align y.0) p a).1 (member_align_multiple y.0 r));
         type = h.0.type;
       })
+    where
+      alone : (j : ℕ) → slice_get {X = ℕ × Ty} ((0, m.of) ∷ []) j ≡ Some (o, u) → Within ts z 0 m.of → Within ts z o u
+      alone (suc j) i f = absurd cc
+      alone zero i f = let g = same_Some (0, m.of) (o, u) i in subst (λ (v : ℕ × Ty). Within ts z v.0 v.1) g f
 
   record_place : (k : RecordKind) (ms : List Part) (z : Extent) (j o : ℕ) (u : Ty) → AllParts ts ms →
       record_extent ts k ms ≡ Some z → slice_get (record_places ts k ms) j ≡ Some (o, u) → Within ts z o u

@@ -1,4 +1,4 @@
-use Rattle.std.proofs.Common.{◌≡◌, refl, ◌∙◌, sym, ap, length}
+use Rattle.std.proofs.Common.{◌≡◌, refl, ◌∙◌, sym, ap, length, arith}
 use Rattle.c_types.specs.Stands.{tag_kept, tag_seen}
 use Rattle.c_tree.specs.Views.{types_of}
 use Rattle.c_types.proofs.Looking.{seen_length}
@@ -16,7 +16,7 @@ returns-clause-ok c s h =
       is = refl;
       stands = stands_new_tag c.args.self.now c.push.new.self c.args.p.now _ s c.args.kind c.in_ok-tag.tag c.in_ok-of.of
           h c.in_ok-append.ensures.ok refl
-          (c.in_ok-of.ensures ∙ ap length c.as_slice-2.ensures) n
+          (c.in_ok-of.ensures ∙ ap length c.as_slice-2.ensures) n (omega arith)
           (rw c.in_ok-reserve.ensures.items at c.in_ok-push.ensures.items);
       fits = sym (n ∙ seen_length (tag_kept c.args.p.now.types (types_of c.args.p.now.types)) tag_seen
           c.args.self.now.tags.items s.tags h.tags);
