@@ -1,12 +1,11 @@
-pub mod ByteLaws
 pub mod CoverLaws
 pub mod ExactLaws
 pub mod FillLaws
+pub mod FitLaws
 pub mod FormLaws
 pub mod FoundLaws
 pub mod ObjectLaws
 pub mod PlaceLaws
-pub mod RecordLaws
 pub mod RowLaws
 pub mod SlotLaws
 pub mod StartLaws

@@ -1,38 +1,31 @@
 -- The parts of objects.
-use Rattle.std.proofs.Common.{◌≡◌, ℕ, zero, suc, ◌+◌, ◌-◌, ◌*◌, ◌<◌, ◌≢◌, min, Bool, true, false, List, [], ◌∷◌}
-use Rattle.std.proofs.Common.{◌++◌, length, get_or, take, drop, drop-cons, add-one, map, Option, Some, None, Result, Ok}
-use Rattle.std.proofs.Common.{Err, refl, sym, ap, subst, ◌∙◌, inl, inr, arith, append_assoc}
-use Rattle.std.specs.Prelude.{slice_get, option_map, IfOk, nat_lt, ◌==◌, ◌||◌, if◌then◌else◌}
+use Rattle.std.proofs.Common.{◌≡◌, ℕ, zero, suc, ◌+◌, ◌-◌, ◌*◌, ◌^◌, ◌<◌, ◌≤◌, ◌≢◌, Bool, true, false, List, [], ◌++◌}
+use Rattle.std.proofs.Common.{length, map, Option, Some, None, refl, sym, ap, subst, ◌∙◌, arith}
+use Rattle.std.specs.Prelude.{slice_get, option_map, nat_lt, ◌==◌, ◌||◌, if◌then◌else◌}
 use Rattle.std.specs.List.{All}
 use Rattle.std.specs.Global.{Vec}
-use Rattle.ck_base.specs.declared.refusal.NoMemory.{NoMemory}
-use Rattle.std.proofs.lemmas.Bool.{cases_lt}
-use Rattle.std.proofs.lemmas.Grind.{common_steps}
-use Rattle.std.proofs.lemmas.List.{map_push}
-use Rattle.cap_layout.specs.Answers.{extent_is}
-use Rattle.cap_layout.specs.declared.answers.Layout.{Layout}
-use Rattle.c_tree.specs.declared.syntax.RecordKind.{RecordKind}
-use Rattle.c_tree.specs.declared.syntax.RecordKind.TheVariants.{Struct, Union}
-use Rattle.c_tree.specs.declared.typed.Member.{Member}
+use Rattle.std.proofs.lemmas.Nat.{mul-le}
+use Rattle.std.proofs.lemmas.Option.{slice_get_within, get_or_from_slice_get}
+use Rattle.c_tree.specs.declared.syntax.RecordKind.TheVariants.{Struct}
 use Rattle.c_tree.specs.Types.{Ty, Tys, Void, Int, Cap, Pointer, Array, Tagged, Function, Const}
-use Rattle.c_tree.specs.Layout.{Extent, member_offset, behind, no_members}
-use Rattle.c_tree.specs.Scopes.{State, TagState, type_extent, size}
-use Rattle.c_tree.specs.Initializers.{item_place, tag_places, or_none, next_within, scalars_of, all_scalars}
-use Rattle.c_tree.specs.Initializers.{tag_scalars}
-use Rattle.c_tree.specs.Initializers.{scalars, with_count}
+use Rattle.c_tree.specs.Layout.{member_offset}
+use Rattle.c_tree.specs.Scopes.{State, size}
+use Rattle.c_tree.specs.Initializers.{item_place, tag_places, scalars_of, all_scalars, tag_scalars, scalars}
+use Rattle.c_tree.specs.Initializers.{with_count}
 use Rattle.c_tree.specs.Statics as statics
 use Rattle.c_tree.specs.Statics.{offset_in, record_offset, tag_offset}
 use Rattle.c_types.specs.Stands.{starts_in}
-use Rattle.c_expressions.specs.Nodes.{type_in}
 use Rattle.c_expressions.specs.declared.classes.Class.{Class}
 use Rattle.c_expressions.specs.declared.classes.Class.TheVariants as classes
 use Rattle.c_expressions.specs.Classes.{class_type}
 use Rattle.c_elaborator.specs.declared.work.Work.{Work}
-use Rattle.c_initializers.specs.declared.places.Place.{Place}
-use Rattle.c_initializers.specs.declared.members.Next.{Next}
-use Rattle.c_initializers.specs.declared.members.Record.{Record}
-use Rattle.c_initializers.specs.Places.{stripped, place_in, numbered_places, places_in, members_of}
-use Rattle.c_initializers.specs.Places.{IsRecord, IsRecordOf, AreMembers, AreFirstMembers}
+use Rattle.c_object_parts.specs.declared.members.Place.{Place}
+use Rattle.c_object_parts.specs.declared.members.Record.{Record}
+use Rattle.c_initializers.specs.Places.{stripped, AreNear}
+use Rattle.c_object_parts.specs.Members.{place_in, members_of, IsRecordOf, IsClose}
+use Rattle.c_object_parts.proofs.MemberLaws.{slice_get-map}
+pub use Rattle.c_object_parts.proofs.MemberLaws.{drop-next}
+use Rattle.c_initializers.specs.declared.places.Places.TheVariants.{Elements, Members, Alone}
 
 -- ---- types without the words `const` before them
 
@@ -60,104 +53,6 @@ item_place-stripped s (Pointer t) k = refl
 item_place-stripped s (Array t n) k = refl
 item_place-stripped s (Tagged n) k = refl
 item_place-stripped s (Function r ps) k = refl
-
--- ---- lists
-
-pub slice_get-map : {A B : Type 0} (f : A → B) (xs : List A) (k : ℕ) →
-    slice_get (map f xs) k ≡ option_map f (slice_get xs k)
-slice_get-map f [] k = refl
-slice_get-map f (x ∷ xs) zero = refl
-slice_get-map f (x ∷ xs) (suc k) = slice_get-map f xs k
-
-pub drop-next : {A : Type 0} (xs : List A) (i : ℕ) (d : A) → i < length xs → drop i xs ≡ get_or xs i d ∷ drop (i + 1) xs
-drop-next xs i d l = rw add-one (drop-cons xs i d l)
-
-pub shifted : {A : Type 0} (xs : List A) (x : A) (ys : List A) → xs ++ x ∷ ys ≡ (xs ++ x ∷ []) ++ ys
-shifted xs x ys = sym (append_assoc xs (x ∷ []) ys)
-
--- ---- members
-
--- how far a walk over the members of a struct has come
-abbrev pub PlacedTo : Work → State → List Member → ℕ → Layout → List Place → Type 0
-PlacedTo w s ms i end places =
-    numbered_places w s.tags ms no_members ≡ map (place_in w) places
-    ++ numbered_places w s.tags (drop i ms) (extent_is end)
-
-pub placed-more : (w : Work) (s : State) (ms : List Member) (i : ℕ) (d : Member) (end : Layout) (n : Next)
-    (places : List Place) (y : Extent) → i < length ms →
-    next_within (extent_is end) (type_extent s.tags (type_in w.nodes (get_or ms i d).of)) ≡ Some y →
-    place_in w n.place ≡ (member_offset y (extent_is end), type_in w.nodes (get_or ms i d).of) →
-    extent_is n.end ≡ behind y (extent_is end) →
-    PlacedTo w s ms i end places → PlacedTo w s ms (i + 1) n.end (places ++ n.place ∷ [])
-placed-more w s ms i d end n places y l x p b h =
-    let m = get_or ms i d in
-    let f : numbered_places w s.tags (m ∷ drop (i + 1) ms) (extent_is end)
-    ≡ (member_offset y (extent_is end), type_in w.nodes m.of)
-    ∷ numbered_places w s.tags (drop (i + 1) ms) (behind y (extent_is end)) =
-    ap (λ o. or_none o (λ y. (member_offset y (extent_is end), type_in w.nodes m.of)
-    ∷ numbered_places w s.tags (drop (i + 1) ms) (behind y (extent_is end)))) x in
-    let q : numbered_places w s.tags (drop i ms) (extent_is end)
-    ≡ place_in w n.place ∷ numbered_places w s.tags (drop (i + 1) ms) (extent_is n.end) =
-    ap (λ l. numbered_places w s.tags l (extent_is end)) (drop-next ms i d l) ∙ f
-    ∙ ap (λ z. z ∷ numbered_places w s.tags (drop (i + 1) ms) (behind y (extent_is end))) (sym p)
-    ∙ ap (λ z. place_in w n.place ∷ numbered_places w s.tags (drop (i + 1) ms) z) (sym b) in
-    h ∙ ap (λ r. map (place_in w) places ++ r) q
-    ∙ shifted (map (place_in w) places) (place_in w n.place)
-    (numbered_places w s.tags (drop (i + 1) ms) (extent_is n.end))
-    ∙ ap (λ r. r ++ numbered_places w s.tags (drop (i + 1) ms) (extent_is n.end))
-    (sym (map_push (place_in w) places n.place))
-
--- the first so many members have the same places without the others
-stepped : (o : Option Extent) (f g : Extent → List (ℕ × Ty)) (k : ℕ) →
-    ((y : Extent) → slice_get (f y) k ≡ slice_get (g y) k) → slice_get (or_none o f) k ≡ slice_get (or_none o g) k
-stepped None f g k h = refl
-stepped (Some y) f g k h = h y
-
-numbered-front : (w : Work) (tags : List TagState) (ms : List Member) (x : Extent) (n k : ℕ) → k < n →
-    slice_get (numbered_places w tags (take n ms) x) k ≡ slice_get (numbered_places w tags ms x) k
-numbered-front w tags ms x zero k h = absurd (omega arith)
-numbered-front w tags [] x (suc n) k h = refl
-numbered-front w tags (m ∷ ms) x (suc n) zero h =
-    stepped (next_within x (type_extent tags (type_in w.nodes m.of)))
-    (λ y. (member_offset y x, type_in w.nodes m.of) ∷ numbered_places w tags (take n ms) (behind y x))
-    (λ y. (member_offset y x, type_in w.nodes m.of) ∷ numbered_places w tags ms (behind y x)) 0 (λ y. refl)
-numbered-front w tags (m ∷ ms) x (suc n) (suc k) h =
-    stepped (next_within x (type_extent tags (type_in w.nodes m.of)))
-    (λ y. (member_offset y x, type_in w.nodes m.of) ∷ numbered_places w tags (take n ms) (behind y x))
-    (λ y. (member_offset y x, type_in w.nodes m.of) ∷ numbered_places w tags ms (behind y x)) (suc k)
-    (λ y. numbered-front w tags ms (behind y x) n k (omega arith))
-
-places-front : (w : Work) (tags : List TagState) (kind : RecordKind) (ms : List Member) (n k : ℕ) → k < n →
-    slice_get (places_in w tags kind (take n ms)) k ≡ slice_get (places_in w tags kind ms) k
-places-front w tags Struct ms n k h = numbered-front w tags ms no_members n k h
-places-front w tags Union ms zero k h = absurd (omega arith)
-places-front w tags Union [] (suc n) k h = refl
-places-front w tags Union (m ∷ ms) (suc n) k h = refl
-
-pub places-first : (w : Work) (tags : List TagState) (kind : RecordKind) (ms : List Member) (n m k : ℕ) →
-    m ≡ min (length ms) n → k < n →
-    slice_get (places_in w tags kind (take m ms)) k ≡ slice_get (places_in w tags kind ms) k
-places-first w tags kind ms n m k e h =
-    elim (cases_lt k (length ms)) as (λ _. slice_get (places_in w tags kind (take m ms)) k
-    ≡ slice_get (places_in w tags kind ms) k) [
-      | inl l ↦ places-front w tags kind ms m k (omega arith)
-      | inr l ↦ let f : take m ms ≡ ms = grind (arith, common_steps) in
-          ap (λ xs. slice_get (places_in w tags kind xs) k) f
-    ]
-
--- ---- the members of a struct or union by its tag
-
-pub first-members : (w : Work) (tag count m : ℕ) (r : Record) (o : Result (Vec Place) NoMemory) →
-    IsRecord w tag (Some r) → m ≡ min (length r.members.now) count →
-    IfOk o (λ places. AreMembers w r.kind (take m r.members.now) places.items) →
-    IfOk o (λ places. AreFirstMembers w tag count places.items)
-first-members w tag count m r (Ok v) i e a = record {
-  there = a.there;
-  are = λ s h k l. ap (λ xs. slice_get xs k) ((i s h).places)
-      ∙ sym (places-first w s.tags r.kind r.members.now count m k e l) ∙ ap (λ xs. slice_get xs k) (sym (a.are s h))
-      ∙ slice_get-map (place_in w) v.items k;
-}
-first-members w tag count m r (Err e) i f a = tt
 
 -- ---- scalars
 
@@ -209,6 +104,27 @@ alone-place s (classes.Array t m) go ps k h i j = absurd (h t m refl)
 alone-place s (classes.Tagged m) go ps k h i j = absurd (i m refl)
 alone-place s (classes.Function t) go ps k h i j = refl
 alone-place s (classes.Const t) go ps k h i j = absurd (j (go t) refl)
+
+-- ---- how far on parts begin
+
+pub all-at : {A : Type 0} (P : A → Type 0) (xs : List A) (k : ℕ) (x : A) → All P xs → slice_get xs k ≡ Some x → P x
+all-at P xs k x h e = subst P (get_or_from_slice_get xs k x x e) (h k x (slice_get_within xs k x e))
+
+pub if-some : {A : Type 0} (P : A → Type 0) (b : Bool) (x y : A) → P x → (if b then Some x else None) ≡ Some y → P y
+if-some P true x y h e = let i : x ≡ y = cc in subst P i h
+if-some P false x y h e = absurd cc
+
+pub elements-near : (of size' count : ℕ) → size' ≤ 2 ^ 27 → AreNear (Elements of size' count)
+elements-near of size' count l = λ k p e.
+    if-some (λ (q : Place). q.at ≤ suc k * 2 ^ 27) (nat_lt k count || count == 0)
+    (record { at = k * size'; of = of }) p (mul-le k size' (suc k) (2 ^ 27) (omega arith) l) e
+
+pub members-near : (ps : Vec Place) → All IsClose ps.items → AreNear (Members ps)
+members-near ps h = λ k p e. let c : p.at ≤ 2 ^ 27 = all-at IsClose ps.items k p h e in omega arith
+
+pub alone-near : (of : ℕ) → AreNear (Alone of)
+alone-near of = λ k p e.
+    if-some (λ (q : Place). q.at ≤ suc k * 2 ^ 27) (k == 0) (record { at = 0; of = of }) p (omega arith) e
 
 -- ---- the scalars of a type
 

@@ -10,20 +10,21 @@ use Rattle.std.proofs.lemmas.List.Elements.{All-push}
 use Rattle.c_tree.specs.Types.{Ty, Tys, Array}
 use Rattle.c_tree.specs.Scopes.{State, size}
 use Rattle.c_tree.specs.Initializers.{repeat, scalars_of, all_scalars, tag_scalars, scalars}
-use Rattle.c_expressions.specs.Nodes.{type_in, type_count}
+use Rattle.c_expressions.specs.Nodes.{type_in}
 use Rattle.c_expressions.specs.declared.classes.Class.{Class}
 use Rattle.c_expressions.specs.declared.classes.Class.TheVariants as classes
 use Rattle.c_expressions.specs.Classes.{class_type}
 use Rattle.c_elaborator.specs.declared.work.Work.{Work}
 use Rattle.c_elaborator.specs.Work.{Shows}
-use Rattle.c_initializers.specs.declared.places.Place.{Place}
+use Rattle.c_object_parts.specs.declared.members.Place.{Place}
 use Rattle.c_initializers.specs.declared.scalars.Row.{Row}
-use Rattle.c_initializers.specs.Places.{place_in, IsPlaceThere, IsTagCount}
+use Rattle.c_object_parts.specs.Members.{place_in, IsPlaceThere, IsTagCount}
 use Rattle.c_initializers.specs.Rows.{IsRowThere, row_scalars, rows_scalars, row_steps, rows_steps, AddsRows, Walks}
 use Rattle.c_initializers.specs.declared.covering.Extent.{Extent}
 use Rattle.c_initializers.specs.Slots.{is_needed, needed}
 use Rattle.c_initializers.proofs.StepLaws.{steps-push}
-use Rattle.c_initializers.proofs.PlaceLaws.{drop-next, scalars-all, all-none}
+use Rattle.c_object_parts.proofs.MemberLaws.{drop-next}
+use Rattle.c_initializers.proofs.PlaceLaws.{scalars-all, all-none}
 
 pub first-part : (n step at : ℕ) (f : ℕ → List (ℕ × Ty)) → 0 < n →
     repeat n step f at ≡ f at ++ repeat (n - 1) step f (at + step)
@@ -204,13 +205,11 @@ walked-on w es old rest new places others r most all e a b = record {
 
 -- a whole type is one row
 pub walked-first : (w : Work) (es : List Extent) (rows : List Row) (r : Row) (places : List Place) (of tags : ℕ) →
-    rows ≡ r ∷ [] →
-    of < type_count w.nodes → places ≡ [] → r ≡ record { at = 0; of = of; count = 1; step = 0; tags = tags } →
+    rows ≡ r ∷ [] → IsRowThere w r → places ≡ [] → r ≡ record { at = 0; of = of; count = 1; step = 0; tags = tags } →
     IsTagCount w tags → AllWalked w es rows places (λ s. scalars s (type_in w.nodes of))
 walked-first w es rows r places of tags e l p q k = record {
   rows_there = subst (λ (x : List Row). All (IsRowThere w) x) (sym e)
-      (All-push (IsRowThere w) [] r (λ i d h. absurd (omega arith))
-      (subst (λ (x : Row). x.of < type_count w.nodes) (sym q) l));
+      (All-push (IsRowThere w) [] r (λ i d h. absurd (omega arith)) l);
   places_there = all-none (IsPlaceThere w) places p;
   are = λ s h. ap (λ x. map (place_in w) x ++ needed es (rows_scalars w s rows)) p
       ∙ ap (λ x. needed es (rows_scalars w s x)) e ∙ ap (needed es) (single-row w s r of 0 tags q)

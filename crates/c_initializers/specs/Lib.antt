@@ -3,7 +3,7 @@ pub mod Forms
 pub mod Found
 pub mod Objects
 pub mod Places
-pub mod Placing
 pub mod Rows
+pub mod Sizes
 pub mod Slots
 pub mod Starts

@@ -8,14 +8,25 @@ use Rattle.c_tree.specs.Views.{types_of}
 use Rattle.c_expressions.specs.Nodes.{type_in, type_count}
 use Rattle.c_elaborator.specs.declared.work.Work.{Work}
 use Rattle.c_elaborator.specs.Work.{Shows}
-use Rattle.c_initializers.specs.declared.places.Place.{Place}
+use Rattle.c_object_parts.specs.declared.members.Place.{Place}
 use Rattle.c_initializers.specs.declared.scalars.Row.{Row}
 use Rattle.c_initializers.specs.declared.covering.Extent.{Extent}
 use Rattle.c_initializers.specs.Slots.{needed}
-use Rattle.c_initializers.specs.Places.{place_in, IsPlaceThere}
+use Rattle.c_object_parts.specs.Members.{place_in, IsPlaceThere}
+use Rattle.c_initializers.specs.Sizes.{HasSize}
 
-abbrev pub IsRowThere : Work → Row → Type 0
-IsRowThere w r = r.of < type_count w.nodes
+-- A part at an offset ends before 2 ^ 62, where structs and unions lie at most so many deep in one another there. In
+-- each of them a part ends at most 2 ^ 28 bytes behind where it begins
+pub record FitsAt (s : State) (t : Ty) (at tags : ℕ) : Type 0 where
+  pub type : HasSize s t
+  pub end : at + type.extent.size + tags * 2 ^ 28 ≤ 2 ^ 62
+
+abbrev pub Fits : Work → Ty → ℕ → ℕ → Type 0
+Fits w t at tags = (s : State) → Shows w s → FitsAt s t at tags
+
+pub record IsRowThere (w : Work) (r : Row) : Type 0 where
+  pub of : r.of < type_count w.nodes
+  pub fits : (k : ℕ) → k < r.count → Fits w (type_in w.nodes r.of) (r.at + k * r.step) r.tags
 
 abbrev pub row_scalars : Work → State → Row → List (ℕ × Ty)
 row_scalars w s r = repeat r.count r.step (scalars_of s (tag_scalars r.tags s) (type_in w.nodes r.of)) r.at

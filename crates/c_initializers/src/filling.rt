@@ -6,17 +6,18 @@ ghost use Rattle.std.specs.List.{All};
 ghost use Rattle.c_tree.specs.Initializers.{scalar_slot, zero_slot};
 ghost use Rattle.c_expressions.specs.Nodes.{IsWhole, type_in, type_count};
 ghost use Rattle.c_elaborator.specs.Answers.{Answers, quietly};
+ghost use Rattle.c_initializers.specs.Sizes.{IsSized};
 ghost use Rattle.c_initializers.specs.Slots.{HasSlots, AddsSlots, IsSlotThere, AreSlotsThere, SlotsThere, AreSlots};
 ghost use Rattle.c_initializers.specs.Slots.{slot_in, slots_in, chosen, HaveExtents, place_of, scalars_given};
 ghost use Rattle.c_initializers.specs.Slots.{every_slot_of};
 
 use crate::covering::{Cursor, Extent};
-use crate::places::Place;
 use crate::scalars::scalars;
 use crate::sizes::size_of;
 use crate::slots::Slot;
 use c_elaborator::Work;
 use c_expressions::{Class, Leaf, Nodes};
+use c_object_parts::Place;
 use ck_base::{NoMemory, Pos, Refusal};
 
 /// How many scalars lists and strings may initialise in locals.
@@ -167,6 +168,7 @@ pub fn every_slot(
 ) -> Result<Vec<Slot>, Refusal>
     requires whole { IsWhole work.old.nodes }
     requires there { of < type_count work.old.nodes }
+    requires sized { IsSized work.old of }
     requires slots { AreSlotsThere work.old.nodes slots.now }
     ensures { Answers quietly work.old work.new
         (every_slot_of whole (type_in work.old.nodes of) (slots_in work.old.nodes slots.now)) SlotsThere AreSlots

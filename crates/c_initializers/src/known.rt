@@ -13,12 +13,11 @@ ghost use Rattle.c_elaborator.specs.declared.work.Bounds.TheVariants as spans;
 ghost use Rattle.c_elaborator.specs.Work.{Shows, reach_of};
 ghost use Rattle.c_initializers.specs.Starts.{IsKnown, known_of, Points, BoundsWithin, IsWithin, AreWithin};
 
-use crate::members::{all_members, record_of};
-use crate::places::Place;
 use crate::sizes::size_of;
 use crate::starts::{Known, Pointer, Value, is_exact, is_near};
 use c_elaborator::{Bounds, Work};
 use c_expressions::Class;
+use c_object_parts::{Place, all_members, record_of};
 use c_tree::{RecordKind, Target};
 use cap_layout::owned;
 use ck_base::NoMemory;

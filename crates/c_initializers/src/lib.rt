@@ -1,18 +1,16 @@
 //! The initialisers of a C file (C11 6.7.9), once their expressions are typed.
 //!
 //! Promise: initial bytes, pointers and stores are those of the definition, in the order of offsets.
-//! Definitions (`specs/`): `Initializers`, `Statics` of `c_tree`; here `Slots`, `Objects`.
+//! Definitions (`specs/`): `Initializers`, `Statics` of `c_tree`, `Members` of `c_object_parts`; here `Slots`, `Objects`.
 //! Main lemmas (`proofs/`): `FillLaws`, `ObjectLaws`.
 #![tactic(auto)]
 
 mod addresses;
-mod bytes;
 mod counts;
 mod covering;
 mod filling;
 mod forms;
 mod known;
-mod members;
 mod objects;
 mod places;
 mod scalars;
@@ -23,11 +21,10 @@ mod statics;
 mod strings;
 
 pub use addresses::is_start;
-pub use bytes::{Placed, initial_bytes};
 pub use counts::with_count;
 pub use filling::every_slot;
 pub use objects::{fill_local, fill_static};
-pub use places::{Place, Places, places_of};
+pub use places::{Places, places_of};
 pub use sizes::complete_now;
 pub use slots::{Filled, Slot};
 pub use statics::{Found, pointers_end, start_slots};

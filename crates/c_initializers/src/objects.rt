@@ -16,7 +16,6 @@ ghost use Rattle.c_initializers.specs.Objects.{completes_object, object_complete
 ghost use Rattle.c_initializers.specs.Objects.{fills_found, static_filled, local_filled, AreBelow};
 ghost use Rattle.c_initializers.specs.Slots.{FilledThere, filled_in, SlotsThere, AreSlots};
 
-use crate::bytes::initial_bytes;
 use crate::counts::with_count;
 use crate::filling::every_slot;
 use crate::sizes::complete_now;
@@ -24,6 +23,7 @@ use crate::slots::{Filled, Slot};
 use crate::statics::{Found, pointers_end, start_slots};
 use c_elaborator::{Filling, Name, Start, Work};
 use c_expressions::Nodes;
+use c_object_parts::initial_bytes;
 use ck_base::{NoMemory, Pos, Refusal};
 
 // An object of static storage duration gets another type.

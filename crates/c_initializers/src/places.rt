@@ -4,20 +4,11 @@ ghost use Rattle.std.specs.Prelude.{◌≡◌, ◌*◌, ◌<◌, IfOk};
 ghost use Rattle.c_expressions.specs.Nodes.{IsWhole, type_count};
 ghost use Rattle.c_initializers.specs.Places.{place_at, ArePlaces};
 
-use crate::members::first_members;
 use crate::sizes::{size_of, stripped};
 use c_elaborator::Work;
 use c_expressions::Class;
+use c_object_parts::{Place, first_members};
 use ck_base::NoMemory;
-
-/// A part of an object.
-#[derive(Clone, Copy)]
-pub struct Place {
-    /// Its offset, in bytes.
-    pub at: u64,
-    /// The number of its type.
-    pub of: u32,
-}
 
 /// The parts that the items of a list in braces initialise, one after another.
 #[derive(Drop)]

@@ -5,16 +5,16 @@ ghost use Rattle.c_tree.specs.Initializers.{scalars, scalars_of, tag_scalars, re
 ghost use Rattle.c_tree.specs.Types.{Tagged};
 ghost use Rattle.c_expressions.specs.Nodes.{IsWhole, type_in, type_count};
 ghost use Rattle.c_initializers.specs.Covering.{IsCursor, StaysCursor};
-ghost use Rattle.c_initializers.specs.Places.{ArePartsOf};
-ghost use Rattle.c_initializers.specs.Rows.{IsRowThere, row_scalars, type_steps, row_steps, AddsRows, Walks};
+ghost use Rattle.c_object_parts.specs.Members.{ArePartsOf};
+ghost use Rattle.c_initializers.specs.Rows.{Fits, IsRowThere, row_scalars, type_steps, row_steps, AddsRows, Walks};
+ghost use Rattle.c_initializers.specs.Sizes.{IsSized};
 ghost use Rattle.c_initializers.specs.Slots.{is_needed, needed};
 
 use crate::covering::{Cursor, Extent};
-use crate::members::{all_members, tag_count};
-use crate::places::Place;
 use crate::sizes::size_of;
 use c_elaborator::Work;
 use c_expressions::Class;
+use c_object_parts::{Place, all_members, tag_count};
 use ck_base::NoMemory;
 
 /// Parts of one type at equal distances, the scalars of which are to be listed.
@@ -42,6 +42,7 @@ pub(crate) fn scalars(
 ) -> Result<Vec<Place>, NoMemory>
     requires whole { IsWhole work.now.nodes }
     requires there { of < type_count work.now.nodes }
+    requires sized { IsSized work.now of }
     ensures { IfOk result (λ places. ArePartsOf work.now places.items
         (λ s. needed extents.now (scalars s (type_in work.now.nodes of)))) }
 {
@@ -53,15 +54,6 @@ pub(crate) fn scalars(
         walk(work, row, most, &mut cursor, &mut rows, &mut places)?;
     }
     Ok(places)
-}
-
-pub(crate) fn moved(at: u64, by: u64) -> Result<u64, NoMemory>
-    ensures { IfOk result (λ n. n ≡ at + by) }
-{
-    match at.checked_add(by) {
-        None => Err(NoMemory),
-        Some(sum) => Ok(sum),
-    }
 }
 
 // One part.
@@ -122,7 +114,7 @@ fn push_needed(
     Ok(())
 }
 
-// What is behind the first part of a row.
+// What is behind the first part of a row. (All of it ends before 2 ^ 62, so that sums of offsets are exact.)
 fn push_rest(work: &Work, row: Row, rows: &mut Vec<Row>) -> Result<(), NoMemory>
     requires some { 0 < row.count }
     requires there { IsRowThere work.now row }
@@ -134,7 +126,7 @@ fn push_rest(work: &Work, row: Row, rows: &mut Vec<Row>) -> Result<(), NoMemory>
     if row.count == 1 {
         return Ok(());
     }
-    let at = moved(row.at, row.step)?;
+    let at = row.at.saturating_add(row.step);
     let count = row.count - 1;
     push_row(rows, Row { at, count, ..row })
 }
@@ -147,7 +139,8 @@ fn push_members(
     tags: usize,
     rows: &mut Vec<Row>,
 ) -> Result<(), NoMemory>
-    requires { IsWhole work.now.nodes }
+    requires whole { IsWhole work.now.nodes }
+    requires fits { Fits work.now (Tagged tag) at tags }
     ensures { OnOk result (AddsRows work.now rows.old.items rows.new.items
         (type_steps work.now tags (Tagged tag) - 1) (λ s. tag_scalars tags s tag at)) }
 {
@@ -159,7 +152,7 @@ fn push_members(
     while left > 0 {
         left -= 1;
         let m = members[left];
-        push_row(rows, single(m.of, moved(at, m.at)?, tags - 1))?;
+        push_row(rows, single(m.of, at.saturating_add(m.at), tags - 1))?;
     }
     Ok(())
 }
@@ -177,6 +170,7 @@ fn push_parts(
 ) -> Result<(), NoMemory>
     requires whole { IsWhole work.now.nodes }
     requires there { of < type_count work.now.nodes }
+    requires fits { Fits work.now (type_in work.now.nodes of) at tags }
     requires cursor { IsCursor cursor.old }
     ensures cursor { OnOk result (StaysCursor cursor.old cursor.new) }
     ensures walks { OnOk result (Walks work.now cursor.old.extents.now rows.old.items places.old.items rows.new.items

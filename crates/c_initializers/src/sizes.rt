@@ -1,6 +1,6 @@
 //! Sizes of types, and their completion (C11 6.7.9p22).
 
-ghost use Rattle.std.specs.Prelude.{◌≡◌, ◌<◌, ◌≤◌};
+ghost use Rattle.std.specs.Prelude.{◌≡◌, ◌<◌, ◌≤◌, OnOk};
 ghost use Rattle.c_tree.specs.Layout.{size_limit};
 ghost use Rattle.c_tree.specs.Scopes.{State, size};
 ghost use Rattle.c_tree.specs.Declarations.{complete_now};
@@ -8,6 +8,7 @@ ghost use Rattle.c_expressions.specs.Nodes.{IsWhole, type_in, type_count};
 ghost use Rattle.c_elaborator.specs.Work.{Shows};
 ghost use Rattle.c_elaborator.specs.Answers.{Answers, quietly, NothingThere, IsNothing};
 ghost use Rattle.c_initializers.specs.Places.{stripped};
+ghost use Rattle.c_initializers.specs.Sizes.{IsSized};
 
 use c_elaborator::Work;
 use c_expressions::Class;
@@ -28,8 +29,9 @@ pub fn size_of(work: &Work, t: u32) -> u64
 /// A type is complete once its initialiser is there (132), and within the limit (140).
 pub fn complete_now(work: &Work, of: u32, pos: Pos) -> Result<(), Refusal>
     requires { IsWhole work.now.nodes }
-    ensures { Answers quietly work.now work.now
+    ensures is { Answers quietly work.now work.now
         (complete_now (type_in work.now.nodes of) pos) NothingThere IsNothing result }
+    ensures sized { OnOk result (IsSized work.now of) }
 {
     match work.nodes.scopes.layout(&work.nodes.p, of) {
         Ok(_) => Ok(()),

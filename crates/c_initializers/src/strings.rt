@@ -1,6 +1,6 @@
 //! Arrays of characters that string literals initialise (C11 6.7.9p14), and single values (6.7.9p11, p13).
 
-ghost use Rattle.std.specs.Prelude.{◌≡◌, ◌+◌, ◌<◌, ◌==◌, nat_le, if◌then◌else◌, IfOk};
+ghost use Rattle.std.specs.Prelude.{◌≡◌, ◌+◌, ◌^◌, ◌<◌, ◌==◌, nat_le, if◌then◌else◌, IfOk};
 ghost use Rattle.c_tree.specs.Initializers.{takes_string, byte_slots, is_character, element, array_count};
 ghost use Rattle.c_expressions.specs.Nodes.{IsWhole, operand_in, type_in, type_count, term_count};
 ghost use Rattle.c_expressions.specs.Answers.{Answers as Built};
@@ -8,7 +8,6 @@ ghost use Rattle.c_elaborator.specs.Answers.{Answers, quietly};
 ghost use Rattle.c_initializers.specs.Slots.{HasSlots, SlotThere, IsSlot, FilledThere, IsFilled, string_filled};
 ghost use Rattle.c_initializers.specs.Slots.{plain_slot, IsSlotIn, IsFilledIn};
 
-use crate::scalars::moved;
 use crate::slots::{Filled, Slot};
 use c_elaborator::Work;
 use c_expressions::{Class, Leaf, Nodes, Operand};
@@ -61,22 +60,21 @@ fn byte_slots(
 ) -> Result<Vec<Slot>, NoMemory>
     requires whole { IsWhole nodes.old }
     requires there { of < type_count nodes.old }
+    requires near { at < 2 ^ 63 }
     ensures { IfOk result (λ slots. HasSlots nodes.old nodes.new slots.items
         (byte_slots whole (type_in nodes.old of) at bytes.now)) }
 {
     let kind = nodes.class(of).kind();
     let mut slots = Vec::new(nodes.alloc);
-    let mut place = at;
-    for byte in bytes {
+    for (k, byte) in bytes.iter().enumerate() {
         let number = wrap(kind, i128::from(*byte));
         let value = nodes.leaf(Leaf::Constant(number), of, whole)?;
         slots.push(Slot {
-            at: place,
+            at: at + k as u64,
             of,
             value,
             first: whole,
         })?;
-        place = moved(place, 1)?;
     }
     Ok(slots)
 }
@@ -106,6 +104,7 @@ fn string_in(
 ) -> Result<Filled, Refusal>
     requires whole { IsWhole nodes.old }
     requires there { of < type_count nodes.old }
+    requires near { at < 2 ^ 63 }
     ensures { Built nodes.old nodes.new (string_filled bytes.now pos whole (type_in nodes.old of) at) IsFilledIn
         result }
 {
@@ -132,6 +131,7 @@ pub fn string(
 ) -> Result<Filled, Refusal>
     requires whole { IsWhole work.old.nodes }
     requires there { of < type_count work.old.nodes }
+    requires near { at < 2 ^ 63 }
     ensures { Answers quietly work.old work.new
         (string_filled bytes.now pos whole (type_in work.old.nodes of) at) FilledThere IsFilled result }
 {

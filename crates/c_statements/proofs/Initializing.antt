@@ -1,6 +1,6 @@
 -- What is declared gets its initial value.
-use Rattle.std.proofs.Common.{◌≡◌, ℕ, ◌<◌, ◌≤◌, List, [], ◌∷◌, ◌++◌, length, map, Option, Some, None, Result, Ok, Err}
-use Rattle.std.proofs.Common.{refl, sym, ap, subst, ◌∙◌, arith}
+use Rattle.std.proofs.Common.{◌≡◌, ℕ, ◌<◌, List, [], ◌∷◌, ◌++◌, map, Some, None, Result, Ok, Err}
+use Rattle.std.proofs.Common.{refl, sym, ap, subst, ◌∙◌}
 use Rattle.std.specs.Prelude.{slice_get}
 use Rattle.std.specs.Global.{Vec}
 use Rattle.std.proofs.lemmas.List.{map-append}
@@ -14,7 +14,7 @@ use Rattle.c_tree.specs.Types.{Ty}
 use Rattle.c_tree.specs.Terms.{Action, Init, Term, action, terms, actions}
 use Rattle.c_tree.specs.Readings as meant
 use Rattle.c_tree.specs.Readings.{Reading}
-use Rattle.c_tree.specs.Scopes.{StaticState, State, Doing, Fault, Local, give, look, change, continued, ◌>>=◌, ◌>>◌}
+use Rattle.c_tree.specs.Scopes.{State, Doing, Fault, Local, give, look, change, continued, ◌>>=◌, ◌>>◌}
 use Rattle.c_tree.specs.Scopes.{bind_name, changed_at}
 use Rattle.c_tree.specs.Statics.{is_start}
 use Rattle.c_tree.specs.Declarations.{Behind, no_items, static_of, init_action, complete_now}
@@ -22,17 +22,17 @@ use Rattle.c_tree.specs.Initializers.{every_slot, with_count}
 use Rattle.c_tree.specs.Programs.{reading}
 use Rattle.c_tree.specs.Views.{terms_of, kind_action}
 use Rattle.c_types.specs.Stands.{text_at}
-use Rattle.c_expressions.specs.Nodes.{IsWhole, type_in, term_in, type_count, term_count}
+use Rattle.c_expressions.specs.Nodes.{IsWhole, type_in, type_count, term_count}
 use Rattle.c_elaborator.specs.declared.work.Name.{Name}
 use Rattle.c_elaborator.specs.declared.work.Work.{Work}
 use Rattle.c_elaborator.specs.Work.{Shows}
-use Rattle.c_elaborator.specs.Answers.{Keeps, freely, quietly, Done, Answers, action_in, action_count, NothingThere}
+use Rattle.c_elaborator.specs.Answers.{Keeps, freely, quietly, Done, Answers, action_in, NothingThere}
 use Rattle.c_elaborator.specs.Answers.{IsNothing}
 use Rattle.c_elaborator.specs.Parts.{IsPart, token_of}
 use Rattle.c_elaborator.proofs.Sequencing.{free_law, answers_at, then, also_then, failed, freed, gave, keeps_then}
 use Rattle.c_initializers.specs.declared.slots.Slot.{Slot}
 use Rattle.c_initializers.specs.declared.slots.Filled.{Filled}
-use Rattle.c_initializers.specs.Slots.{slot_in, slots_in, filled_in, IsSlotThere, FilledThere, IsFilled, SlotsThere}
+use Rattle.c_initializers.specs.Slots.{slot_in, slots_in, filled_in, FilledThere, IsFilled, SlotsThere}
 use Rattle.c_initializers.specs.Slots.{AreSlots}
 use Rattle.c_initializers.specs.Objects.{static_filled, local_filled}
 use Rattle.c_elaborator.specs.declared.items.Items.{Items}

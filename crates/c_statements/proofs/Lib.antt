@@ -1,4 +1,3 @@
-pub mod Alike
 pub mod Bracing
 pub mod Failing
 pub mod Following

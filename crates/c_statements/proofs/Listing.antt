@@ -1,10 +1,8 @@
 -- The items of a list in braces, one after another.
-use Rattle.std.proofs.Common.{◌≡◌, ℕ, zero, suc, ◌+◌, ◌*◌, ◌<◌, ◌≤◌, Bool, true, false, List, [], ◌∷◌, ◌++◌, length}
-use Rattle.std.proofs.Common.{map, Option, Some, None, Result, Ok, Err, refl, sym, ap, subst, ◌∙◌, arith, append_assoc}
+use Rattle.std.proofs.Common.{◌≡◌, ℕ, zero, suc, ◌+◌, ◌*◌, ◌^◌, ◌<◌, ◌≤◌, List, [], ◌∷◌, ◌++◌, length}
+use Rattle.std.proofs.Common.{Option, Some, None, Result, Ok, Err, refl, sym, ap, subst, ◌∙◌, arith, append_assoc}
 use Rattle.std.proofs.lemmas.List.{map-append, append-nil}
-use Rattle.std.specs.List.{All}
-use Rattle.std.specs.Prelude.{slice_get, option_map, nat_lt, ◌==◌, ◌||◌, if◌then◌else◌}
-use Rattle.std.proofs.lemmas.Option.{get_or_from_slice_get}
+use Rattle.std.specs.Prelude.{option_map, nat_lt, ◌==◌, ◌||◌}
 use Rattle.ck_base.specs.declared.positions.Pos.{Pos}
 use Rattle.ck_base.specs.declared.refusal.Refusal.{Refusal}
 use Rattle.ck_base.specs.declared.refusal.Refusal.TheVariants.{Code, NoMemory}
@@ -15,7 +13,7 @@ use Rattle.c_tree.specs.Types.{Ty}
 use Rattle.c_tree.specs.Readings as meant
 use Rattle.c_tree.specs.Readings.{Reading}
 use Rattle.c_tree.specs.Scopes.{State, Fault, Doing, give, some_or, continued, ◌>>=◌}
-use Rattle.c_tree.specs.Initializers.{item_place, items}
+use Rattle.c_tree.specs.Initializers.{item_place}
 use Rattle.c_tree.specs.Programs.{reading, readings}
 use Rattle.c_expressions.specs.Nodes.{IsWhole, type_in, type_count}
 use Rattle.c_elaborator.specs.declared.work.Work.{Work}
@@ -24,16 +22,17 @@ use Rattle.c_elaborator.specs.Answers.{Keeps, Done, Answers, quietly}
 use Rattle.c_elaborator.specs.Parts.{IsPart, AreParts}
 use Rattle.c_elaborator.proofs.Parting.{cut, no_parts}
 use Rattle.c_elaborator.proofs.Sequencing.{quiet_law, answers_at, then, gave}
-use Rattle.c_initializers.specs.declared.places.Place.{Place}
+use Rattle.c_object_parts.specs.declared.members.Place.{Place}
 use Rattle.c_initializers.specs.declared.places.Places.{Places}
 use Rattle.c_initializers.specs.declared.places.Places.TheVariants.{Elements, Members, Alone}
-use Rattle.c_initializers.specs.Places.{ArePlaces, ArePlacesThere, IsPlaceThere, place_at, place_in}
+use Rattle.c_initializers.specs.Places.{AreNear, ArePlaces, ArePlacesThere, IsPlaceThere, place_at, place_in}
 use Rattle.c_initializers.specs.declared.slots.Slot.{Slot}
 use Rattle.c_initializers.specs.declared.slots.Filled.{Filled}
 use Rattle.c_initializers.specs.Slots.{IsSlotThere, AreSlotsThere, slots_in, FilledThere, IsFilled, filled_in}
+use Rattle.c_initializers.proofs.PlaceLaws.{all-at, if-some}
 use Rattle.c_initializers.proofs.SlotLaws.{work_slots_kept, work_slots_there}
 use Rattle.c_statements.specs.declared.initial.Goal.{Goal}
-use Rattle.c_statements.specs.Initial.{asked_by, listing, gives_items, IsNext, SoFar}
+use Rattle.c_statements.specs.Initial.{asked_by, listing, gives_items, IsNear, IsNext, SoFar}
 use Rattle.c_statements.proofs.Reading.{readings_more, readings_nil}
 
 -- the values of one item, and then those of the others
@@ -266,23 +265,12 @@ so_far_ends u v g brace xs i ks js given f r none p e n =
 
 -- ---- what the next item initialises
 
-below-there : {A : Type 0} (xs : List A) (k : ℕ) (x : A) → slice_get xs k ≡ Some x → k < length xs
-below-there [] k x e = absurd cc
-below-there (y ∷ xs) zero x e = omega arith
-below-there (y ∷ xs) (suc k) x e = let h = below-there xs k x e in omega arith
-
-chosen-of : (n : ℕ) (b : Bool) (q p : Place) → q.of < n → (if b then Some q else None) ≡ Some p → p.of < n
-chosen-of n true q p h e = let i : q ≡ p = cc in subst (λ (z : Place). z.of < n) i h
-chosen-of n false q p h e = absurd cc
-
 place_there : (w : Work) (places : Places) (k : ℕ) (p : Place) → ArePlacesThere w places → place_at places k ≡ Some p →
     p.of < type_count w.nodes
-place_there w (Elements of size count) k p h e =
-    chosen-of (type_count w.nodes) (nat_lt k count || count == 0) (record { at = k * size; of = of }) p h e
-place_there w (Members ps) k p h e =
-    let l : k < length ps.items = below-there ps.items k p e in
-    subst (λ (z : Place). z.of < type_count w.nodes) (get_or_from_slice_get ps.items k p p e) (h k p l)
-place_there w (Alone of) k p h e = chosen-of (type_count w.nodes) (k == 0) (record { at = 0; of = of }) p h e
+place_there w (Elements of size count) k p h e = if-some (IsPlaceThere w) (nat_lt k count || count == 0)
+    (record { at = k * size; of = of }) p h e
+place_there w (Members ps) k p h e = all-at (IsPlaceThere w) ps.items k p h e
+place_there w (Alone of) k p h e = if-some (IsPlaceThere w) (k == 0) (record { at = 0; of = of }) p h e
 
 pub item_there : (u : Work) (g part : Goal) (places : Places) (count i number : ℕ) (brace : Pos) →
     ArePlaces u g.of count places → i < count → number ≡ i → (h : IsNext places number g brace (Ok part)) →
@@ -300,6 +288,14 @@ part_is_there u v g part places count number brace a k h =
     let l : h.0.of < type_count u.nodes = place_is_there u g part places count number brace a h in
     let m : type_count u.nodes ≤ type_count v.nodes = k.more_types in
     let e : part.of ≡ h.0.of = ap (λ (z : Goal). z.of) h.2 in
+    omega arith
+
+pub part_is_near : (g part : Goal) (places : Places) (number : ℕ) (brace : Pos) → IsNear g → AreNear places →
+    IsNext places number g brace (Ok part) → IsNear part
+part_is_near g part places number brace n a h =
+    let l : h.0.at ≤ suc number * 2 ^ 27 = a number h.0 h.1 in
+    let at : part.at ≡ g.at + h.0.at = ap (λ (z : Goal). z.at) h.2 in
+    let items : part.items ≡ g.items + number + 1 = ap (λ (z : Goal). z.items) h.2 in
     omega arith
 
 pub part_refused : (u v w : Work) (g : Goal) (brace : Pos) (xs : Syns) (i k : ℕ) (ks : List ℕ) (given : List Slot)

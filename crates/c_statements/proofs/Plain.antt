@@ -22,7 +22,7 @@ use Rattle.c_elaborator.proofs.Sequencing.{quiet_law, answers_at, then, also_the
 use Rattle.c_statements.proofs.Reading.{string_is}
 use Rattle.c_initializers.specs.declared.slots.Slot.{Slot}
 use Rattle.c_initializers.specs.declared.slots.Filled.{Filled}
-use Rattle.c_initializers.specs.Slots.{SlotThere, IsSlot, IsSlotThere, AreSlotsThere, slot_in, slots_in, slot_of}
+use Rattle.c_initializers.specs.Slots.{SlotThere, IsSlot, AreSlotsThere, slot_in, slots_in, slot_of}
 use Rattle.c_initializers.specs.Slots.{plain_slot, string_filled, FilledThere, IsFilled, filled_in}
 
 -- what comes behind the value, and behind the slot

@@ -1,6 +1,6 @@
 -- What an initializer stands for, by its kind.
-use Rattle.std.proofs.Common.{◌≡◌, ℕ, suc, zero, Bool, true, false, List, [], ◌∷◌, ◌++◌, length, get_or, Option, Some}
-use Rattle.std.proofs.Common.{None, ◌≤◌, ◌-◌, refl, sym, ap, subst, ◌∙◌, arith}
+use Rattle.std.proofs.Common.{◌≡◌, ℕ, Bool, true, false, List, [], ◌∷◌, ◌++◌, length, get_or}
+use Rattle.std.proofs.Common.{◌≤◌, ◌-◌, refl, sym, ap, subst, ◌∙◌, arith}
 use Rattle.std.specs.Prelude.{◌&&◌, if◌then◌else◌}
 use Rattle.ck_base.specs.declared.positions.Pos.{Pos}
 use Rattle.ck_base.specs.Tokens.{Lexeme}
@@ -9,8 +9,8 @@ use Rattle.c_tree.specs.declared.syntax.NodeKind.TheVariants as Kinds
 use Rattle.c_tree.specs.Syntax.{Syn, Syns, node, nil, more, own_token}
 use Rattle.c_tree.specs.Types.{Ty}
 use Rattle.c_tree.specs.Values.{characters_of}
-use Rattle.c_tree.specs.Scopes.{State, Doing}
-use Rattle.c_tree.specs.Readings.{Slot, Filled, Reading}
+use Rattle.c_tree.specs.Scopes.{Doing}
+use Rattle.c_tree.specs.Readings.{Slot, Reading}
 use Rattle.c_tree.specs.Expressions.{expression_of, pieces, text_bytes}
 use Rattle.c_tree.specs.Initializers.{takes_string, string_initializer, plain_initializer, braced_initializer}
 use Rattle.c_tree.specs.Programs.{reading, readings, initializer_of, is_text}

@@ -1,6 +1,6 @@
 -- What is asked of the values of an initializer, and what a list in braces gives.
-use Rattle.std.specs.Prelude.{◌≡◌, ℕ, ◌+◌, Bool, true, false, ◌&&◌, List, [], ◌∷◌, ◌++◌, length, Option, Some, None}
-use Rattle.std.specs.Prelude.{Result, Ok, Err}
+use Rattle.std.specs.Prelude.{◌≡◌, ℕ, ◌+◌, ◌*◌, ◌^◌, ◌≤◌, true, false, ◌&&◌, List, [], ◌∷◌, ◌++◌, length}
+use Rattle.std.specs.Prelude.{Option, Some, None, Result, Ok, Err}
 use Rattle.ck_base.specs.declared.positions.Pos.{Pos}
 use Rattle.ck_base.specs.declared.refusal.Refusal.{Refusal}
 use Rattle.ck_base.specs.declared.refusal.Refusal.TheVariants.{Code, NoMemory}
@@ -16,7 +16,7 @@ use Rattle.c_elaborator.specs.declared.work.Work.{Work}
 use Rattle.c_elaborator.specs.Work.{Shows}
 use Rattle.c_elaborator.specs.Answers.{Done, quietly}
 use Rattle.c_elaborator.specs.Parts.{AreParts}
-use Rattle.c_initializers.specs.declared.places.Place.{Place}
+use Rattle.c_object_parts.specs.declared.members.Place.{Place}
 use Rattle.c_initializers.specs.declared.places.Places.{Places}
 use Rattle.c_initializers.specs.declared.slots.Slot.{Slot as Kept}
 use Rattle.c_initializers.specs.Places.{place_at}
@@ -44,12 +44,16 @@ IsLone w of ks None = (xs : Syns) → AreParts w ks xs → (is_text xs && takes_
 IsLone w of ks (Some k) =
     (ks ≡ k ∷ []) × ((xs : Syns) → AreParts w ks xs → (is_text xs && takes_string (type_in w.nodes of)) ≡ true)
 
+-- what is initialised lies at most 2 ^ 27 bytes further on for each item up to it
+abbrev pub IsNear : Goal → Type 0
+IsNear g = g.at ≤ g.items * 2 ^ 27
+
 -- what the item with a number initialises
-abbrev pub part_of : Goal → Place → Goal
-part_of g p = record g { of = p.of; at = g.at + p.at }
+abbrev pub part_of : Goal → ℕ → Place → Goal
+part_of g k p = record g { of = p.of; at = g.at + p.at; items = g.items + k + 1 }
 
 abbrev pub IsNext : Places → ℕ → Goal → Pos → Result Goal Refusal → Type 0
-IsNext places k g brace (Ok part) = (p : Place) × (place_at places k ≡ Some p) × (part ≡ part_of g p)
+IsNext places k g brace (Ok part) = (p : Place) × (place_at places k ≡ Some p) × (part ≡ part_of g k p)
 IsNext places k g brace (Err (Code code place)) = (place_at places k ≡ None) × (code ≡ 133) × (place ≡ brace)
 IsNext places k g brace (Err NoMemory) = Unit {0}
 

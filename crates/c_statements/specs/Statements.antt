@@ -1,9 +1,6 @@
 -- What is read of the parts of a statement, and what a statement with a scope of its own is in it (C11 6.8).
-use Rattle.std.specs.Prelude.{◌≡◌, ℕ, ◌<◌, Bool, true, false, not, List, [], ◌∷◌, ◌++◌, length, map, Option, Some, None}
-use Rattle.std.specs.Prelude.{Result, Ok, Err}
+use Rattle.std.specs.Prelude.{◌≡◌, ℕ, ◌<◌, Bool, not, List, [], ◌∷◌, ◌++◌, map, Option, Some, None}
 use Rattle.ck_base.specs.declared.positions.Pos.{Pos}
-use Rattle.ck_base.specs.declared.refusal.Refusal.{Refusal}
-use Rattle.ck_base.specs.declared.refusal.Refusal.TheVariants.{Code, NoMemory}
 use Rattle.ck_base.specs.Tokens.{Lexeme}
 use Rattle.c_tree.specs.declared.syntax.NodeKind.{NodeKind}
 use Rattle.c_tree.specs.declared.syntax.NodeKind.TheVariants as Kinds
@@ -22,16 +19,16 @@ use Rattle.c_tree.specs.Declarators.{constant}
 use Rattle.c_tree.specs.Declarations.{both}
 use Rattle.c_tree.specs.Statements as statements
 use Rattle.c_tree.specs.Statements.{one_action, one_term, does, all_items, block_action, substatement, test, in_a_loop}
-use Rattle.c_tree.specs.Statements.{in_a_switch, for_action, first_part, optional_test, optional_step, has_label}
+use Rattle.c_tree.specs.Statements.{in_a_switch, for_action, first_part, optional_test, optional_step}
 use Rattle.c_tree.specs.Statements.{switch_items, no_cases, case_value, case_label, add_label}
 use Rattle.c_tree.specs.Views.{label_of}
-use Rattle.c_tree.specs.declared.typed.SwitchLabel.{SwitchLabel}
 use Rattle.c_expressions.specs.declared.nodes.Nodes.{Nodes}
 use Rattle.c_expressions.specs.Nodes as nodes
 use Rattle.c_expressions.specs.Nodes.{type_in, term_in, type_count, term_count}
 use Rattle.c_elaborator.specs.declared.work.Work.{Work}
-use Rattle.c_statements.specs.declared.labels.Cases.{Cases}
-use Rattle.c_statements.specs.declared.heads.Head.{Head}
+use Rattle.c_control.specs.declared.switches.Cases.{Cases}
+use Rattle.c_control.specs.declared.loops.Head.{Head}
+use Rattle.c_control.specs.Control.{labels_in}
 use Rattle.c_statements.specs.declared.labels.Controlling.{Controlling}
 use Rattle.c_elaborator.specs.Items.{ItemsThere, items_in}
 use Rattle.c_statements.specs.Arity.{with_one, with_two, with_three}
@@ -135,10 +132,6 @@ abbrev pub for_in : meant.Context → Pos → Syns → List Reading → Doing me
 for_in c p (more x (more y (more z ws))) (r ∷ q ∷ o ∷ b ∷ []) = for_with c p x y z r q o b
 for_in c p xs rs = refuse 120 p
 
--- the statement that a `for` is
-abbrev pub for_of : Head → ℕ → StmtKind
-for_of h body = stmts.For h.items.vars.items h.items.actions.items h.test h.step body
-
 -- ---- switch
 
 -- what a `switch` is on
@@ -169,14 +162,6 @@ pub record IsPromoted (old new : Nodes) (node : ℕ) (x : Controlling) : Type 0 
 abbrev pub CasesThere : Work → Cases → Type 0
 CasesThere w x = ItemsThere w x.items
 
--- a label of the program, from its value and the number of statements before it
-abbrev pub switch_label : Option ℕ × ℕ → SwitchLabel
-switch_label p = record { value = p.0; before = p.1 }
-
--- the labels so far, in their order
-abbrev pub labels_in : Cases → List SwitchLabel
-labels_in x = map switch_label x.labels.entries
-
 abbrev pub cases_in : Work → Cases → statements.Cases
 cases_in w x = record { items = items_in w x.items; labels = map label_of (labels_in x) }
 
@@ -188,15 +173,6 @@ LabelThere w v = Unit {0}
 
 abbrev pub IsLabel : Work → Option ℕ → State → Option ℕ → Type 0
 IsLabel w v s a = a ≡ v
-
--- the answer of a label: it is added, or refused where an earlier one is like it
-abbrev pub AddsLabel : Cases → Option ℕ → Pos → Result Cases Refusal → Type 0
-AddsLabel cases v p (Ok new) =
-    (has_label v (map label_of (labels_in cases)) ≡ false) × (new.items ≡ cases.items) ×
-    (labels_in new ≡ labels_in cases ++ record { value = v; before = length cases.items.actions.items } ∷ [])
-AddsLabel cases v p (Err (Code code place)) =
-    (has_label v (map label_of (labels_in cases)) ≡ true) × (code ≡ 131) × (place ≡ p)
-AddsLabel cases v p (Err NoMemory) = Unit {0}
 
 abbrev pub switch_with : meant.Context → Pos → Syns → Reading → List Reading → Doing meant.Items
 switch_with c p xs r rs =
@@ -218,10 +194,6 @@ further c r cases = r.item c >>= λ i. give (record cases { items = both cases.i
 -- a label, which is added behind the others
 abbrev pub labelling : List Reading → Ty → Pos → statements.Cases → Doing statements.Cases
 labelling rs of p cases = case_label rs of >>= λ v. add_label v p cases
-
--- the statement that a `switch` is
-abbrev pub switch_of : ℕ → Cases → StmtKind
-switch_of on cases = stmts.Switch on cases.items.vars.items (labels_in cases) cases.items.actions.items
 
 -- ---- the statements that have a scope of their own, in that scope (6.8p3)
 

@@ -85,6 +85,7 @@ fn initialize_local(
         whole: b.first,
         of,
         at: 0,
+        items: 0,
     };
     let filled = initializer(work, b.node, goal, depth)?;
     let slots = fill_local(work, k, name, of, b.first, &filled)?;
@@ -111,6 +112,7 @@ fn initialize_static(
         whole: b.first,
         of,
         at: 0,
+        items: 0,
     };
     let filled = initializer(work, b.node, goal, depth)?;
     fill_static(work, k, name.pos, &filled)?;

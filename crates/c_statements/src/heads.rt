@@ -1,6 +1,6 @@
 //! What stands in the parentheses of a `for` (C11 6.8.5.3).
 
-ghost use Rattle.std.specs.Prelude.{◌≡◌, ◌<◌, true, length};
+ghost use Rattle.std.specs.Prelude.{◌≡◌, ◌<◌, length};
 ghost use Rattle.c_tree.specs.Syntax.{Syn};
 ghost use Rattle.c_tree.specs.Programs.{reading};
 ghost use Rattle.c_tree.specs.Statements.{is_absent, first_part, optional_test, optional_step};
@@ -9,22 +9,15 @@ ghost use Rattle.c_elaborator.specs.Answers.{Answers, quietly, freely};
 ghost use Rattle.c_elaborator.specs.Parts.{IsPart};
 ghost use Rattle.c_readings.specs.Within.{PartWithin};
 ghost use Rattle.c_elaborator.specs.Items.{context_in, ItemsThere, IsItems};
-ghost use Rattle.c_statements.specs.Statements.{MaybeThere, IsMaybe, for_head, HeadThere, IsHead, for_of};
+ghost use Rattle.c_statements.specs.Statements.{MaybeThere, IsMaybe, for_head, HeadThere, IsHead};
 
 use crate::declarations::declaration;
 use crate::simple::{evaluate_one, test};
+use c_control::Head;
 use c_elaborator::{Context, Items, Work, no_items};
 use c_readings::{ThreeParts, node_at, value_of};
-use c_tree::{NodeKind, StmtKind};
-use ck_base::{Refusal, Sequence};
-
-/// What stands in the parentheses of a `for`.
-#[derive(Drop)]
-pub struct Head {
-    pub items: Items,
-    pub test: Option<u32>,
-    pub step: Option<u32>,
-}
+use c_tree::NodeKind;
+use ck_base::Refusal;
 
 // A declaration, an expression as a statement at its first byte, or nothing.
 fn first_part(work: &mut Work<'_>, context: Context, k: u32, depth: u32) -> Result<Items, Refusal>
@@ -101,27 +94,4 @@ pub(crate) fn for_head(
     let test = optional_test(work, parts.second, depth)?;
     let step = optional_step(work, parts.third, depth)?;
     Ok(Head { items, test, step })
-}
-
-// The statement that a `for` is.
-pub(crate) fn for_kind(head: Head, body: u32) -> StmtKind
-    ensures { result ≡ for_of head body }
-{
-    StmtKind::For {
-        vars: Sequence::from_vec(head.items.vars),
-        first: Sequence::from_vec(head.items.actions),
-        test: head.test,
-        step: head.step,
-        body,
-    }
-}
-
-pub(crate) fn in_a_loop(context: Context) -> Context
-    ensures { result ≡ record context { in_loop = true; breakable = true } }
-{
-    Context {
-        gives: context.gives,
-        in_loop: true,
-        breakable: true,
-    }
 }

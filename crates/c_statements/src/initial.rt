@@ -13,9 +13,9 @@ ghost use Rattle.c_elaborator.specs.Parts.{IsPart, AreParts, HaveTexts, token_of
 ghost use Rattle.c_readings.specs.Within.{PartWithin, PartsWithin};
 ghost use Rattle.c_initializers.specs.Places.{ArePlaces};
 ghost use Rattle.c_initializers.specs.Slots.{SlotThere, slot_in, FilledThere, IsFilled};
-ghost use Rattle.c_statements.specs.Initial.{asked_by, gives_items};
+ghost use Rattle.c_statements.specs.Initial.{asked_by, gives_items, IsNear};
 
-use crate::items::{alone, append, counted, lone_text, next_part};
+use crate::items::{alone, append, lone_text, next_part};
 use c_elaborator::{Name, Work};
 use c_initializers::{Filled, Places, Slot, is_start, places_of, plain, string, takes_string};
 use c_readings::value_of;
@@ -41,6 +41,8 @@ pub struct Goal {
     pub of: u32,
     /// Its offset in the object, in bytes.
     pub at: u64,
+    /// How many items of lists in braces stand before it, itself and those that it is in counted.
+    pub items: u32,
 }
 
 // 134 at the value's first byte where it has to be known before the program runs and is not.
@@ -76,6 +78,7 @@ fn plain_value(work: &mut Work<'_>, k: u32, goal: Goal, depth: u32) -> Result<Fi
 fn text_value(work: &mut Work<'_>, name: Name, kids: &[u32], goal: Goal) -> Result<Filled, Refusal>
     requires whole { IsWhole work.old.nodes }
     requires there { goal.of < type_count work.old.nodes }
+    requires near { IsNear goal }
     requires accepted { IsAccepted TokenKind.Text (text_at work.old.file.now name.span) }
     requires parts { HaveTexts work.old kids.now }
     ensures { (xs : Syns) → AreParts work.old kids.now xs →
@@ -99,6 +102,7 @@ fn text_value(work: &mut Work<'_>, name: Name, kids: &[u32], goal: Goal) -> Resu
 pub fn initializer(work: &mut Work<'_>, k: u32, goal: Goal, depth: u32) -> Result<Filled, Refusal>
     requires whole { IsWhole work.old.nodes }
     requires there { goal.of < type_count work.old.nodes }
+    requires near { IsNear goal }
     requires part { PartWithin work.old depth k }
     ensures { (x : Syn) → IsPart work.old k x →
         Answers quietly work.old work.new ((reading x).initializer (asked_by goal.asked) goal.whole
@@ -129,6 +133,7 @@ fn braced(
 ) -> Result<Filled, Refusal>
     requires whole { IsWhole work.old.nodes }
     requires there { goal.of < type_count work.old.nodes }
+    requires near { IsNear goal }
     requires parts { PartsWithin work.old depth kids.now }
     ensures { (t : Lexeme) (xs : Syns) → t.pos ≡ brace → AreParts work.old kids.now xs →
         Answers quietly work.old work.new (braced_initializer t (is_text xs) (readings xs)
@@ -151,6 +156,7 @@ fn list(
 ) -> Result<Filled, Refusal>
     requires whole { IsWhole work.old.nodes }
     requires there { goal.of < type_count work.old.nodes }
+    requires near { IsNear goal }
     requires parts { PartsWithin work.old depth kids.now }
     ensures { (xs : Syns) → AreParts work.old kids.now xs →
         Answers quietly work.old work.new (gives_items (readings xs) (asked_by goal.asked) goal.whole
@@ -172,6 +178,7 @@ fn listed(
 ) -> Result<Filled, Refusal>
     requires whole { IsWhole work.old.nodes }
     requires there { goal.of < type_count work.old.nodes }
+    requires near { IsNear goal }
     requires parts { PartsWithin work.old depth kids.now }
     requires places { ArePlaces work.old goal.of (length kids.now) places.now }
     ensures { (xs : Syns) → AreParts work.old kids.now xs →
@@ -184,7 +191,7 @@ fn listed(
         let part = next_part(places, number, goal, brace)?;
         let filled = initializer(work, *k, part, depth)?;
         append(&mut slots, filled.slots.as_slice())?;
-        number = counted(number)?;
+        number += 1;
     }
     Ok(Filled {
         slots,

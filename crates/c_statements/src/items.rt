@@ -3,7 +3,8 @@
 ghost use Rattle.std.specs.Prelude.{◌≡◌, ◌+◌, ◌++◌, ◌<◌, ◌∷◌, [], IfOk, OnOk};
 ghost use Rattle.c_expressions.specs.Nodes.{IsWhole, type_count};
 ghost use Rattle.c_elaborator.specs.Parts.{HasPart, HaveParts};
-ghost use Rattle.c_statements.specs.Initial.{IsLone, IsNext};
+ghost use Rattle.c_initializers.specs.Places.{AreNear};
+ghost use Rattle.c_statements.specs.Initial.{IsLone, IsNear, IsNext};
 
 use crate::initial::Goal;
 use c_elaborator::Work;
@@ -52,30 +53,27 @@ pub(crate) fn next_part(
     goal: Goal,
     brace: Pos,
 ) -> Result<Goal, Refusal>
+    requires goal { IsNear goal }
+    requires places { AreNear places.now }
     ensures { IsNext places.now number goal brace result }
 {
     match places.get(number) {
         None => Err(Refusal::Code(133, brace)),
-        Some(place) => match goal.at.checked_add(place.at) {
-            None => Err(Refusal::NoMemory),
-            Some(at) => Ok(Goal {
-                asked: goal.asked,
-                whole: goal.whole,
-                of: place.of,
-                at,
-            }),
-        },
+        Some(place) => Ok(Goal {
+            of: place.of,
+            at: goal.at + place.at,
+            items: counted(goal.items, number)?,
+            ..goal
+        }),
     }
 }
 
-/// The next number.
-pub(crate) fn counted(number: u32) -> Result<u32, NoMemory>
-    ensures { IfOk result (λ n. n ≡ number + 1) }
+// How many items there are up to the one with a number in its list.
+fn counted(items: u32, number: u32) -> Result<u32, NoMemory>
+    ensures { IfOk result (λ n. n ≡ items + number + 1) }
 {
-    match number.checked_add(1) {
-        None => Err(NoMemory),
-        Some(n) => Ok(n),
-    }
+    let before = items.checked_add(number).ok_or(NoMemory)?;
+    before.checked_add(1).ok_or(NoMemory)
 }
 
 /// One value alone.

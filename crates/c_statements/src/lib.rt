@@ -18,6 +18,5 @@ mod statements;
 
 pub use declarations::declaration;
 pub use declaring::declare_definition;
-pub use heads::Head;
-pub use labels::{Cases, Controlling};
+pub use labels::Controlling;
 pub use statements::{all_items, item};

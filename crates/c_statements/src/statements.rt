@@ -22,9 +22,10 @@ ghost use Rattle.c_tree.specs.Statements as meant;
 
 use crate::declarations::declaration;
 use crate::four::{FourParts, four};
-use crate::heads::{for_head, for_kind, in_a_loop};
-use crate::labels::{Cases, in_a_switch, labelled, switch_kind, switched, with_items};
+use crate::heads::for_head;
+use crate::labels::{labelled, switched};
 use crate::simple::{evaluate, jump, return_at, test};
+use c_control::{Cases, for_kind, in_a_loop, in_a_switch, switch_kind, with_items};
 use c_elaborator::{Context, Items, Work, does, enter, join, leave, no_items};
 use c_readings::{first_of, node_at, only, three, two};
 use c_tree::{Node, NodeKind, StmtKind};

@@ -16,7 +16,7 @@ returns c =
     local_steps u v w c.args.k c.args.of t c.args.name c.args.whole f c.every_slot.result c.in_ok-counted.ensures
     c.requires.filled
     (slots_step v w c.args.name.pos c.args.whole (slots_in v.nodes f.slots.items)
-    (type_in v.nodes t) c.every_slot.result (c.in_ok-complete_now.ensures {u = tt})
+    (type_in v.nodes t) c.every_slot.result c.in_ok-complete_now.ensures.is
     (subst (λ (xs : List Slot). Answers quietly v w
     (every_slot_of c.args.whole (type_in v.nodes t) (slots_in v.nodes xs)) SlotsThere AreSlots
     c.every_slot.result) c.as_slice.ensures.value c.every_slot.ensures))

@@ -11,4 +11,4 @@ returns c =
     let w = c.args.work.now in
     answers_at quietly w w (object_complete c.args.k c.args.pos)
     (complete_now (type_in w.nodes c.static_type.result) c.args.pos) NothingThere IsNothing c.complete_now.result
-    (λ s h. ap (λ t. complete_now t c.args.pos s) (sym (c.static_type.ensures.is s h))) c.complete_now.ensures
+    (λ s h. ap (λ t. complete_now t c.args.pos s) (sym (c.static_type.ensures.is s h))) c.complete_now.ensures.is

@@ -1,9 +1,10 @@
-use Rattle.std.proofs.Common.{◌≡◌, ◌*◌, sym, ap, ◌∙◌}
+use Rattle.std.proofs.Common.{◌≡◌, ◌*◌, sym, ap, ◌∙◌, arith}
 use Rattle.std.specs.Prelude.{nat_lt, ◌==◌, ◌||◌, if◌then◌else◌, Some, None}
 use Rattle.c_tree.specs.Initializers.{item_place}
 use Rattle.c_expressions.specs.Nodes.{type_in}
-use Rattle.c_initializers.specs.Places.{place_in}
+use Rattle.c_object_parts.specs.Members.{place_in}
 use Rattle.c_initializers.proofs.PlaceLaws.{item_place-stripped, array-place, option_map-if, alone-place, stripped_base}
+use Rattle.c_initializers.proofs.PlaceLaws.{elements-near, members-near, alone-near}
 use Rattle.c_initializers.proofs.places.places_of.Goals as goal
 
 pub returns-in-Array : goal.returns-in-Array
@@ -12,6 +13,7 @@ returns-in-Array c =
     let t = type_in w.nodes c.args.of in
     record {
       there = c.in-Array.ensures.there;
+      near = elements-near c.in-Array.element c.size_of.result c.in-Array.length (omega arith);
       are = λ s h k l.
           sym (item_place-stripped s t k)
           ∙ ap (λ u. item_place s u k) (sym c.stripped-base.ensures.is ∙ c.in-Array.ensures.is)
@@ -25,9 +27,10 @@ pub returns-in_ok-first_members-in-Tagged : goal.returns-in_ok-first_members-in-
 returns-in_ok-first_members-in-Tagged c =
     let w = c.args.work.now in
     let t = type_in w.nodes c.args.of in
-    let a = c.in_ok-first_members-in-Tagged.ensures in
+    let a = c.in_ok-first_members-in-Tagged.ensures.are in
     record {
       there = a.there;
+      near = members-near c.in_ok-first_members-in-Tagged.field-0 c.in_ok-first_members-in-Tagged.ensures.close;
       are = λ s h k l. sym (item_place-stripped s t k)
           ∙ ap (λ u. item_place s u k) (sym c.stripped-base.ensures.is ∙ c.in-Tagged.ensures.is) ∙ a.are s h k l;
     }
@@ -40,6 +43,7 @@ returns-in_default c =
     let b = c.stripped-base.ensures.is in
     record {
       there = c.stripped-base.ensures.there;
+      near = alone-near c.stripped-base.result;
       are = λ s h k l.
           sym (item_place-stripped s t k) ∙ ap (λ u. item_place s u k) (sym b ∙ e)
           ∙ alone-place s c.class.result (type_in w.nodes) c.class.ensures.params k c.in_default.not-Array

@@ -1,15 +1,16 @@
-use Rattle.std.proofs.Common.{◌≡◌, ◌+◌, ◌-◌, ◌*◌, ◌<◌, ◌≤◌, [], ◌∷◌, ◌++◌, List, get_or, length, drop, map, refl, sym}
-use Rattle.std.proofs.Common.{ap, subst, ◌∙◌}
-use Rattle.std.proofs.Common.{arith}
+use Rattle.std.proofs.Common.{◌≡◌, ◌+◌, ◌-◌, ◌*◌, ◌<◌, ◌≤◌, ◌++◌, List, get_or, length, drop, map, refl, sym}
+use Rattle.std.proofs.Common.{ap, subst, ◌∙◌, arith}
 use Rattle.std.specs.List.{All}
 use Rattle.std.proofs.Math.Nat.{zero-mul}
 use Rattle.std.proofs.lemmas.List.Elements.{All-push}
 use Rattle.c_tree.specs.Initializers.{all_scalars, scalars_of, tag_scalars}
-use Rattle.c_expressions.specs.Nodes.{type_in, type_count}
-use Rattle.c_initializers.specs.declared.places.Place.{Place}
+use Rattle.c_tree.specs.Types.{Tagged}
+use Rattle.c_expressions.specs.Nodes.{type_in}
+use Rattle.c_object_parts.specs.declared.members.Place.{Place}
 use Rattle.c_initializers.specs.declared.scalars.Row.{Row}
-use Rattle.c_initializers.specs.Places.{place_in}
+use Rattle.c_object_parts.specs.Members.{place_in, IsClose}
 use Rattle.c_initializers.specs.Rows.{IsRowThere, rows_scalars, row_steps, rows_steps}
+use Rattle.c_initializers.proofs.FitLaws.{member-at, member-there}
 use Rattle.c_initializers.proofs.PlaceLaws.{no-depth, one-depth}
 use Rattle.c_initializers.proofs.RowLaws.{adds-no-row, member-row, single-row}
 use Rattle.c_initializers.proofs.StepLaws.{member_steps, member-steps, members-steps, one-less, steps-push}
@@ -27,20 +28,25 @@ loop-left-preserved c =
     let m = c.index-m.result.now in
     let q : m ≡ get_or ms i m = c.index-m.ensures in
     let e = c.in_ok-push_row.ensures in
+    let a = c.in_ok-members.ensures in
+    let sum = c.saturating_add.result in
+    let some : 0 < c.args.tags = omega (arith, c.if-tags-eq0.false) in
     let l : i < length ms = omega (arith, c.loop-left.invariant.within, c.loop-left-test.true) in
     let z : i + 1 ≡ c.loop-left.left = omega (arith, c.loop-left-test.true) in
     record {
       within = omega (arith, c.loop-left.invariant.within);
       there = λ h. subst (λ (x : List Row). All (IsRowThere w) x) (sym e)
           (All-push (IsRowThere w) c.loop-left.rows.items _ (c.loop-left.invariant.there h)
-          (subst (λ (x : Row). x.of < type_count w.nodes) (sym c.single.ensures)
-          (subst (λ (x : Place). x.of < type_count w.nodes) (sym q) (c.in_ok-members.ensures.there i m l))));
+          (member-there w c.args.tag c.args.at c.args.tags i sum ms m c.single.result c.requires.fits some a.are a.close
+          l q c.saturating_add.ensures c.single.ensures));
       are = λ s h.
           let go = tag_scalars (c.args.tags - 1) s in
           member-row w s go ms i m c.args.at c.loop-left.rows.items c.push_row.new.rows.items c.args.rows.now.items _ l
           e
-          (single-row w s c.single.result m.of c.in_ok-moved.field-0 (c.args.tags - 1) c.single.ensures
-          ∙ ap (scalars_of s go (type_in w.nodes m.of)) c.in_ok-moved.ensures
+          (single-row w s c.single.result m.of sum (c.args.tags - 1) c.single.ensures
+          ∙ ap (scalars_of s go (type_in w.nodes m.of))
+          (member-at w s (Tagged c.args.tag) c.args.at c.args.tags m.at sum c.requires.fits h some
+          (subst IsClose (sym q) (a.close i m l)) c.saturating_add.ensures)
           ∙ ap (λ (p : Place). scalars_of s go (type_in w.nodes p.of) (c.args.at + p.at)) q)
           (subst (λ n. rows_scalars w s c.loop-left.rows.items
           ≡ all_scalars s go (map (place_in w) (drop n ms)) c.args.at
@@ -69,7 +75,7 @@ returns c =
           ∙ ap (λ n. all_scalars s go (map (place_in w) (drop n ms)) c.args.at
           ++ rows_scalars w s c.args.rows.now.items) z
           ∙ ap (λ x. x ++ rows_scalars w s c.args.rows.now.items)
-          (ap (λ ps. all_scalars s go ps c.args.at) (c.in_ok-members.ensures.are s h)
+          (ap (λ ps. all_scalars s go ps c.args.at) (c.in_ok-members.ensures.are.are s h)
           ∙ sym (one-depth c.args.tags (c.args.tags - 1) s c.args.tag c.args.at
           (omega (arith, c.if-tags-eq0.false)) refl));
       steps =

@@ -2,6 +2,7 @@ use Rattle.std.proofs.Common.{◌∷◌, [], ◌++◌, List, ap, subst, ◌∙�
 use Rattle.c_initializers.specs.declared.covering.Extent.{Extent}
 use Rattle.c_initializers.specs.declared.scalars.Row.{Row}
 use Rattle.c_initializers.specs.Rows.{Walks, row_scalars, row_steps}
+use Rattle.c_initializers.proofs.FitLaws.{single-there, whole-fits}
 use Rattle.c_initializers.proofs.RowLaws.{walked-first, walked-on, last-there, fewer-steps}
 use Rattle.c_initializers.proofs.scalars.scalars.Goals as goal
 
@@ -12,7 +13,9 @@ steps-init c = record {
   walked = walked-first c.args.work.now c.args.extents.now c.push.new.self.items c.single.result
       c.new-places.result.items c.args.of c.tag_count.result
       (c.in_ok-push.ensures.items ∙ ap (λ (x : List Row). x ++ c.single.result ∷ []) c.new-rows.ensures.items)
-      c.requires.there c.new-places.ensures.items c.single.ensures c.tag_count.ensures;
+      (single-there c.args.work.now c.single.result c.args.of 0 c.tag_count.result c.single.ensures c.requires.there
+      (whole-fits c.args.work.now c.args.of c.tag_count.result c.requires.sized c.tag_count.ensures))
+      c.new-places.ensures.items c.single.ensures c.tag_count.ensures;
 }
 
 pub walk-requires-clause-there : goal.walk-requires-clause-there

@@ -1,7 +1,5 @@
 use Rattle.std.proofs.lemmas.Result.{err_from_is_err_and}
-use Rattle.std.proofs.Common.{◌≡◌, refl, sym, ap, subst, ◌∙◌}
 use Rattle.c_tree.specs.Programs.{reading}
-use Rattle.c_elaborator.specs.declared.work.Work.{Work}
 use Rattle.c_statements.proofs.Initializing.{static_unfilled, static_incomplete, static_filled_so}
 use Rattle.c_statements.proofs.filling.initialize_static.Goals as goal
 

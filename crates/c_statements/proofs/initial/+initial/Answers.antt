@@ -1,9 +1,8 @@
-use Rattle.std.proofs.Common.{◌≡◌, ◌+◌, ◌-◌, ◌*◌, ◌<◌, ◌≤◌, ◌++◌, ℕ, List, [], ◌∷◌, length, get_or, drop, Ok, Err}
-use Rattle.std.proofs.Common.{Result, refl, sym, ap, subst, ◌∙◌, arith}
+use Rattle.std.proofs.Common.{◌+◌, ◌++◌, ℕ, List, length, get_or, drop, Ok, Err}
+use Rattle.std.proofs.Common.{refl, sym, ap, subst, ◌∙◌, arith}
 use Rattle.std.proofs.lemmas.List.{drop_all}
 use Rattle.std.proofs.lemmas.Result.{err_from_is_err_and}
 use Rattle.ck_base.specs.declared.positions.Pos.{Pos}
-use Rattle.ck_base.specs.declared.refusal.Refusal.{Refusal}
 use Rattle.c_tree.specs.Readings.{Filled}
 use Rattle.c_tree.specs.Scopes.{Doing}
 use Rattle.c_tree.specs.Programs.{reading, readings, is_text}
@@ -21,7 +20,7 @@ use Rattle.c_initializers.proofs.PlaceLaws.{drop-next}
 use Rattle.c_statements.specs.declared.initial.Goal.{Goal}
 use Rattle.c_statements.specs.Initial.{asked_by, gives_items, SoFar}
 use Rattle.c_statements.proofs.Listing.{so_far_begins, so_far_steps, so_far_fails, so_far_ends, item_there}
-use Rattle.c_statements.proofs.Listing.{place_is_there, part_is_there, part_refused}
+use Rattle.c_statements.proofs.Listing.{place_is_there, part_is_there, part_is_near, part_refused}
 use Rattle.c_statements.proofs.Reading.{reads_braces, reads_string, reads_text, reads_value, string_same, lone_given}
 use Rattle.c_statements.proofs.Reading.{braced_listed, one_part, node_parts, text_accepted}
 use Rattle.c_readings.proofs.Within.{at_within, deep, have_parts, one_within, still_within}
@@ -33,7 +32,10 @@ initializer-braced-requires t c =
       omega arith,
       (
         c.requires.whole,
-        (c.requires.there, node_parts c.args.work.now c.args.k c.part-part.result c.part-part.ensures c.requires.part),
+        (
+          c.requires.there,
+          (c.requires.near, node_parts c.args.work.now c.args.k c.part-part.result c.part-part.ensures c.requires.part),
+        ),
       ),
     )
 
@@ -44,6 +46,7 @@ initializer-text_value-requires t c =
     record {
       whole = c.requires.whole;
       there = c.requires.there;
+      near = c.requires.near;
       accepted = text_accepted c.args.work.now c.part-part.result f.syntax n c.in-Text.is;
       parts = texts_of c.args.work.now c.part-part.result f.syntax c.in-Text.is n;
     }
@@ -104,7 +107,10 @@ braced-initializer-requires t c =
       omega arith,
       (
         c.requires.whole,
-        (c.requires.there, one_within c.args.work.now c.args.kids.now c.in-Some.k l.0 c.requires.parts),
+        (
+          c.requires.there,
+          (c.requires.near, one_within c.args.work.now c.args.kids.now c.in-Some.k l.0 c.requires.parts),
+        ),
       ),
     )
 
@@ -130,8 +136,13 @@ braced-returns-in-None t c = λ t' xs e p.
     (c.list.ensures xs p)
 
 pub list-listed-requires : goal.list-listed-requires
-list-listed-requires t c =
-    (omega arith, (c.requires.whole, (c.requires.there, (c.requires.parts, c.in_ok-places.ensures {u = tt}))))
+list-listed-requires t c = (
+  omega arith,
+  (
+    c.requires.whole,
+    (c.requires.there, (c.requires.near, (c.requires.parts, c.in_ok-places.ensures {u = tt}))),
+  ),
+)
 
 pub listed-loop-k-init : goal.listed-loop-k-init
 listed-loop-k-init t c =
@@ -174,8 +185,12 @@ listed-initializer-requires t c =
           part_is_there u v c.args.goal c.in_ok-part.part c.args.places.now
               (length ks) c.loop-k.number c.args.brace c.requires.places c.loop-k.invariant.keeps
               (c.in_ok-part.ensures {u = tt}),
-          still_within u v (get_or ks i 0) c.loop-k.invariant.keeps
-              (at_within u ks i 0 c.loop-k-test.true c.requires.parts),
+          (
+            part_is_near c.args.goal c.in_ok-part.part c.args.places.now c.loop-k.number c.args.brace c.requires.near
+                c.requires.places.near (c.in_ok-part.ensures {u = tt}),
+            still_within u v (get_or ks i 0) c.loop-k.invariant.keeps
+                (at_within u ks i 0 c.loop-k-test.true c.requires.parts),
+          ),
         ),
       ),
     )
@@ -227,7 +242,7 @@ listed-loop-k-preserved t c =
     record {
       keeps = keeps_then u v w c.loop-k.invariant.keeps d.grows.keeps;
       whole = d.whole;
-      number = c.in_ok-number.ensures ∙ ap (λ n. n + 1) c.loop-k.invariant.number;
+      number = ap (λ n. n + 1) c.loop-k.invariant.number;
       given = λ xs p.
           let so_far = subst (λ (js : List ℕ). SoFar u v g c.args.brace xs i js given)
           (drop-next ks i 0 c.loop-k-test.true) (c.loop-k.invariant.given xs p) in

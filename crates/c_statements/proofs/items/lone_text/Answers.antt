@@ -1,4 +1,4 @@
-use Rattle.std.proofs.Common.{◌≡◌, ◌<◌, ◌≤◌, ℕ, length, arith}
+use Rattle.std.proofs.Common.{◌≡◌, length, arith}
 use Rattle.c_expressions.specs.Nodes.{type_in}
 use Rattle.c_elaborator.proofs.Parting.{have_at}
 use Rattle.c_statements.proofs.Reading.{not_alone}

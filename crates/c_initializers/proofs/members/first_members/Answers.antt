@@ -1,8 +1,0 @@
-use Rattle.c_initializers.proofs.PlaceLaws.{first-members}
-use Rattle.c_initializers.proofs.members.first_members.Goals as goal
-
-pub returns-in-Some : goal.returns-in-Some
-returns-in-Some c =
-    let r = rw c.in-Some.is at c.record_of.ensures in
-    first-members c.args.work.now c.args.tag c.args.count c.min-most.result c.in-Some.record c.places_in.result r
-    c.min-most.ensures c.places_in.ensures
