@@ -17,8 +17,9 @@ use Rattle.c_elaborator.proofs.Sequencing.{keeps_then}
 use Rattle.c_declarators.specs.declared.parts.Param.{Param}
 use Rattle.c_declarators.specs.Forming.{ParamIsThere}
 use Rattle.c_declarators.specs.Parts.{in_any, ParamThere, IsParam, param_in}
+use Rattle.c_specifiers.specs.Naming.{bound_behind}
 use Rattle.c_readings.specs.Folding.{SoFar}
-use Rattle.c_readings.specs.Specifying.{ParamsThere, AreParams, params_on, bound_behind, param_behind}
+use Rattle.c_readings.specs.Specifying.{ParamsThere, AreParams, params_on, param_behind}
 use Rattle.c_readings.proofs.Kids.{cut, parts_kept}
 use Rattle.c_readings.proofs.Among.{bind_ext, then_refused}
 use Rattle.c_readings.proofs.Lasting.{param_kept, param_there, params_kept, params_there}

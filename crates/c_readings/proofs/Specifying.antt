@@ -35,10 +35,11 @@ use Rattle.c_declarators.specs.Steps.{closing}
 use Rattle.c_declarators.proofs.Lasting.{derived_lasts}
 use Rattle.c_declarators.proofs.Deriving.{nothing_derived, part_derived, part_there}
 use Rattle.c_elaborator.specs.Parts.{IsPart}
+use Rattle.c_specifiers.specs.Naming.{some_list}
 use Rattle.c_readings.specs.Folding.{SoFar}
 use Rattle.c_readings.proofs.Folding.{fold_more, fold_fails}
 use Rattle.c_readings.proofs.Specifiers.{enumerators_more}
-use Rattle.c_readings.specs.Specifying.{enumerators_on, enumerator_at, some_list, maybe_type, unstored}
+use Rattle.c_readings.specs.Specifying.{enumerators_on, enumerator_at, maybe_type, unstored}
 use Rattle.c_readings.specs.Specifying.{MaybeTypeThere, IsMaybeType, ParamsThere, AreParams, PrototypeThere}
 use Rattle.c_readings.specs.Specifying.{ShowsPrototype}
 use Rattle.c_readings.proofs.Among.{bind_ext, then_shown, then_refused, then_failed, joined_done, made_done}

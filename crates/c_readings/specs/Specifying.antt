@@ -4,17 +4,15 @@ use Rattle.std.specs.Prelude.{◌++◌, length, map, Option, Some, None, option_
 use Rattle.std.specs.Global.{Vec}
 use Rattle.ck_base.specs.declared.positions.Pos.{Pos}
 use Rattle.ck_base.specs.Tokens.{Lexeme}
-use Rattle.c_tree.specs.declared.syntax.NodeKind.{NodeKind}
-use Rattle.c_tree.specs.declared.syntax.NodeKind.TheVariants as Kinds
 use Rattle.c_tree.specs.declared.syntax.RecordKind.{RecordKind}
 use Rattle.c_tree.specs.Syntax.{Syn, Syns}
 use Rattle.c_tree.specs.Types.{Ty, Tagged, int}
-use Rattle.c_tree.specs.Scopes.{Part, State, Doing, give, need, change, ◌>>=◌, ◌>>◌}
+use Rattle.c_tree.specs.Scopes.{Part, State, Doing, give, need, ◌>>=◌, ◌>>◌}
 use Rattle.c_tree.specs.Readings.{Reading, Specified, Param, Prototype, Row, Gives, Derived}
 use Rattle.c_tree.specs.Declarators as meant
 use Rattle.c_tree.specs.Declarators.{names_type, named_types, new_tag, named_tag, begin_tag, complete_tag, all_members}
 use Rattle.c_tree.specs.Declarators.{add_member, member_declarators, enumerators, no_derived, wrapped, array_length}
-use Rattle.c_tree.specs.Declarators.{bind_parameter, parameter_list}
+use Rattle.c_tree.specs.Declarators.{parameter_list}
 use Rattle.c_tree.specs.Programs.{reading, readings}
 use Rattle.c_expressions.specs.Nodes.{type_in, type_count}
 use Rattle.c_elaborator.specs.declared.work.Work.{Work}
@@ -22,7 +20,8 @@ use Rattle.c_declarators.specs.declared.parts.Param.{Param as Parameter}
 use Rattle.c_declarators.specs.declared.parts.Prototype.{Prototype as Parameters}
 use Rattle.c_declarators.specs.Forming.{ParamIsThere}
 use Rattle.c_declarators.specs.Parts.{param_in, shown_in, IsPrototype}
-use Rattle.c_declarators.specs.Steps.{new_enumeration_of, named_enumeration_of}
+use Rattle.c_declarators.specs.Steps.{new_enumeration_of}
+use Rattle.c_specifiers.specs.Naming.{some_list, named_record, named_enum, bound_behind}
 
 -- ---- lists of types and of parameters
 
@@ -53,16 +52,6 @@ ShowsPrototype w p s x = IsPrototype (shown_in w s) w p x
 
 -- ---- specifiers
 
-abbrev pub some_list : {A : Type 0} → Option A → List A
-some_list None = []
-some_list (Some a) = a ∷ []
-
-abbrev pub names_kind : NodeKind → Bool
-names_kind Kinds.TypedefName = true
-names_kind (Kinds.Record k) = true
-names_kind Kinds.Enum = true
-names_kind k = false
-
 -- the type that one of the specifiers names
 abbrev pub maybe_type : Bool → Syn → Doing (Option Ty)
 maybe_type alone x = (if names_type x then ((reading x).type alone >>= λ t. give (Some t)) else give None)
@@ -85,9 +74,6 @@ filled k n rs at keyword = begin_tag n at >> all_members rs [] >>= λ ms. comple
 
 abbrev pub untagged : RecordKind → List Reading → Pos → Doing Ty
 untagged k rs p = new_tag k >>= λ m. filled k m rs p p
-
-abbrev pub named_record : RecordKind → Bool → Lexeme → Doing Ty
-named_record k alone n = named_tag alone k n >>= λ m. give (Tagged m)
 
 -- a tag, and what is behind it
 abbrev pub tagged_record : RecordKind → Bool → Lexeme → List Reading → Pos → Doing Ty
@@ -114,9 +100,6 @@ declarator_at s x ms = member_declarator s (reading x) ms
 abbrev pub listed : List Reading → Doing Ty
 listed rs = enumerators rs (pos 0) >> give int
 
-abbrev pub named_enum : Lexeme → Doing Ty
-named_enum n = named_enumeration_of n >> give int
-
 abbrev pub tagged_enumeration : Lexeme → List Reading → Doing Ty
 tagged_enumeration n [] = named_enum n
 tagged_enumeration n (r ∷ rs) = new_enumeration_of n >> listed (r ∷ rs)
@@ -141,10 +124,6 @@ abbrev pub function_of : List Reading → Reading → Doing Derived
 function_of rs q = within rs >>= λ d. q.prototype >>= λ p. give (wrapped (Gives p) d)
 
 -- ---- parameters
-
--- a parameter's name is in force behind it
-abbrev pub bound_behind : List Param → Param → Doing Unit
-bound_behind ps p = change (bind_parameter (length ps) p)
 
 abbrev pub params_on : Bool → Syns → List Param → Doing (List Param)
 params_on only xs ps = parameter_list (length ps) only (readings xs) >>= λ qs. give (ps ++ qs)

@@ -7,7 +7,6 @@
 #![tactic(auto)]
 
 mod parts;
-mod rules;
 mod tree;
 
 pub use parts::{constant, derived, operand, specified, type_of, value_of};

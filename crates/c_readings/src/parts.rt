@@ -38,9 +38,6 @@ ghost use Rattle.c_readings.specs.Specifying.{PrototypeThere, ShowsPrototype, ma
 ghost use Rattle.c_readings.specs.Specifying.{tagged_record, tagged_enumeration, listed, within, row_of, function_of};
 ghost use Rattle.c_readings.specs.Specifying.{member_declarator};
 
-use crate::rules::{
-    declare_parameter, either, int_type, is_lone, named_enum, named_record, names_type, push_some,
-};
 use crate::tree::{ends, first_of, name_of, node_at, only, tag_of, three, two};
 use c_declarators::{
     Constant, Derived, Members, Param, Prototype, Specified, Wrap, add_member, array_length,
@@ -49,6 +46,10 @@ use c_declarators::{
 };
 use c_elaborator::{Name, Work};
 use c_expressions::Operand;
+use c_specifiers::{
+    declare_parameter, has_storage, int_type, is_lone, named_enum, named_record, names_type,
+    push_some,
+};
 use c_tree::{
     InfixOperator, Node, NodeKind, PrefixOperator, RecordKind, Selection, StepOperator, UnaryOp,
 };
@@ -878,7 +879,7 @@ fn unstored(
         (in_any IsSpecified) result }
 {
     let s = specified(work, k, false, depth)?;
-    if either(s.stored, register) {
+    if has_storage(s.stored, register) {
         return Err(Refusal::Code(133, pos));
     }
     Ok(s)

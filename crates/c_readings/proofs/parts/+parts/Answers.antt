@@ -80,11 +80,12 @@ use Rattle.c_declarators.specs.Parts.{IsCount, NumberThere, IsNumber, AreMembers
 use Rattle.c_declarators.specs.Parts.{ParamThere, IsParam, param_in, AreWraps, any_scope, DerivedThere, ShowsDerived}
 use Rattle.c_declarators.specs.Steps as steps
 use Rattle.c_declarators.specs.Steps.{new_enumeration_of}
+use Rattle.c_specifiers.specs.Naming.{some_list}
 use Rattle.c_readings.specs.declared.tree.TagParts.{TagParts}
 use Rattle.c_readings.specs.Kids.{IsTagged, tail_of, name_of}
 use Rattle.c_readings.specs.Folding.{SoFar}
 use Rattle.c_readings.specs.Specifying.{TypesThere, AreTypes, MaybeTypeThere, IsMaybeType, ParamsThere, AreParams}
-use Rattle.c_readings.specs.Specifying.{PrototypeThere, ShowsPrototype, some_list, maybe_type, types_on, type_behind}
+use Rattle.c_readings.specs.Specifying.{PrototypeThere, ShowsPrototype, maybe_type, types_on, type_behind}
 use Rattle.c_readings.specs.Specifying.{unstored, untagged, filled, tagged_record, members_on, members_of}
 use Rattle.c_readings.specs.Specifying.{declarators_on}
 use Rattle.c_readings.specs.Specifying.{declarator_at, listed, tagged_enumeration, enumerators_on, within, row_of}
@@ -1086,14 +1087,14 @@ type_of_node-returns-in_default t c =
     (readings xs) c.args.alone s n.place c.in_default.not-TypedefName c.in_default.not-Record c.in_default.not-Enum
     c.in_default.not-TypeName
 
-pub unstored-returns-then-either : goal.unstored-returns-then-either
-unstored-returns-then-either t c =
+pub unstored-returns-then-has_storage : goal.unstored-returns-then-has_storage
+unstored-returns-then-has_storage t c =
     λ x p. unstored_refused c.args.work.now c.specified.new.work (reading x) c.args.register c.args.pos c.in_ok-s.s
-    (sym c.either.ensures ∙ c.if-either.true) (c.in_ok-s.ensures x p)
+    (sym c.has_storage.ensures ∙ c.if-has_storage.true) (c.in_ok-s.ensures x p)
 
 pub unstored-returns : goal.unstored-returns
 unstored-returns t c = λ x p. unstored_done c.args.work.now c.specified.new.work
-    (reading x) c.args.register c.args.pos c.in_ok-s.s (sym c.either.ensures ∙ c.if-either.false)
+    (reading x) c.args.register c.args.pos c.in_ok-s.s (sym c.has_storage.ensures ∙ c.if-has_storage.false)
     (c.in_ok-s.ensures x p)
 
 pub type_name-unstored-requires : goal.type_name-unstored-requires

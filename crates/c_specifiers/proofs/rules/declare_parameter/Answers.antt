@@ -1,10 +1,10 @@
-use Rattle.std.proofs.Common.{ℕ, length, map, Ok, sym, ap, subst, ◌∙◌}
+use Rattle.std.proofs.Common.{ℕ, length, Ok, sym, ap, subst, ◌∙◌}
 use Rattle.std.proofs.lemmas.List.{length-map}
 use Rattle.c_tree.specs.Scopes.{change}
 use Rattle.c_tree.specs.Declarators.{bind_parameter}
 use Rattle.c_elaborator.specs.Answers.{Answers, quietly, NothingThere, IsNothing}
 use Rattle.c_declarators.specs.Parts.{param_in}
-use Rattle.c_readings.proofs.rules.declare_parameter.Goals as goal
+use Rattle.c_specifiers.proofs.rules.declare_parameter.Goals as goal
 
 pub returns-clause-answers : goal.returns-clause-answers
 returns-clause-answers c =

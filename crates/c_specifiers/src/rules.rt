@@ -7,28 +7,29 @@ ghost use Rattle.c_expressions.specs.Nodes.{IsWhole};
 ghost use Rattle.c_elaborator.specs.Answers.{Answers, quietly, TypeThere, IsType, NothingThere, IsNothing};
 ghost use Rattle.c_elaborator.specs.Parts.{token_of};
 ghost use Rattle.c_declarators.specs.Parts.{ParamThere, param_in};
-ghost use Rattle.c_readings.specs.Specifying.{some_list, names_kind, named_record, named_enum, bound_behind};
+ghost use Rattle.c_specifiers.specs.Naming.{some_list, names_kind, named_record, named_enum, bound_behind};
 
 use c_declarators::{Param, bind_parameter, named_enumeration, named_tag, tagged};
 use c_elaborator::{Name, Work};
 use c_tree::{NodeKind, RecordKind};
 use ck_base::{NoMemory, Refusal};
 
-pub(crate) fn either(a: bool, b: bool) -> bool
-    ensures { result ≡ (a || b) }
+/// Whether a storage class stands among specifiers: one that is `stored`, or `register`.
+pub fn has_storage(stored: bool, register: bool) -> bool
+    ensures { result ≡ (stored || register) }
 {
-    a || b
+    stored || register
 }
 
 /// Whether it is said that no declarator follows, and one part stands alone.
-pub(crate) fn is_lone(alone: bool, kids: &[u32]) -> bool
+pub fn is_lone(alone: bool, kids: &[u32]) -> bool
     ensures { result ≡ (alone && length kids.now == 1) }
 {
     alone && kids.len() == 1
 }
 
 /// Whether a specifier of this kind names a type, and is no word.
-pub(crate) fn names_type(kind: NodeKind) -> bool
+pub fn names_type(kind: NodeKind) -> bool
     ensures { names_kind kind ≡ result }
 {
     matches!(
@@ -38,7 +39,7 @@ pub(crate) fn names_type(kind: NodeKind) -> bool
 }
 
 /// One more type, if there is one.
-pub(crate) fn push_some(types: &mut Vec<u32>, of: Option<u32>) -> Result<(), NoMemory>
+pub fn push_some(types: &mut Vec<u32>, of: Option<u32>) -> Result<(), NoMemory>
     ensures { OnOk result (types.new.items ≡ types.old.items ++ some_list of) }
 {
     if let Some(k) = of {
@@ -48,7 +49,7 @@ pub(crate) fn push_some(types: &mut Vec<u32>, of: Option<u32>) -> Result<(), NoM
 }
 
 /// The type `int`.
-pub(crate) fn int_type(work: &mut Work<'_>) -> Result<u32, Refusal>
+pub fn int_type(work: &mut Work<'_>) -> Result<u32, Refusal>
     requires { IsWhole work.old.nodes }
     ensures { Answers quietly work.old work.new (give int) TypeThere IsType result }
 {
@@ -57,7 +58,7 @@ pub(crate) fn int_type(work: &mut Work<'_>) -> Result<u32, Refusal>
 }
 
 /// A struct or union by its tag alone.
-pub(crate) fn named_record(
+pub fn named_record(
     work: &mut Work<'_>,
     kind: RecordKind,
     alone: bool,
@@ -72,7 +73,7 @@ pub(crate) fn named_record(
 }
 
 /// An enumeration by its tag alone.
-pub(crate) fn named_enum(work: &mut Work<'_>, name: Name) -> Result<u32, Refusal>
+pub fn named_enum(work: &mut Work<'_>, name: Name) -> Result<u32, Refusal>
     requires { IsWhole work.old.nodes }
     ensures { Answers quietly work.old work.new (named_enum (token_of work.old name)) TypeThere IsType result }
 {
@@ -95,7 +96,7 @@ fn push(params: &mut Vec<Param>, p: Param) -> Result<(), NoMemory>
 }
 
 /// One more parameter, whose name is in force from here on.
-pub(crate) fn declare_parameter(
+pub fn declare_parameter(
     work: &mut Work<'_>,
     params: &mut Vec<Param>,
     p: Param,

@@ -1,7 +1,7 @@
 use Rattle.c_tree.specs.Declarators.{named_tag}
 use Rattle.c_elaborator.specs.Parts.{token_of}
-use Rattle.c_readings.proofs.Filling.{tagged_done}
-use Rattle.c_readings.proofs.rules.named_record.Goals as goal
+use Rattle.c_specifiers.proofs.Tagged.{tagged_done}
+use Rattle.c_specifiers.proofs.rules.named_record.Goals as goal
 
 pub returns : goal.returns
 returns c =

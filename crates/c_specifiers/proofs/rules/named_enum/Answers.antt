@@ -4,7 +4,7 @@ use Rattle.c_elaborator.specs.Answers.{quietly, TypeThere, IsType}
 use Rattle.c_elaborator.specs.Parts.{token_of}
 use Rattle.c_elaborator.proofs.Sequencing.{quiet_law, also_then}
 use Rattle.c_declarators.specs.Steps.{named_enumeration_of}
-use Rattle.c_readings.proofs.rules.named_enum.Goals as goal
+use Rattle.c_specifiers.proofs.rules.named_enum.Goals as goal
 
 pub returns : goal.returns
 returns c =

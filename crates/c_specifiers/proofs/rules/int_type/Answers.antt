@@ -2,7 +2,7 @@ use Rattle.std.proofs.Common.{refl, sym}
 use Rattle.c_tree.specs.Types.{int}
 use Rattle.c_elaborator.proofs.Growing.{quiet_nodes, shows_nodes}
 use Rattle.c_elaborator.proofs.Sequencing.{still_same}
-use Rattle.c_readings.proofs.rules.int_type.Goals as goal
+use Rattle.c_specifiers.proofs.rules.int_type.Goals as goal
 
 pub returns : goal.returns
 returns c =
