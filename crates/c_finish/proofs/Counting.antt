@@ -1,13 +1,8 @@
 -- Numbers that count what passes a test.
-use Rattle.std.proofs.Common.{◌≡◌, ℕ, zero, suc, ◌+◌, ◌≤◌, Bool, true, false, List, [], ◌∷◌, ◌++◌, length, Option, Some}
-use Rattle.std.proofs.Common.{None, refl, sym, ap, ◌∙◌, ◌⊎◌, inl, inr, ⊎_elim, arith, add-one, length-append}
+use Rattle.std.proofs.Common.{◌≡◌, ℕ, zero, suc, ◌+◌, ◌≤◌, Bool, true, false, List, [], ◌∷◌, ◌++◌, length, Some, refl}
+use Rattle.std.proofs.Common.{sym, ap, ◌∙◌, ◌⊎◌, inl, inr, ⊎_elim, arith, add-one, length-append}
 use Rattle.std.specs.Prelude.{slice_get, if◌then◌else◌}
-use Rattle.c_tree.specs.Scopes.{Body, RoutineState, State}
-use Rattle.c_tree.specs.Programs.{count_before, is_there}
-use Rattle.c_tree.specs.Views.{types_of, actions_of}
-use Rattle.c_elaborator.specs.declared.work.Work.{Work}
-use Rattle.c_elaborator.specs.declared.work.Definition.{Definition}
-use Rattle.c_elaborator.specs.Work.{Shows, Seen, option_seen, body_seen, seen_of, definition_of}
+use Rattle.c_tree.specs.Programs.{count_before}
 
 pub count_zero : {A : Type 0} (test : A → Bool) (xs : List A) → count_before test xs 0 ≡ 0
 count_zero test [] = refl
@@ -59,16 +54,3 @@ low_step false n m k e h = omega arith
 
 pub pushed_count : (xs ys : List ℕ) (n k : ℕ) → ys ≡ xs ++ n ∷ [] → length xs ≡ k → length ys ≡ k + 1
 pushed_count xs ys n k e l = ap length e ∙ omega (arith, length-append xs (n ∷ []))
-
-there_seen : (o : Option Body) (d : Option Definition) (f : Definition → Seen) →
-    option_seen body_seen o ≡ option_seen f d → is_there o ≡ is_there d
-there_seen None None f e = refl
-there_seen None (Some d) f e = absurd cc
-there_seen (Some b) None f e = absurd cc
-there_seen (Some b) (Some d) f e = refl
-
--- a function is defined where a definition of it was met
-pub body_there : (w : Work) (s : State) (k : ℕ) (f : RoutineState) → Shows w s → slice_get s.routines k ≡ Some f →
-    is_there f.body ≡ is_there (definition_of k w.definitions.items)
-body_there w s k f h e = there_seen f.body (definition_of k w.definitions.items)
-    (seen_of (types_of w.nodes.p.types) (actions_of w.nodes.p)) (h.definitions k f e)

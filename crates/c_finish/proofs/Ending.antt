@@ -1,9 +1,9 @@
 -- The finished program is that of the state.
-use Rattle.std.proofs.Common.{◌≡◌, ℕ, Bool, List, [], ◌++◌, length, map, Option, Some, None, Ok, Err, sym, ap, subst}
-use Rattle.std.proofs.Common.{◌∙◌}
-use Rattle.std.proofs.Common.{arith}
+use Rattle.std.proofs.Common.{◌≡◌, ℕ, ◌+◌, ◌<◌, Bool, List, [], ◌++◌, length, map, Option, Some, None, Ok, Err, sym, ap}
+use Rattle.std.proofs.Common.{subst, ◌∙◌, arith}
 use Rattle.std.specs.Prelude.{Result, slice_get, flat_map, if◌then◌else◌}
 use Rattle.ck_base.specs.declared.refusal.Refusal.{Refusal}
+use Rattle.std.specs.List.{position_or_len}
 use Rattle.std.proofs.lemmas.List.{append-nil, take_all}
 use Rattle.c_tree.specs.declared.syntax.Tree.{Tree}
 use Rattle.c_tree.specs.declared.typed.Expr.{Expr}
@@ -16,7 +16,7 @@ use Rattle.c_tree.specs.Scopes.{Fault, State}
 use Rattle.c_tree.specs.Passed.{Names, passed_program, call_name, calls_in}
 use Rattle.c_tree.specs.Views.{types_of, routine_of}
 use Rattle.c_tree.specs.Views as views
-use Rattle.c_tree.specs.Programs.{fault, file_begins, numbers_of, program_of, ended}
+use Rattle.c_tree.specs.Programs.{fault, file_begins, numbers_of, program_of, ended, is_main}
 use Rattle.c_tree.specs.Programs as programs
 use Rattle.c_elaborator.specs.declared.work.Work.{Work}
 use Rattle.c_elaborator.specs.Work.{Shows}
@@ -24,7 +24,10 @@ use Rattle.c_copy.specs.declared.numbers.Numbers.{Numbers}
 use Rattle.c_copy.specs.Copying.{actions_in}
 use Rattle.c_passing.specs.Routines.{IsPassedProgram}
 use Rattle.c_finish.specs.declared.file_end.Parts.{Parts}
-use Rattle.c_finish.specs.Finished.{IsFinished, Finished, IsWritten, IsSyntax, IsProgram, IsMain, HaveNumbers}
+use Rattle.c_file_rules.specs.MainFunction.{IsMain}
+use Rattle.c_file_rules.proofs.MainFunction.{place_there}
+use Rattle.c_file_rules.proofs.Shown.{routines_count}
+use Rattle.c_finish.specs.Finished.{IsFinished, Finished, IsShown, IsWritten, IsSyntax, IsProgram, HaveNumbers}
 use Rattle.c_finish.specs.Finished.{AreObjects, AreRoutines, EndsIn}
 use Rattle.c_finish.proofs.Records.{tag_agrees}
 
@@ -63,6 +66,17 @@ pub written_is : (w : Work) (p : Typed) (t : Numbers) (gs : List GlobalDef) (fs 
 written_is w p t gs fs es ss k v q n e m o r =
     λ s h. subst (λ (x : Typed). views.Shows x (program_of s)) (sym q)
     (shows_made w t gs fs es ss k v s n e m o (r s h) h)
+
+-- the number of `main` is that of a function, and there is a new one
+pub main_there : (w : Work) (t : Numbers) (k : ℕ) → IsShown w → IsMain w (Some k) → HaveNumbers w t →
+    k < length t.functions.items
+main_there w t k h m n =
+    let e = m h.state h.shows in
+    let a : position_or_len is_main h.state.routines < length h.state.routines = place_there h.state.routines e.0 in
+    let b : position_or_len is_main h.state.routines ≡ k = e.1 in
+    let c : length w.nodes.p.funs ≡ length h.state.routines = routines_count w h.state h.shows in
+    let d : length t.functions.items ≡ length w.nodes.p.funs = n.functions in
+    omega arith
 
 pub program_is : (w : Work) (tree : Tree) (p q : Typed) → tree ≡ w.tree.now → IsWritten w p → IsPassedProgram tree p q →
     IsProgram w q

@@ -26,8 +26,9 @@ use Rattle.c_copy.specs.declared.numbers.Numbers.{Numbers}
 use Rattle.c_copy.specs.Standing.{ActionStands, ActionStandsIn, AnyForm, NamesWithin, NamesThere}
 use Rattle.c_copy.proofs.Items.{get-push}
 use Rattle.c_copy.proofs.Order.{extends_length}
+use Rattle.c_file_rules.proofs.Backwards.{at_some}
+use Rattle.c_file_rules.proofs.Shown.{statics_count, routines_count, IsFunction}
 use Rattle.c_finish.specs.Finished.{IsShown, HaveNumbers, AreRoutines, IsRoutine, BodiesThere}
-use Rattle.c_finish.proofs.Faulting.{at_some, statics_count, routines_count, IsFunction}
 use Rattle.c_finish.proofs.Globals.{flat_taken}
 
 abbrev routine_with : Span → Pos → Ty → List ℕ → List Variable → Action → Routine

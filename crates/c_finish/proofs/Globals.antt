@@ -22,10 +22,11 @@ use Rattle.c_elaborator.specs.Work.{Shows, aiming_of, filling_of}
 use Rattle.c_elaborator.specs.Work as works
 use Rattle.c_copy.specs.declared.numbers.Numbers.{Numbers}
 use Rattle.c_copy.specs.Standing.{TargetThere}
+use Rattle.c_file_rules.proofs.Backwards.{at_some}
+use Rattle.c_file_rules.proofs.Shown.{static_is, statics_count, routines_count}
 use Rattle.c_finish.specs.Finished.{filled, AimFits, IsShown, IsFaultless, IsNear, AreNear, TargetFits, StartsFit}
 use Rattle.c_finish.specs.Finished.{HaveNumbers}
 use Rattle.c_finish.specs.Tables.{last_filling}
-use Rattle.c_finish.proofs.Faulting.{at_some, static_is, statics_count, routines_count}
 
 -- ---- pointers
 

@@ -1,9 +1,7 @@
 pub mod Bodies
 pub mod Counting
 pub mod Ending
-pub mod Faulting
 pub mod Firsts
 pub mod Functions
 pub mod Globals
-pub mod MainFunction
 pub mod Records

@@ -2,7 +2,6 @@
 use Rattle.std.specs.Prelude.{ℤ, pos, neg_ℤ, ◌≤ℤ◌, ◌^◌}
 use Rattle.std.specs.Prelude.{◌≡◌, ℕ, ◌+◌, ◌<◌, ◌≤◌, true, false, List, [], ◌∷◌, ◌++◌, length, map, flat_map, take}
 use Rattle.std.specs.Prelude.{Option, Some, None, Result, Ok, Err, slice_get}
-use Rattle.std.specs.List.{position_or_len}
 use Rattle.ck_base.specs.declared.positions.Pos.{Pos}
 use Rattle.ck_base.specs.declared.refusal.Refusal.{Refusal}
 use Rattle.ck_base.specs.declared.refusal.Refusal.TheVariants.{Code, NoMemory}
@@ -30,6 +29,7 @@ use Rattle.c_copy.specs.Copying.{AreNumbers, actions_in}
 use Rattle.c_copy.specs.Order.{PartsBefore}
 use Rattle.c_copy.specs.Standing.{ActionStands, AnyForm, NamesWithin}
 use Rattle.c_passing.specs.Passes.{VarWithin, FormWithin}
+use Rattle.c_file_rules.specs.MainFunction.{IsMain}
 use Rattle.c_finish.specs.declared.file_end.Parts.{Parts}
 
 -- the lists stand for the program that the file is
@@ -147,12 +147,6 @@ abbrev pub AddsRoutine : Work → ℕ → List Expr → List Stmt → List FunDe
 AddsRoutine w k es ss fs ds rs gs =
     (s : State) → works.Shows w s → k < length s.routines → AreRoutines w es ss s k fs →
     AreRoutines w ds rs s (k + 1) gs
-
--- the number of `main`, and that there is none
-abbrev pub IsMain : Work → Option ℕ → Type 0
-IsMain w (Some k) = (s : State) → works.Shows w s →
-    (programs.has_main s.routines ≡ true) × (position_or_len programs.is_main s.routines ≡ k)
-IsMain w None = (s : State) → works.Shows w s → programs.has_main s.routines ≡ false
 
 -- the lists stand for the program of each state that the work stands for, as it is written
 abbrev pub IsWritten : Work → Typed → Type 0

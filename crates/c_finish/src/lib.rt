@@ -1,14 +1,11 @@
-//! The end of the elaboration of a C file: the rules that wait for the end of the file, and the finished program.
+//! The end of the elaboration of a C file: the finished program.
 //!
 //! Promise: the program is the definition's, or the failure that stands first in the file decides.
-//! Definitions (`specs/`): `Programs` of `c_tree`; here `Finished`, `Faults`.
-//! Main lemmas (`proofs/`): `Ending`, `Faulting`.
+//! Definitions (`specs/`): `Programs` of `c_tree`; here `Finished`, `Tables`.
+//! Main lemmas (`proofs/`): `Ending`, `Globals`, `Functions`, `Bodies`.
 #![tactic(auto)]
 
-mod faults;
 mod file_end;
-mod found;
-mod main_function;
 mod numbering;
 mod objects;
 mod routines;

@@ -14,9 +14,10 @@ ghost use Rattle.c_finish.specs.Finished.{IsShown, IsFaultless, IsNear, AreNear,
 ghost use Rattle.c_finish.specs.Finished.{AreObjects, AddsObject, filled};
 ghost use Rattle.c_finish.specs.Tables.{HasFillings};
 
-use crate::tables::{count, filling, global_at};
+use crate::tables::filling;
 use c_copy::Numbers;
 use c_elaborator::{Bounds, Filling, Start, Work};
+use c_file_rules::{count, global_at};
 use c_tree::{GlobalDef, Link};
 use ck_base::{NoMemory, Sequence};
 

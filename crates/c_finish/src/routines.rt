@@ -5,13 +5,13 @@ ghost use Rattle.c_tree.specs.Scopes.{State};
 ghost use Rattle.c_elaborator.specs.Work.{Shows};
 ghost use Rattle.c_copy.specs.Copying.{Extends};
 ghost use Rattle.c_copy.specs.Order.{PartsBefore};
+ghost use Rattle.c_file_rules.specs.Tables.{HasDefinitions};
 ghost use Rattle.c_finish.specs.Finished.{IsShown, HaveNumbers, AreRoutines, IsRoutine, AddsRoutine, BodiesThere};
-ghost use Rattle.c_finish.specs.Tables.{HasDefinitions};
 ghost use Rattle.c_elaborator.specs.Work.{definition_of};
 
-use crate::tables::{count, definition, function_at};
 use c_copy::{Copied, Numbers, Source, statement};
 use c_elaborator::{Definition, Work};
+use c_file_rules::{count, definition, function_at};
 use c_tree::{FunDef, VarDef};
 use ck_base::{NoMemory, Sequence};
 use std::alloc::Global;

@@ -1,32 +1,16 @@
-//! What counts of all that was said of each object and function, by their numbers: the first use, the last definition
-//! and the last initial value.
+//! The tables of what counts of all that was said of each object and function, by their numbers: the first use, the
+//! last definition and the last initial value.
 
 ghost use Rattle.std.specs.Prelude.{◌≡◌, ◌<◌, Some, IfOk, None, length, option_map, slice_set, slice_get};
-ghost use Rattle.c_elaborator.specs.Work.{definition_of, UseIsThere};
+ghost use Rattle.c_elaborator.specs.Work.{UseIsThere};
+ghost use Rattle.c_file_rules.specs.Tables.{AreUses, HasDefinitions};
 ghost use Rattle.c_finish.specs.Finished.{IsShown};
-ghost use Rattle.c_finish.specs.Tables.{AreUses, HasDefinitions, HasFillings, last_filling, IsBlank, AddsUse};
+ghost use Rattle.c_finish.specs.Tables.{HasFillings, last_filling, IsBlank, AddsUse};
 
-use c_elaborator::{Definition, Filling, Use, Used, Work};
-use c_tree::{FunDef, GlobalDef};
+use c_elaborator::{Filling, Use, Used, Work};
+use c_file_rules::{Uses, count, definition_at, entry};
 use ck_base::{NoMemory, Pos};
 use std::alloc::Global;
-
-/// Where each object and each function is first used.
-#[derive(Drop)]
-pub(crate) struct Uses {
-    pub objects: Vec<Option<Pos>>,
-    pub functions: Vec<Option<Pos>>,
-}
-
-/// How many there are.
-pub(crate) fn count(n: usize) -> Result<u32, NoMemory>
-    ensures { IfOk result (λ k. k ≡ n) }
-{
-    match u32::try_from(n) {
-        Ok(k) => Ok(k),
-        Err(_) => Err(NoMemory),
-    }
-}
 
 fn no_places(alloc: Global, n: usize) -> Result<Vec<Option<Pos>>, NoMemory>
     ensures blank { IfOk result (λ v. IsBlank v.items) }
@@ -105,38 +89,6 @@ pub(crate) fn first_uses(work: &Work<'_>) -> Result<Uses, NoMemory>
     Ok(table)
 }
 
-impl Uses {
-    pub(crate) fn object(&self, k: u32) -> Option<Pos>
-        requires { k < length self.now.objects.items }
-        ensures { slice_get self.now.objects.items k ≡ Some result }
-    {
-        match self.objects.get(k as usize).copied() {
-            Some(o) => o,
-            None => unreachable!(),
-        }
-    }
-
-    pub(crate) fn function(&self, k: u32) -> Option<Pos>
-        requires { k < length self.now.functions.items }
-        ensures { slice_get self.now.functions.items k ≡ Some result }
-    {
-        match self.functions.get(k as usize).copied() {
-            Some(o) => o,
-            None => unreachable!(),
-        }
-    }
-}
-
-fn definition_at(definitions: &[Definition], i: u32) -> &Definition
-    requires { i < length definitions.now }
-    ensures { slice_get definitions.now i ≡ Some result.now }
-{
-    match definitions.get(i as usize) {
-        Some(d) => d,
-        None => unreachable!(),
-    }
-}
-
 fn filling_at(fillings: &[Filling], i: u32) -> &Filling
     requires { i < length fillings.now }
     ensures { slice_get fillings.now i ≡ Some result.now }
@@ -175,55 +127,6 @@ pub(crate) fn last_fillings(work: &Work<'_>) -> Result<Vec<Option<u32>>, NoMemor
         set_number(&mut table, f.object, i);
     }
     Ok(table)
-}
-
-/// An object by its number.
-pub(crate) fn global_at<'a>(work: &'a Work<'_>, k: u32) -> &'a GlobalDef
-    requires { k < length work.now.nodes.p.globals }
-    ensures { slice_get work.now.nodes.p.globals k ≡ Some result.now }
-{
-    match work.nodes.p.globals.as_slice().get(k as usize) {
-        Some(g) => g,
-        None => unreachable!(),
-    }
-}
-
-/// A function by its number.
-pub(crate) fn function_at<'a>(work: &'a Work<'_>, k: u32) -> &'a FunDef
-    requires { k < length work.now.nodes.p.funs }
-    ensures { slice_get work.now.nodes.p.funs k ≡ Some result.now }
-{
-    match work.nodes.p.funs.as_slice().get(k as usize) {
-        Some(f) => f,
-        None => unreachable!(),
-    }
-}
-
-/// An entry of a table.
-fn entry(table: &[Option<u32>], k: u32) -> Option<u32>
-    requires { k < length table.now }
-    ensures { slice_get table.now k ≡ Some result }
-{
-    match table.get(k as usize).copied() {
-        Some(o) => o,
-        None => unreachable!(),
-    }
-}
-
-/// The definition of a function, if it has one.
-pub(crate) fn definition<'a>(
-    work: &'a Work<'_>,
-    table: &[Option<u32>],
-    k: u32,
-) -> Option<&'a Definition>
-    requires definitions { HasDefinitions work.now table.now }
-    requires there { k < length work.now.nodes.p.funs }
-    ensures { option_map (λ d. d.now) result ≡ definition_of k work.now.definitions.items }
-{
-    match entry(table, k) {
-        None => None,
-        Some(at) => Some(definition_at(work.definitions.as_slice(), at)),
-    }
 }
 
 /// The initial value of an object, if it has one.

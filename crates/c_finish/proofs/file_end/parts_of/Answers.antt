@@ -1,7 +1,6 @@
 use Rattle.std.proofs.Common.{refl}
 use Rattle.c_finish.proofs.Functions.{none_before}
-use Rattle.c_finish.proofs.Ending.{written_is}
-use Rattle.c_finish.proofs.MainFunction.{main_there}
+use Rattle.c_finish.proofs.Ending.{written_is, main_there}
 use Rattle.c_finish.proofs.file_end.parts_of.Goals as goal
 
 pub returns : goal.returns

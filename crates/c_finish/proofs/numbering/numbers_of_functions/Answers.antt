@@ -1,8 +1,9 @@
 use Rattle.std.proofs.Common.{◌≡◌, ◌<◌, length, sym, ap, ◌∙◌, arith}
 use Rattle.c_tree.specs.Scopes.{RoutineState}
 use Rattle.c_tree.specs.Programs.{numbers_of, is_there}
-use Rattle.c_finish.proofs.Faulting.{at_some, routines_count}
-use Rattle.c_finish.proofs.Counting.{low_step, count_zero, count_step, filled_push, pushed_count, body_there}
+use Rattle.c_file_rules.proofs.Backwards.{at_some}
+use Rattle.c_file_rules.proofs.Shown.{routines_count, body_there}
+use Rattle.c_finish.proofs.Counting.{low_step, count_zero, count_step, filled_push, pushed_count}
 use Rattle.c_finish.proofs.Counting.{nothing_filled}
 use Rattle.c_finish.proofs.numbering.numbers_of_functions.Goals as goal
 

@@ -2,7 +2,8 @@ use Rattle.std.proofs.Common.{◌≡◌, ◌<◌, length, ap, ◌∙◌, arith}
 use Rattle.c_tree.specs.Scopes.{StaticState}
 use Rattle.c_tree.specs.Programs.{numbers_of}
 use Rattle.c_types.specs.Members.{is_defined}
-use Rattle.c_finish.proofs.Faulting.{at_some, statics_count}
+use Rattle.c_file_rules.proofs.Backwards.{at_some}
+use Rattle.c_file_rules.proofs.Shown.{statics_count}
 use Rattle.c_finish.proofs.Counting.{low_step, count_zero, count_step, filled_push, pushed_count, nothing_filled}
 use Rattle.c_finish.proofs.numbering.numbers_of_objects.Goals as goal
 

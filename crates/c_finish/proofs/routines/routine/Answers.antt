@@ -1,7 +1,7 @@
 use Rattle.std.proofs.Common.{◌∙◌, ◌<◌, length}
 use Rattle.c_tree.specs.Programs.{numbers_of}
 use Rattle.c_tree.specs.Views.{types_of}
-use Rattle.c_finish.proofs.Faulting.{function_is}
+use Rattle.c_file_rules.proofs.Shown.{function_is}
 use Rattle.c_finish.proofs.Firsts.{definition_met}
 use Rattle.c_finish.proofs.Functions.{routine_is, body_stands}
 use Rattle.c_finish.proofs.routines.routine.Goals as goal

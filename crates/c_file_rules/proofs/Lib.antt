@@ -1,0 +1,4 @@
+pub mod Backwards
+pub mod Faulting
+pub mod MainFunction
+pub mod Shown
