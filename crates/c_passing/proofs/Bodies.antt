@@ -1,7 +1,6 @@
 -- The body of a function as it is run, and the function.
-use Rattle.std.proofs.Common.{◌≡◌, ℕ, suc, ◌+◌, ◌-◌, List, [], ◌∷◌, ◌++◌, length, get_or, take, map, Some, refl}
-use Rattle.std.proofs.Common.{sym, ap}
-use Rattle.std.proofs.Common.{subst, ◌∙◌, ⊎_elim, arith, length-append}
+use Rattle.std.proofs.Common.{◌≡◌, ℕ, suc, ◌+◌, ◌-◌, List, [], ◌∷◌, ◌++◌, length, get_or, take, map, Some, refl, sym}
+use Rattle.std.proofs.Common.{ap, subst, ◌∙◌, ⊎_elim, arith, length-append}
 use Rattle.std.specs.Prelude.{slice_get}
 use Rattle.std.proofs.lemmas.List.{map-append, take-map}
 use Rattle.ck_base.specs.declared.positions.Pos.{Pos}
@@ -11,7 +10,7 @@ use Rattle.c_tree.specs.declared.typed.VarDef.{VarDef}
 use Rattle.c_tree.specs.declared.typed.FunDef.{FunDef}
 use Rattle.c_tree.specs.Types.{Ty}
 use Rattle.c_tree.specs.Terms as tree
-use Rattle.c_tree.specs.Terms.{Variable, Term, terms, Action, action, actions, Routine, numbers_from}
+use Rattle.c_tree.specs.Terms.{Variable, terms, Action, action, actions, Routine, numbers_from}
 use Rattle.c_tree.specs.Views.{stmt_from, no_action, action_at, variable_of, routine_of}
 use Rattle.c_tree.specs.Passed.{Names, Passing, hidden_of, passed_action, passing, param_copies, opened, passed_body}
 use Rattle.c_tree.specs.Passed.{passed_routine, result_pointer, written_params, copied_params, named_variables}
@@ -19,21 +18,22 @@ use Rattle.c_copy.specs.Copying.{Extends, AllBelow, actions_in, terms_in}
 use Rattle.c_copy.proofs.Copies.{forest_front, longer, extends_then, extends_push}
 use Rattle.c_copy.proofs.Order.{at_end}
 use Rattle.c_copy.proofs.Items.{get-push}
-use Rattle.c_passing.specs.declared.nodes.Source.{Source}
-use Rattle.c_passing.specs.declared.nodes.Made.{Made}
+use Rattle.passing_steps.specs.declared.nodes.Source.{Source}
+use Rattle.passing_steps.specs.declared.nodes.Made.{Made}
 use Rattle.c_passing.specs.declared.functions.Whole.{Whole}
 use Rattle.c_passing.specs.declared.functions.Standing.{Standing}
-use Rattle.c_passing.specs.Named.{name_in}
 use Rattle.c_passing.specs.Lists.{hidden_of_each, passed_each_action, copies_of}
-use Rattle.c_passing.specs.Ordered.{Takes, VarsTyped}
-use Rattle.c_passing.specs.Passes.{written_action, Fits, HasAction, Hides, AddsActions, ArePassedActions}
+use Rattle.c_passing.specs.Passes.{written_action, AddsActions, ArePassedActions}
 use Rattle.c_passing.specs.Routines.{WholeFits, written_routine, source_routine, source_variable, IsNamed}
-use Rattle.c_passing.specs.Routines.{AreParamCopies, AreBlockVars, IsBody, FunctionTyped, IsFunction, AreFunctions}
-use Rattle.c_passing.proofs.Calling.{hides_vars, hides_count}
+use Rattle.c_passing.specs.Routines.{AreParamCopies, IsBody, FunctionTyped, IsFunction, AreFunctions}
 use Rattle.c_passing.proofs.Hiding.{copies_list}
-use Rattle.c_passing.proofs.Ordering.{in_stmt, in_stmts}
 use Rattle.c_passing.proofs.Stating.{written_action_is, hidden_action, action_passed_is}
-use Rattle.c_passing.proofs.Trees.{no_terms_have, action_made, no_actions_have}
+use Rattle.passing_steps.specs.Named.{name_in}
+use Rattle.passing_steps.specs.Ordered.{Takes, VarsTyped}
+use Rattle.passing_steps.specs.Steps.{Fits, HasAction, Hides, AreBlockVars}
+use Rattle.passing_steps.proofs.Calling.{hides_vars, hides_count}
+use Rattle.passing_steps.proofs.Ordering.{in_stmt, in_stmts}
+use Rattle.passing_steps.proofs.Trees.{no_terms_have, action_made, no_actions_have}
 
 -- ---- the body
 
@@ -137,7 +137,8 @@ body_passed s f old a b new d vars body js ls vs params before local other hid e
       ∙ ap (λ m. (numbers_from m (length (copied_params r)) ++ mid) ++ numbers_from hid (end - hid)) local_copied
       ∙ ap (λ m. (A ++ mid) ++ numbers_from hid m) others
       ∙ ap (λ m. (A ++ mid) ++ numbers_from m (length (hidden_of names r.body))) (h.hidden_is ∙ count) in
-      let whole : passed_body names r ≡ action (tree.Block ((A ++ mid) ++ B)) (terms []) (actions (copies ++ passed_each_action e hidden ys)) d.pos =
+      let whole : passed_body names r ≡ action (tree.Block ((A ++ mid) ++ B)) (terms [])
+      (actions (copies ++ passed_each_action e hidden ys)) d.pos =
       ap (λ x. opened A B (param_copies result copied (written_params r)) x)
       (ap (passed_action e hidden) (body_read s f d vars body h.there h.is h.below)
       ∙ passed_block e hidden vars ys d.pos)
@@ -226,7 +227,8 @@ function_made w s f g n old new h = record {
       ∙ ap (λ zs. zs ++ hidden_of names (source_routine s f).body)
       (ap (map (variable_of ts)) h.vars ∙ h.standing.vars.is ts fits)
       ∙ ap (λ (x : Routine). named_variables r ++ hidden_of names x.body) same in
-      let params : g.params ≡ numbers_from 0 (length (result_pointer r) + length f.params) = h.params ∙ ap (numbers_from 0) (let b = h.standing.before in omega arith) in
+      let params : g.params ≡ numbers_from 0 (length (result_pointer r) + length f.params) =
+      h.params ∙ ap (numbers_from 0) (let b = h.standing.before in omega arith) in
       routine_same (routine_of ts (actions_in ts (new.exprs.items ++ more) new.stmts.items) g)
       (passed_routine names r) h.name h.pos (fits.types.numbers f.of g.of h.of) params vars (made.is more);
 }

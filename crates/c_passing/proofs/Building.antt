@@ -8,23 +8,23 @@ use Rattle.c_tree.specs.declared.typed.StmtKind.{StmtKind}
 use Rattle.c_tree.specs.declared.typed.StmtKind.TheVariants as stmts
 use Rattle.c_tree.specs.Types.{Ty, bare}
 use Rattle.c_tree.specs.Terms as tree
-use Rattle.c_tree.specs.Terms.{Variable, Form, Term, terms, type_of, Action, action, actions}
+use Rattle.c_tree.specs.Terms.{Variable, Term, terms, type_of, action, actions}
 use Rattle.c_tree.specs.Views.{values, parts}
 use Rattle.c_tree.specs.Passed.{Names, Passing, by_pointer, hidden_in, hidden_of, ahead, passed_form, passed_term}
 use Rattle.c_tree.specs.Passed.{passed_action, given_back}
 use Rattle.c_copy.specs.Copying.{Extends, AllBelow, stmt_form}
 use Rattle.c_copy.proofs.Copies.{action_same, extends_then, extends_push}
-use Rattle.c_passing.specs.declared.nodes.Source.{Source}
-use Rattle.c_passing.specs.declared.nodes.Made.{Made}
+use Rattle.passing_steps.specs.declared.nodes.Source.{Source}
+use Rattle.passing_steps.specs.declared.nodes.Made.{Made}
 use Rattle.c_passing.specs.Lists.{hidden_in_each, hidden_of_each, passed_each, passed_each_action}
-use Rattle.c_passing.specs.Passes.{written_type, written_term, written_action, Fits, HasTerms, HasAction, HasActions}
-use Rattle.c_passing.specs.Passes.{Hides, AddsTerms, IsPassed, ArePassed, AddsActions, IsGivenBack, IsGivenValue}
-use Rattle.c_passing.specs.Passes.{IsReturned, IsPassedAction, ArePassedActions}
-use Rattle.c_passing.proofs.Calling.{hides_then, hides_vars, hides_count}
-use Rattle.c_passing.proofs.Ordering.{in_then, in_stmt}
+use Rattle.c_passing.specs.Passes.{written_term, written_action, AddsTerms, IsPassed, ArePassed, AddsActions}
+use Rattle.c_passing.specs.Passes.{IsGivenValue, IsReturned, IsPassedAction, ArePassedActions}
 use Rattle.c_passing.proofs.Stating.{written_action_is, hidden_action, GivesPlainly, action_passed_is}
 use Rattle.c_passing.proofs.Stating.{return_by_pointer}
-use Rattle.c_passing.proofs.Trees.{terms_more, action_made, no_actions_have, actions_more}
+use Rattle.passing_steps.specs.Steps.{written_type, Fits, HasTerms, HasAction, HasActions, Hides, IsGivenBack}
+use Rattle.passing_steps.proofs.Calling.{hides_then, hides_vars, hides_count}
+use Rattle.passing_steps.proofs.Ordering.{in_then, in_stmt}
+use Rattle.passing_steps.proofs.Trees.{terms_more, action_made, no_actions_have, actions_more}
 
 -- ---- a statement that gives nothing back by a pointer
 
@@ -51,7 +51,8 @@ gives_plainly s k h = λ x e q.
     by : (o : Option ℕ) → k ≡ stmts.Return o → (x : Term) → map (written_term s) (values k) ≡ x ∷ [] →
         by_pointer (type_of x) ≡ false
     by None e x q =
-        absurd (let z : map (written_term s) (values (stmts.Return None)) ≡ x ∷ [] = ap (λ z. map (written_term s) (values z)) (sym e) ∙ q in cc)
+        absurd (let z : map (written_term s) (values (stmts.Return None)) ≡ x ∷ [] =
+        ap (λ z. map (written_term s) (values z)) (sym e) ∙ q in cc)
     by (Some a) e x q =
         let z : map (written_term s) (values (stmts.Return (Some a))) ≡ x ∷ [] =
         ap (λ z. map (written_term s) (values z)) (sym e) ∙ q in
@@ -128,7 +129,8 @@ statement_passed s old a b c new k j d r vs js ls h = record {
       action_made ts c.exprs.items c.stmts.items new.stmts.items r j (passed_each e v xs) zs h.pushed h.number
       (subst (λ ks. HasTerms ts c.exprs.items ks (passed_each e v xs)) (sym h.values_are) terms-c)
       (subst (λ ks. HasActions ts c.exprs.items c.stmts.items ks zs) (sym h.parts_are) two) in
-      let is : action (stmt_form r.kind) (terms (passed_each e v xs)) (actions zs) r.pos ≡ passed_action e u (written_action s k) =
+      let is : action (stmt_form r.kind) (terms (passed_each e v xs)) (actions zs) r.pos
+      ≡ passed_action e u (written_action s k) =
       action_same (stmt_form r.kind) (passed_form e f) (terms (passed_each e v xs)) (terms (passed_each e v xs))
       (actions zs) (actions zs) r.pos d.pos (h.form ts e fits) refl refl h.place
       ∙ sym (ap (passed_action e u) (written_action_is s k d h.there h.below)

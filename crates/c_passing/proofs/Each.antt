@@ -1,8 +1,8 @@
 -- Lists of expressions and statements as they are run, with one item more.
-use Rattle.std.proofs.Common.{◌≡◌, ℕ, ◌+◌, ◌<◌, true, false, List, [], ◌∷◌, ◌++◌, length, get_or, take, map, Some, None}
-use Rattle.std.proofs.Common.{refl, sym, ap, subst, ◌∙◌, arith, length-append, append_assoc}
+use Rattle.std.proofs.Common.{◌≡◌, ℕ, ◌+◌, ◌<◌, true, false, List, [], ◌∷◌, ◌++◌, length, get_or, take, map, Some}
+use Rattle.std.proofs.Common.{None, refl, sym, ap, subst, ◌∙◌, arith, length-append, append_assoc}
 use Rattle.std.specs.Prelude.{slice_get, flat_map}
-use Rattle.std.proofs.lemmas.List.{append-nil, map-append, take_more}
+use Rattle.std.proofs.lemmas.List.{append-nil}
 use Rattle.ck_base.specs.declared.positions.Pos.{Pos}
 use Rattle.c_tree.specs.declared.typed.Expr.{Expr}
 use Rattle.c_tree.specs.Types.{Ty, bare}
@@ -11,25 +11,20 @@ use Rattle.c_tree.specs.Passed.{Names, Passing, by_pointer, hidden_in, hidden_of
 use Rattle.c_tree.specs.Passed.{passed_action}
 use Rattle.c_copy.specs.Copying.{Extends}
 use Rattle.c_copy.proofs.Copies.{extends_same, extends_then}
-use Rattle.c_passing.specs.declared.nodes.Source.{Source}
-use Rattle.c_passing.specs.declared.nodes.Made.{Made}
+use Rattle.passing_steps.specs.declared.nodes.Source.{Source}
+use Rattle.passing_steps.specs.declared.nodes.Made.{Made}
 use Rattle.c_passing.specs.Lists.{hidden_in_each, hidden_of_each, hidden_for_each, passed_each, passed_each_action}
 use Rattle.c_passing.specs.Lists.{passed_argument, passed_each_argument}
-use Rattle.c_passing.specs.Ordered.{Takes}
-use Rattle.c_passing.specs.Passes.{written_type, written_term, written_action, Fits, HasTerm, Hides, IsHidden, IsPassed}
-use Rattle.c_passing.specs.Passes.{ArePassed, AddsTerms, IsByAddress, AreCounted, ArePassedArguments, AddsActions}
-use Rattle.c_passing.specs.Passes.{IsPassedAction, ArePassedActions}
-use Rattle.c_passing.proofs.Calling.{written_of, hides_none, hides_then, hides_vars, hides_count}
+use Rattle.c_passing.specs.Passes.{written_term, written_action, IsPassed, ArePassed, AddsTerms, AreCounted}
+use Rattle.c_passing.specs.Passes.{ArePassedArguments, AddsActions, IsPassedAction, ArePassedActions}
+use Rattle.c_passing.proofs.Calling.{written_of}
 use Rattle.c_passing.proofs.Hiding.{hidden_push, each_push, each_action_push, each_argument_push}
-use Rattle.c_passing.proofs.Ordering.{in_then, in_more, in_stmts}
-use Rattle.c_passing.proofs.Trees.{no_terms_have, terms_more, terms_push, actions_more, actions_push}
-
--- what stands for the numbers so far, and for one more
-pub map_turn : {T : Type 0} (f : ℕ → T) (ks : List ℕ) (i k : ℕ) → i < length ks → k ≡ get_or ks i 0 →
-    map f (take (i + 1) ks) ≡ map f (take i ks) ++ f k ∷ []
-map_turn f ks i k lt e =
-    ap (map f) (take_more ks i 0 lt) ∙ map-append f (take i ks) (get_or ks i 0 ∷ [])
-    ∙ ap (λ j. map f (take i ks) ++ f j ∷ []) (sym e)
+use Rattle.passing_steps.specs.Ordered.{Takes}
+use Rattle.passing_steps.specs.Steps.{written_type, Fits, HasTerm, Hides, IsHidden, IsByAddress}
+use Rattle.passing_steps.proofs.Calling.{hides_none, hides_then, hides_vars, hides_count}
+use Rattle.passing_steps.proofs.Ordering.{in_then, in_more, in_stmts}
+use Rattle.passing_steps.proofs.Trees.{no_terms_have, terms_more, terms_push, actions_more, actions_push}
+use Rattle.passing_steps.proofs.Counting.{map_turn}
 
 pub hides_push : {A : Type 0} (s : Source) (a b c : Made) (f : Names → A → List Variable) (xs : List A) (x : A) →
     Hides s a b (λ names. flat_map (f names) xs) → Hides s b c (λ names. f names x) →

@@ -86,7 +86,8 @@ mutual
   few_parts ns [] (more x xs) ks s h = elim s [ ]
   few_parts ns (i ∷ is) nil ks s h = elim s [ ]
   few_parts ns [] nil ks none h =
-      (let few : length ks ≤ length ns = length-le_from_distinct_below ks (length ns) h.distinct (λ q e. let y = h.higher q e in node_there ns q y.0 y.1) in omega arith)
+      (let few : length ks ≤ length ns = length-le_from_distinct_below ks (length ns) h.distinct
+      (λ q e. let y = h.higher q e in node_there ns q y.0 y.1) in omega arith)
   few_parts ns (i ∷ is) (more x xs) ks (next a b) h =
       let first : levels x + length ks ≤ length ns =
       few_below ns i x ks a (lower ns ks (levels x) (deepest (more x xs)) (omega arith) h) in

@@ -7,11 +7,9 @@ pub mod Least
 pub mod Levels
 pub mod Naming
 pub mod Numbering
-pub mod Ordering
 pub mod Passing
 pub mod Programs
 pub mod Returning
 pub mod Standing
 pub mod Stating
-pub mod Trees
 pub mod Within

@@ -1,6 +1,6 @@
 -- The names of calls, as they are gathered.
-use Rattle.std.proofs.Common.{◌≡◌, ℕ, Bool, true, false, cond, eqb, List, [], ◌∷◌, ◌++◌, Option, Some, None, refl, sym}
-use Rattle.std.proofs.Common.{ap, subst, ◌∙◌, append_assoc, Bor}
+use Rattle.std.proofs.Common.{◌≡◌, ℕ, Bool, true, false, cond, eqb, List, [], ◌∷◌, ◌++◌, Option, Some, None, refl}
+use Rattle.std.proofs.Common.{sym, ap, subst, ◌∙◌, append_assoc, Bor}
 use Rattle.std.specs.Prelude.{◌&&◌, slice_get}
 use Rattle.std.specs.Map.{lookup}
 use Rattle.std.specs.Option.{is_some, option_copied}
@@ -15,9 +15,9 @@ use Rattle.c_tree.specs.declared.syntax.NodeKind.TheVariants as Kinds
 use Rattle.c_tree.specs.declared.syntax.Tree.{Tree}
 use Rattle.c_tree.specs.Syntax.{Syn, Syns, node, nil, more, joined, StandsAt, StandAt, stands, none, next}
 use Rattle.c_tree.specs.Passed.{same_place, calls_in, all_calls_in, call_name}
-use Rattle.c_passing.specs.declared.names.Names.{Names}
-use Rattle.c_passing.specs.Named.{same_pair, known_at, name_or, name_in, first_at, Knows, AddsName, own_calls, AddsCall}
-use Rattle.c_passing.specs.Named.{Gathers}
+use Rattle.passing_steps.specs.declared.names.Names.{Names}
+use Rattle.c_passing.specs.Named.{first_at, Knows, AddsName, own_calls, AddsCall, Gathers}
+use Rattle.passing_steps.specs.Named.{same_pair, known_at, name_or, name_in}
 
 -- ---- the first call at a place
 

@@ -1,8 +1,7 @@
 -- Expressions as they are run.
-use Rattle.std.proofs.Common.{◌≡◌, ℕ, ◌+◌, Bool, true, false, List, [], ◌∷◌, ◌++◌, length, get_or, map, Some, refl, sym}
-use Rattle.std.proofs.Common.{ap, subst, ◌∙◌, arith, length-append, append_assoc}
-use Rattle.std.specs.Prelude.{slice_get, Result, Ok, Err, OnOk}
-use Rattle.ck_base.specs.declared.refusal.NoMemory.{NoMemory}
+use Rattle.std.proofs.Common.{◌≡◌, ℕ, ◌+◌, Bool, true, false, List, [], ◌∷◌, ◌++◌, length, get_or, map, Some, refl}
+use Rattle.std.proofs.Common.{sym, ap, subst, ◌∙◌, arith, length-append, append_assoc}
+use Rattle.std.specs.Prelude.{slice_get}
 use Rattle.ck_base.specs.declared.positions.Pos.{Pos}
 use Rattle.ck_int.specs.declared.kinds.IntOp.{IntOp}
 use Rattle.c_tree.specs.declared.typed.Expr.{Expr}
@@ -10,7 +9,7 @@ use Rattle.c_tree.specs.declared.typed.ExprKind.{ExprKind}
 use Rattle.c_tree.specs.declared.typed.ExprKind.TheVariants as exprs
 use Rattle.c_tree.specs.Types.{Ty, bare, is_tagged}
 use Rattle.c_tree.specs.Terms as tree
-use Rattle.c_tree.specs.Terms.{Shape, Variable, Term, Terms, terms, with_term, term, leaf, step, join, type_of}
+use Rattle.c_tree.specs.Terms.{Shape, Variable, Term, Terms, terms, with_term, term, leaf, step}
 use Rattle.c_tree.specs.Views.{type_at, types_of, expr_from, no_term, term_at, operands}
 use Rattle.c_tree.specs.Passed.{Names, Passing, by_pointer, hidden_in, all_hidden_in, hidden_for, for_arguments}
 use Rattle.c_tree.specs.Passed.{for_call, passed, passed_shape, passed_term, passed_arguments, address_of, by_result}
@@ -20,17 +19,18 @@ use Rattle.c_tree.specs.Programs.{shape_with}
 use Rattle.c_tree.specs.Programs as programs
 use Rattle.c_copy.specs.Copying.{Extends, AllBelow, expr_shape, terms_in, IsPlainWith}
 use Rattle.c_copy.proofs.Copies.{kind_is, map_seen, term_same, extends_then, extends_push}
-use Rattle.c_passing.specs.declared.nodes.Source.{Source}
-use Rattle.c_passing.specs.declared.nodes.Made.{Made}
+use Rattle.passing_steps.specs.declared.nodes.Source.{Source}
+use Rattle.passing_steps.specs.declared.nodes.Made.{Made}
 use Rattle.c_passing.specs.Lists.{hidden_in_each, hidden_for_each, passed_each, passed_each_argument}
-use Rattle.c_passing.specs.Passes.{written_type, written_term, written_call, Fits, HasTerm, HasTerms, Hides, IsHidden}
-use Rattle.c_passing.specs.Passes.{AddsTerms, IsKindPassed, IsPassed, ArePassed, Makes, ArePassedArguments, IsByResult}
-use Rattle.c_passing.specs.Passes.{IsPlainCall, IsCallByResult}
-use Rattle.c_passing.specs.Ordered.{TakesIn, Takes}
+use Rattle.c_passing.specs.Passes.{written_term, written_call, AddsTerms, IsKindPassed, IsPassed, ArePassed}
+use Rattle.c_passing.specs.Passes.{ArePassedArguments, IsByResult, IsPlainCall, IsCallByResult}
 use Rattle.c_passing.proofs.Hiding.{hidden_terms, hidden_arguments, passed_list, passed_arguments_list}
-use Rattle.c_passing.proofs.Ordering.{in_push, in_then, in_from, in_first}
-use Rattle.c_passing.proofs.Trees.{term_more, term_end, no_terms_have, terms_push}
-use Rattle.c_passing.proofs.Calling.{hides_then, hides_vars, hides_count, number_same, pointer_same, call_made}
+use Rattle.c_passing.proofs.Calling.{call_made}
+use Rattle.passing_steps.specs.Steps.{written_type, Fits, HasTerm, HasTerms, Hides, IsHidden, Makes}
+use Rattle.passing_steps.specs.Ordered.{TakesIn, Takes}
+use Rattle.passing_steps.proofs.Ordering.{in_push, in_then, in_from, in_first}
+use Rattle.passing_steps.proofs.Trees.{term_more, term_end, no_terms_have, terms_push}
+use Rattle.passing_steps.proofs.Calling.{hides_then, hides_vars, hides_count, number_same, pointer_same}
 
 -- ---- written expressions
 
@@ -150,7 +150,8 @@ passed_call : (e : Passing) (n : ℕ) (f : Term) (xs : List Term) (t : Ty) (p : 
 passed_call e n f xs t p own hid inner c =
     let a = hidden_arguments e.names p xs in
     let first = n + length (hidden_in e.names f) in
-    let h : first + length (for_arguments e.names p (terms xs)) ≡ hid = let x = c.own_is in let y = c.hidden_is in ap (λ vs. first + length vs) a ∙ omega arith in
+    let h : first + length (for_arguments e.names p (terms xs)) ≡ hid =
+    let x = c.own_is in let y = c.hidden_is in ap (λ vs. first + length vs) a ∙ omega arith in
     let i : first + length (for_call e.names p (terms xs) t) ≡ inner =
     let x = c.own_is in let y = c.hidden_is in let z = c.inner_is in
     ap (λ vs. first + length (vs ++ hidden_for e.names p t)) a
@@ -398,7 +399,3 @@ kind_kept s old new xs a b c d f g h = record {
   shape = λ ts e fits. h.shape (λ k. k, λ k. k) ts
       ∙ inner_shape ts (types_of s.program.now.types) e (λ k. k, λ k. k) old a b c d f g;
 }
-
-pub on_both : {V : Type 0} (r : Result V NoMemory) (P Q : Type 0) → OnOk r P → OnOk r Q → OnOk r (P × Q)
-on_both (Ok v) P Q p q = (p, q)
-on_both (Err e) P Q p q = tt

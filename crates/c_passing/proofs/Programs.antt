@@ -25,17 +25,19 @@ use Rattle.c_tree.specs.Passed.{call_name, calls_in}
 use Rattle.c_copy.specs.Copying.{actions_in}
 use Rattle.c_copy.proofs.Copies.{length-grow}
 use Rattle.c_copy.proofs.Items.{get-push}
-use Rattle.c_passing.specs.declared.types.Types.{Types}
-use Rattle.c_passing.specs.declared.names.Names as known
-use Rattle.c_passing.specs.declared.nodes.Made.{Made}
+use Rattle.passing_steps.specs.declared.types.Types.{Types}
+use Rattle.passing_steps.specs.declared.names.Names as known
+use Rattle.passing_steps.specs.declared.nodes.Made.{Made}
 use Rattle.c_passing.specs.declared.functions.Whole.{Whole}
-use Rattle.c_passing.specs.Named.{name_in, Knows}
-use Rattle.c_passing.specs.Numbered.{type_in, IsKept, IsBehind, Follows, AreRenumbered, IsWithMembers, AreListed}
-use Rattle.c_passing.specs.Ordered.{operand_uses, value_uses, Ordered, AreThere, VarsThere, TypesThere}
+use Rattle.c_passing.specs.Named.{Knows}
+use Rattle.c_passing.specs.Numbered.{IsKept, IsBehind, Follows, AreRenumbered, IsWithMembers, AreListed}
 use Rattle.c_passing.specs.Routines.{WholeFits, written_routine, AreFunctions, IsObject, AreObjects, IsPassedProgram}
 use Rattle.c_passing.proofs.Naming.{named_by}
 use Rattle.c_passing.proofs.Numbering.{types_fit}
-use Rattle.c_passing.proofs.Ordering.{counts_append}
+use Rattle.passing_steps.specs.Named.{name_in}
+use Rattle.passing_steps.specs.Numbered.{type_in}
+use Rattle.passing_steps.specs.Ordered.{operand_uses, value_uses, Ordered, AreThere, VarsThere, TypesThere}
+use Rattle.passing_steps.proofs.Ordering.{counts_append}
 
 -- ---- objects
 

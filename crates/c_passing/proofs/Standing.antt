@@ -19,11 +19,12 @@ use Rattle.c_copy.proofs.Items.{get-push}
 use Rattle.c_passing.proofs.Within.{taken}
 use Rattle.c_passing.specs.declared.functions.Whole.{Whole}
 use Rattle.c_passing.specs.declared.functions.Standing.{Standing}
-use Rattle.c_passing.specs.Numbered.{type_in, IsGivenIn}
-use Rattle.c_passing.specs.Routines.{written_routine, written_variable, AreRun, IsRun, IsNamed, named_so_far, AddsParam}
-use Rattle.c_passing.specs.Routines.{HasParams, HasLocals}
+use Rattle.c_passing.specs.Numbered.{IsGivenIn}
+use Rattle.c_passing.specs.Routines.{written_routine, written_variable, AreRun, IsRun, IsNamed, named_so_far}
+use Rattle.c_passing.specs.Routines.{AddsParam, HasParams, HasLocals}
 use Rattle.c_passing.proofs.Hiding.{hidden_push}
-use Rattle.c_passing.proofs.Ordering.{vars_push}
+use Rattle.passing_steps.specs.Numbered.{type_in}
+use Rattle.passing_steps.proofs.Ordering.{vars_push}
 
 -- ---- variables as they are run
 

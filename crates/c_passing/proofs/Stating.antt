@@ -4,11 +4,9 @@ use Rattle.std.proofs.Common.{refl, ap, ◌∙◌, arith}
 use Rattle.std.specs.Prelude.{slice_get}
 use Rattle.ck_base.specs.declared.positions.Pos.{Pos}
 use Rattle.c_tree.specs.declared.typed.Stmt.{Stmt}
-use Rattle.c_tree.specs.declared.typed.StmtKind.TheVariants as stmts
 use Rattle.c_tree.specs.Types.{bare}
 use Rattle.c_tree.specs.Terms as tree
-use Rattle.c_tree.specs.Terms.{Form, Term, Terms, terms, no_terms, with_term, type_of, Action, Actions, action, actions}
-use Rattle.c_tree.specs.Terms.{no_actions, with_action}
+use Rattle.c_tree.specs.Terms.{Form, Term, terms, type_of, Action, action, actions, no_actions}
 use Rattle.c_tree.specs.Views.{terms_of, stmt_from, no_action, values, parts}
 use Rattle.c_tree.specs.Passed.{Names, Passing, by_pointer, hidden_of, ahead, passed_form, passed_term, passed_terms}
 use Rattle.c_tree.specs.Passed.{passed_action, passed_actions, first_hidden_of, all_hidden_in, last_hidden_of}
@@ -16,7 +14,7 @@ use Rattle.c_tree.specs.Passed.{given_back, one_term}
 use Rattle.c_tree.proofs.Forest.{forest_reads}
 use Rattle.c_copy.specs.Copying.{AllBelow, stmt_form}
 use Rattle.c_copy.proofs.Copies.{action_is, map_seen}
-use Rattle.c_passing.specs.declared.nodes.Source.{Source}
+use Rattle.passing_steps.specs.declared.nodes.Source.{Source}
 use Rattle.c_passing.specs.Lists.{hidden_in_each, hidden_of_each, passed_each, passed_each_action}
 use Rattle.c_passing.specs.Passes.{written_term, written_action}
 use Rattle.c_passing.proofs.Hiding.{hidden_terms, first_hidden, last_hidden, passed_list, passed_actions_list}

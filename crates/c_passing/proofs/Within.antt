@@ -1,8 +1,7 @@
 -- What expressions and statements name is there.
-use Rattle.std.proofs.Common.{◌≡◌, ℕ, zero, suc, ◌<◌, List, [], ◌∷◌, length, get_or, take, drop, Some, sym, ap}
-use Rattle.std.proofs.Common.{subst, ◌∙◌, arith}
+use Rattle.std.proofs.Common.{◌≡◌, ℕ, zero, suc, ◌<◌, List, [], ◌∷◌, length, take, drop, Some, sym, ap, subst, ◌∙◌}
+use Rattle.std.proofs.Common.{arith}
 use Rattle.std.specs.Prelude.{slice_get}
-use Rattle.std.proofs.lemmas.Option.{slice_get-get_or}
 use Rattle.c_tree.specs.declared.typed.Expr.{Expr}
 use Rattle.c_tree.specs.declared.typed.ExprKind.{ExprKind}
 use Rattle.c_tree.specs.declared.typed.ExprKind.TheVariants as exprs
@@ -13,7 +12,7 @@ use Rattle.c_tree.specs.Views.{operands, values, parts}
 use Rattle.c_copy.specs.Copying.{AllBelow, expr_shape, stmt_form}
 use Rattle.c_copy.specs.Standing.{ActionStandsIn}
 use Rattle.c_copy.proofs.Standing.{term_there, shape_stands, operand_stands, form_stands, value_stands, part_stands}
-use Rattle.c_passing.specs.declared.nodes.Source.{Source}
+use Rattle.passing_steps.specs.declared.nodes.Source.{Source}
 use Rattle.c_passing.specs.Passes.{VarWithin, KindWithin, FormWithin, TermWithin, TermsWithin, ActionWithin}
 use Rattle.c_passing.specs.Passes.{ActionsWithin}
 use Rattle.c_passing.specs.Routines.{HasBody}
@@ -32,9 +31,6 @@ pub dropped : {A : Type 0} (n : ℕ) (xs : List A) (k : ℕ) (x : A) → slice_g
 dropped zero xs k x e = (k, e)
 dropped (suc n) [] k x e = absurd cc
 dropped (suc n) (y ∷ ys) k x e = let r = dropped n ys k x e in (suc r.0, r.1)
-
-pub at_index : (ks : List ℕ) (i : ℕ) → i < length ks → slice_get ks i ≡ Some (get_or ks i 0)
-at_index ks i lt = slice_get-get_or ks i 0 lt
 
 -- ---- expressions
 

@@ -1,7 +1,5 @@
 -- The names of calls that are known.
-use Rattle.std.specs.Prelude.{◌≡◌, ℕ, ◌+◌, ◌≤◌, max, Bool, ◌&&◌, ◌==◌, if◌then◌else◌, List, [], ◌∷◌, ◌++◌, Option, Some}
-use Rattle.std.specs.Prelude.{None}
-use Rattle.std.specs.Map.{lookup}
+use Rattle.std.specs.Prelude.{◌≡◌, ℕ, ◌+◌, ◌≤◌, max, if◌then◌else◌, List, [], ◌∷◌, ◌++◌, Option, Some, None}
 use Rattle.ck_base.specs.declared.positions.Pos.{Pos}
 use Rattle.ck_base.specs.declared.positions.Span.{Span}
 use Rattle.ck_base.specs.Tokens.{Lexeme}
@@ -11,21 +9,8 @@ use Rattle.c_tree.specs.declared.syntax.NodeKind.TheVariants as Kinds
 use Rattle.c_tree.specs.declared.syntax.Tree.{Tree}
 use Rattle.c_tree.specs.Syntax.{Syn, Syns, node, nil, more, StandsAt}
 use Rattle.c_tree.specs.Passed.{same_place, calls_in}
-use Rattle.c_passing.specs.declared.names.Names.{Names}
-
-abbrev pub same_pair : ℕ × ℕ → ℕ × ℕ → Bool
-same_pair p q = p.0 == q.0 && p.1 == q.1
-
--- the name that is known of the call at a place
-abbrev pub known_at : Names → Pos → Option Span
-known_at m p = lookup (same_pair (p.line, p.col)) m.known.entries
-
-abbrev pub name_or : Option Span → Span
-name_or None = record { start = 0; end = 0 }
-name_or (Some s) = s
-
-abbrev pub name_in : Names → Pos → Span
-name_in m p = name_or (known_at m p)
+use Rattle.passing_steps.specs.declared.names.Names.{Names}
+use Rattle.passing_steps.specs.Named.{known_at}
 
 -- the first of some calls that stands at a place
 abbrev pub first_at : List Lexeme → Pos → Option Span

@@ -1,31 +1,16 @@
 -- What stands for the types of a program.
-use Rattle.std.specs.Prelude.{◌≡◌, ℕ, ◌<◌, Bool, true, false, List, ◌∷◌, [], ◌++◌, length, map, Option, Some, None}
-use Rattle.std.specs.Prelude.{slice_get, slice_index, if◌then◌else◌}
+use Rattle.std.specs.Prelude.{◌≡◌, ℕ, ◌<◌, true, List, ◌∷◌, [], ◌++◌, length, map, Option, Some, None, slice_get}
+use Rattle.std.specs.Prelude.{slice_index, if◌then◌else◌}
 use Rattle.c_tree.specs.declared.typed.CType.{CType}
 use Rattle.c_tree.specs.declared.typed.CType.TheVariants as ctypes
 use Rattle.c_tree.specs.declared.typed.Member.{Member}
-use Rattle.c_tree.specs.Types.{Ty, Void, Pointer, bare, is_tagged}
+use Rattle.c_tree.specs.Types.{Ty, Void, Pointer, bare}
 use Rattle.c_tree.specs.Views.{type_at, types_of, member_of}
 use Rattle.c_tree.specs.Passed.{by_pointer, passed, passed_member, result_types}
 use Rattle.c_copy.specs.Copying.{AllBelow}
-use Rattle.c_passing.specs.declared.types.Types.{Types}
-use Rattle.c_passing.specs.Ordered.{AreThere}
-
--- the type that a number names in a list
-abbrev pub type_in : List CType → ℕ → Ty
-type_in types k = type_at (types_of types) k
-
--- a struct or union
-abbrev pub is_record : CType → Bool
-is_record (ctypes.Struct tag ms) = true
-is_record (ctypes.Union tag ms) = true
-is_record (ctypes.Incomplete tag) = true
-is_record c = false
-
--- what is qualified
-abbrev pub const_of : CType → Option ℕ
-const_of (ctypes.Const t) = Some t
-const_of c = None
+use Rattle.passing_steps.specs.declared.types.Types.{Types}
+use Rattle.passing_steps.specs.Ordered.{AreThere}
+use Rattle.passing_steps.specs.Numbered.{type_in}
 
 -- what a function gives
 abbrev pub gives_of : CType → Option ℕ
@@ -37,11 +22,6 @@ abbrev pub IsGivenIn : List CType → ℕ → Option ℕ → Type 0
 IsGivenIn types of None = result_types (type_in types of) ≡ []
 IsGivenIn types of (Some k) =
     (result_types (type_in types of) ≡ Pointer (bare (type_in types k)) ∷ []) × (by_pointer (type_in types k) ≡ true)
-
--- a type without a qualifier of its own, as far as that matters
-pub record IsBare (types : List CType) (k n : ℕ) : Type 0 where
-  pub same : is_tagged (type_in types n) ≡ by_pointer (type_in types k)
-  pub is : by_pointer (type_in types k) ≡ true → type_in types n ≡ bare (type_in types k)
 
 -- type `n` of the new list stands for type `k` of the written one
 pub record IsNumber (types list : List CType) (k n : ℕ) : Type 0 where
@@ -122,10 +102,3 @@ pub record AreListed (numbers : List ℕ) (list new : List CType) : Type 0 where
   pub types : types_of new ≡ types_of list
   pub each : (k : ℕ) (d : CType) → slice_get new k ≡ Some d →
       (c : CType) × (slice_get list k ≡ Some c) × IsWithMembers numbers c d
-
--- the types of the program that is run, for all written ones
-pub record TypesFit (types : List CType) (t : Types) (ts : List Ty) : Type 0 where
-  pub void : type_at ts 0 ≡ Void
-  pub numbers : (k n : ℕ) → slice_index t.numbers.items k ≡ n → type_at ts n ≡ passed (type_in types k)
-  pub pointers : (k n : ℕ) → slice_index t.pointers.items k ≡ n → by_pointer (type_in types k) ≡ true →
-      type_at ts n ≡ Pointer (bare (type_in types k))

@@ -5,42 +5,30 @@ use Rattle.ck_base.specs.declared.positions.Pos.{Pos}
 use Rattle.c_tree.specs.declared.typed.Expr.{Expr}
 use Rattle.c_tree.specs.declared.typed.ExprKind.{ExprKind}
 use Rattle.c_tree.specs.declared.typed.ExprKind.TheVariants as exprs
-use Rattle.c_tree.specs.declared.typed.Stmt.{Stmt}
 use Rattle.c_tree.specs.declared.typed.StmtKind.{StmtKind}
 use Rattle.c_tree.specs.declared.typed.StmtKind.TheVariants as stmts
 use Rattle.c_tree.specs.Types.{Ty, Void, bare}
 use Rattle.c_tree.specs.Terms as tree
-use Rattle.c_tree.specs.Terms.{Shape, Form, Term, Terms, terms, with_term, term, leaf, step, join, Action}
-use Rattle.c_tree.specs.Terms.{Variable}
-use Rattle.c_tree.specs.Views.{types_of, terms_of, term_at, actions_of, action_at, variable_of, operands, values, parts}
+use Rattle.c_tree.specs.Terms.{Shape, Form, Term, terms, with_term, term, leaf, join, Action, Variable}
+use Rattle.c_tree.specs.Views.{types_of, terms_of, term_at, actions_of, action_at, operands, values, parts}
 use Rattle.c_tree.specs.Passed.{Names, Passing, by_pointer, passed_shape, passed_form, passed, passed_term}
-use Rattle.c_tree.specs.Passed.{passed_action, by_address, by_result, given_back}
-use Rattle.c_copy.specs.Copying.{expr_shape, stmt_form, terms_in, actions_in, AllBelow, Extends}
+use Rattle.c_tree.specs.Passed.{passed_action, by_result}
+use Rattle.c_copy.specs.Copying.{expr_shape, stmt_form, AllBelow, Extends}
 use Rattle.c_copy.specs.Order.{PartsBefore}
 use Rattle.c_copy.specs.Standing.{StandsIn, ActionStandsIn}
-use Rattle.c_passing.specs.declared.nodes.Source.{Source}
-use Rattle.c_passing.specs.declared.nodes.Made.{Made}
-use Rattle.c_passing.specs.Numbered.{type_in, TypesFit}
-use Rattle.c_passing.specs.Named.{name_in}
+use Rattle.passing_steps.specs.declared.nodes.Source.{Source}
+use Rattle.passing_steps.specs.declared.nodes.Made.{Made}
 use Rattle.c_passing.specs.Lists.{hidden_for_each, passed_each, passed_each_argument, passed_each_action}
-use Rattle.c_passing.specs.Ordered.{TakesIn, Takes, VarsTyped}
+use Rattle.passing_steps.specs.Ordered.{Takes}
+use Rattle.passing_steps.specs.Steps.{written_type, Fits, HasTerm, HasTerms, HasAction, HasActions, Hides}
 
 -- ---- what is written
-
-abbrev pub written_type : Source → ℕ → Ty
-written_type s k = type_in s.program.now.types k
 
 abbrev pub written_term : Source → ℕ → Term
 written_term s k = term_at (terms_of s.program.now) k
 
 abbrev pub written_action : Source → ℕ → Action
 written_action s k = action_at (actions_of s.program.now) k
-
--- the types of the program that is run, the names of calls and the numbers of variables are those that are known
-pub record Fits (s : Source) (ts : List Ty) (e : Passing) : Type 0 where
-  pub types : TypesFit s.program.now.types s.types.now ts
-  pub names : (p : Pos) → e.names p ≡ name_in s.names.now p
-  pub numbers : (k v : ℕ) → slice_get s.numbers.now k ≡ Some v → e.number k ≡ v
 
 -- ---- numbers that name what is there
 
@@ -77,47 +65,7 @@ pub record ActionWithin (s : Source) (k : ℕ) : Type 0 where
 abbrev pub ActionsWithin : Source → List ℕ → Type 0
 ActionsWithin s ks = (j a : ℕ) → slice_get ks j ≡ Some a → ActionWithin s a
 
--- ---- trees that stand in lists
-
--- an expression of a list, by its number
-pub record HasTerm (ts : List Ty) (es : List Expr) (j : ℕ) (x : Term) : Type 0 where
-  pub there : j < length es
-  pub is : term_at (terms_in ts es) j ≡ x
-
-pub record HasTerms (ts : List Ty) (es : List Expr) (js : List ℕ) (xs : List Term) : Type 0 where
-  pub there : AllBelow (length es) js
-  pub are : map (term_at (terms_in ts es)) js ≡ xs
-
--- a statement of a list, over its expressions and whatever stands behind them
-pub record HasAction (ts : List Ty) (es : List Expr) (ss : List Stmt) (j : ℕ) (x : Action) : Type 0 where
-  pub there : j < length ss
-  pub is : (more : List Expr) → action_at (actions_in ts (es ++ more) ss) j ≡ x
-
-pub record HasActions (ts : List Ty) (es : List Expr) (ss : List Stmt) (js : List ℕ) (xs : List Action) : Type 0 where
-  pub there : AllBelow (length ss) js
-  pub are : (more : List Expr) → map (action_at (actions_in ts (es ++ more) ss)) js ≡ xs
-
--- ---- hidden locals
-
--- these hidden locals are added, of types that are there
-pub record Hides (s : Source) (old new : Made) (vs : Names → List Variable) : Type 0 where
-  pub are : (ts : List Ty) (e : Passing) → Fits s ts e →
-      map (variable_of ts) new.vars.items ≡ map (variable_of ts) old.vars.items ++ vs e.names
-  pub typed : VarsTyped s.types.now old.vars.items new.vars.items
-
--- the type of the hidden local for a value of a type, if there is one
-abbrev pub IsHidden : Source → ℕ → Option ℕ → Type 0
-IsHidden s of None = by_pointer (written_type s of) ≡ false
-IsHidden s of (Some t) = (by_pointer (written_type s of) ≡ true) × (written_type s t ≡ bare (written_type s of))
-
 -- ---- expressions
-
--- an expression is made of nothing, with these types, that does not depend on what is known
-pub record Makes (old new : Made) (pointer of : ℕ) (make : List Ty → Term) (j : ℕ) : Type 0 where
-  pub extends : Extends old.exprs.items new.exprs.items
-  pub rest : new ≡ record old { exprs = new.exprs }
-  pub ordered : (n : ℕ) → pointer < n → of < n → TakesIn n old new [] [] (j ∷ []) []
-  pub is : (ts : List Ty) → HasTerm ts new.exprs.items j (make ts)
 
 -- expressions are made, with these hidden locals, and what they are
 pub record AddsTerms (s : Source) (old new : Made) (vs : Names → List Variable) (P : Type 0) : Type 0 where
@@ -148,14 +96,6 @@ pub record ArePassed (s : Source) (old new : Made) (xs : List Term) (js : List �
 abbrev pub written_call : Source → Expr → (f : ℕ) → List ℕ → Term
 written_call s e f xs = term tree.Call (with_term (written_term s f) (terms (map (written_term s) xs)))
     (written_type s e.of) e.pos
-
--- an argument that goes by a pointer
-pub record IsByAddress (s : Source) (old new : Made) (h value t : ℕ) (p : Pos) (j : ℕ) : Type 0 where
-  pub extends : Extends old.exprs.items new.exprs.items
-  pub rest : new ≡ record old { exprs = new.exprs }
-  pub is : (ts : List Ty) (e : Passing) (y : Term) → Fits s ts e → HasTerm ts old.exprs.items value y →
-      HasTerm ts new.exprs.items j (by_address h y (written_type s t) p)
-  pub ordered : Takes s.types.now old new (value ∷ []) [] (j ∷ []) []
 
 -- a number comes behind those of the hidden locals for the arguments of a call at a place, which begin at another one
 pub record AreCounted (s : Source) (first : ℕ) (p : Pos) (xs : List Term) (next : ℕ) : Type 0 where
@@ -205,24 +145,11 @@ pub record AddsActions (s : Source) (old new : Made) (vs : Names → List Variab
   pub hides : Hides s old new vs
   pub is : P
 
--- the new numbers of variables
-pub record AreVariables (s : Source) (ks vs : List ℕ) : Type 0 where
-  pub are : (ts : List Ty) (e : Passing) → Fits s ts e → vs ≡ map e.number ks
-
 -- the same statement with the new numbers of its variables
 pub record IsRenumbered (s : Source) (old new : StmtKind) : Type 0 where
   pub values : values new ≡ values old
   pub parts : parts new ≡ parts old
   pub form : (ts : List Ty) (e : Passing) → Fits s ts e → stmt_form new ≡ passed_form e (stmt_form old)
-
--- `return` of a value by a pointer
-pub record IsGivenBack (s : Source) (old new : Made) (value t : ℕ) (p : Pos) (j : ℕ) : Type 0 where
-  pub exprs : Extends old.exprs.items new.exprs.items
-  pub stmts : Extends old.stmts.items new.stmts.items
-  pub vars : new.vars ≡ old.vars
-  pub is : (ts : List Ty) (e : Passing) (y : Term) → Fits s ts e → HasTerm ts old.exprs.items value y →
-      HasAction ts new.exprs.items new.stmts.items j (given_back y (written_type s t) p)
-  pub ordered : Takes s.types.now old new (value ∷ []) [] [] (j ∷ [])
 
 -- an expression, and its type, if it is given back by a pointer
 abbrev pub IsGivenValue : Source → ℕ → Option (ℕ × ℕ) → Type 0

@@ -1,6 +1,6 @@
 -- What is made of a function, and of a program.
-use Rattle.std.specs.Prelude.{◌≡◌, ℕ, ◌+◌, ◌-◌, ◌<◌, ◌≤◌, List, ◌++◌, length, map, take, drop, flat_map, Some}
-use Rattle.std.specs.Prelude.{slice_get, slice_index, [], ◌∷◌}
+use Rattle.std.specs.Prelude.{◌≡◌, ℕ, ◌+◌, ◌<◌, ◌≤◌, List, ◌++◌, length, map, take, drop, flat_map, Some, slice_get}
+use Rattle.std.specs.Prelude.{slice_index, [], ◌∷◌}
 use Rattle.ck_base.specs.declared.positions.Pos.{Pos}
 use Rattle.c_tree.specs.declared.syntax.Tree.{Tree}
 use Rattle.c_tree.specs.declared.typed.Expr.{Expr}
@@ -13,7 +13,7 @@ use Rattle.c_tree.specs.declared.typed.GlobalDef.{GlobalDef}
 use Rattle.c_tree.specs.declared.typed.Typed.{Typed}
 use Rattle.c_tree.specs.Syntax.{Syn, StandsAt}
 use Rattle.c_tree.specs.Types.{Ty}
-use Rattle.c_tree.specs.Terms.{Action, Variable, Routine, Program, numbers_from}
+use Rattle.c_tree.specs.Terms.{Action, Variable, Routine, Program}
 use Rattle.c_tree.specs.Views.{type_at, types_of, actions_of, variable_of, routine_of, object_of, Shows, IsOrdered}
 use Rattle.c_tree.specs.Passed.{Names, Passing, result_pointer, written_params, passed_param, copied_param}
 use Rattle.c_tree.specs.Passed.{named_variables, variable_number, passing, param_copy, passed_body, passed_routine}
@@ -21,15 +21,16 @@ use Rattle.c_tree.specs.Passed.{passed, passed_object, passed_program, call_name
 use Rattle.c_copy.specs.Copying.{actions_in, Extends}
 use Rattle.c_copy.specs.Order.{PartsBefore}
 use Rattle.c_copy.specs.Standing.{ActionStandsIn}
-use Rattle.c_passing.specs.declared.nodes.Source.{Source}
-use Rattle.c_passing.specs.declared.nodes.Made.{Made}
+use Rattle.passing_steps.specs.declared.nodes.Source.{Source}
+use Rattle.passing_steps.specs.declared.nodes.Made.{Made}
 use Rattle.c_passing.specs.declared.functions.Whole.{Whole}
 use Rattle.c_passing.specs.declared.functions.Standing.{Standing}
-use Rattle.c_passing.specs.Numbered.{TypesFit}
 use Rattle.c_passing.specs.Lists.{copies_of}
-use Rattle.c_passing.specs.Named.{name_in}
-use Rattle.c_passing.specs.Ordered.{AreThere, VarsThere, TypesThere, Takes}
-use Rattle.c_passing.specs.Passes.{VarWithin, FormWithin, Fits, HasAction, HasActions}
+use Rattle.c_passing.specs.Passes.{VarWithin, FormWithin}
+use Rattle.passing_steps.specs.Numbered.{TypesFit}
+use Rattle.passing_steps.specs.Named.{name_in}
+use Rattle.passing_steps.specs.Ordered.{AreThere, VarsThere, TypesThere, Takes}
+use Rattle.passing_steps.specs.Steps.{Fits, HasAction, HasActions}
 
 -- what is known of the types and of the names of calls
 pub record WholeFits (w : Whole) (ts : List Ty) : Type 0 where
@@ -125,11 +126,6 @@ pub record AreParamCopies (s : Source) (old new : Made) (from to : ℕ) (vs : Li
       HasActions ts old.exprs.items old.stmts.items before ys →
       HasActions ts new.exprs.items new.stmts.items after (ys ++ copies_of from to vs)
   pub ordered : Takes s.types.now old new [] before [] after
-
--- the variables of the outermost block
-pub record AreBlockVars (s : Source) (copied : ℕ × ℕ) (ks : List ℕ) (hidden : ℕ × ℕ) (vs : List ℕ) : Type 0 where
-  pub are : (ts : List Ty) (e : Passing) → Fits s ts e →
-      vs ≡ numbers_from copied.0 (copied.1 - copied.0) ++ map e.number ks ++ numbers_from hidden.0 (hidden.1 - hidden.0)
 
 -- the body of a function, whose named variables are those of what was made so far
 pub record IsBody (s : Source) (r : Routine) (old new : Made) (j : ℕ) : Type 0 where

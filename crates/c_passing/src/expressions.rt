@@ -5,16 +5,17 @@ ghost use Rattle.c_tree.specs.Types.{is_tagged};
 ghost use Rattle.c_tree.specs.Views.{operands};
 ghost use Rattle.c_tree.specs.Passed.{hidden_in};
 ghost use Rattle.c_passing.specs.Lists.{hidden_in_each};
-ghost use Rattle.c_passing.specs.Passes.{written_type, written_term, written_call, KindWithin, TermWithin, TermsWithin};
-ghost use Rattle.c_passing.specs.Passes.{AddsTerms, IsKindPassed, IsPassed};
-ghost use Rattle.c_passing.specs.Passes.{ArePassed, ArePassedArguments, IsPlainCall, IsCallByResult};
+ghost use Rattle.passing_steps.specs.Steps.{written_type};
+ghost use Rattle.c_passing.specs.Passes.{written_term, written_call, KindWithin, TermWithin, TermsWithin, AddsTerms};
+ghost use Rattle.c_passing.specs.Passes.{IsKindPassed, IsPassed, ArePassed, ArePassedArguments, IsPlainCall};
+ghost use Rattle.c_passing.specs.Passes.{IsCallByResult};
 
-use crate::calls::{by_address, by_result, hidden_type, hide, hide_arguments};
+use crate::calls::{by_result, hide_arguments};
 use crate::counts::after;
-use crate::nodes::{Made, Source};
 use c_copy::{inner_with, operands, two};
 use c_tree::{Expr, ExprKind};
 use ck_base::{NoMemory, Pos, Sequence};
+use passing_steps::{Made, Source, by_address, hidden_type, hide};
 
 // The same kind of expression with as many operands, these. A compound assignment is computed in the type that stands
 // for its type.

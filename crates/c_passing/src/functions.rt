@@ -1,23 +1,22 @@
 //! Functions as they are run.
 
-ghost use Rattle.std.specs.Prelude.{◌≡◌, ◌≤◌, ◌-◌, ◌++◌, [], true, List, IfOk, OnOk, length, map, take, drop};
+ghost use Rattle.std.specs.Prelude.{◌≡◌, ◌≤◌, ◌++◌, [], true, List, IfOk, OnOk, length, map, take, drop};
 ghost use Rattle.c_tree.specs.declared.typed.FunDef.{FunDef as Function};
 ghost use Rattle.c_tree.specs.Terms.{numbers_from, Variable};
 ghost use Rattle.c_tree.specs.Passed.{by_pointer, named_variables, passed_param, passed_variable, result_pointer};
 ghost use Rattle.c_tree.specs.Passed.{copied_params, hidden_of};
-ghost use Rattle.c_copy.specs.Copying.{AllBelow};
-ghost use Rattle.c_passing.specs.Passes.{written_type, written_action, AddsActions};
-ghost use Rattle.c_passing.specs.Routines.{written_routine, written_variable, source_routine, source_variable, HasBody};
-ghost use Rattle.c_passing.specs.Routines.{AreRun, IsRun, IsNamed, named_so_far, AddsParam, HasParams, HasLocals};
-ghost use Rattle.c_passing.specs.Routines.{IsParamCopy, AreParamCopies, AreBlockVars, IsBody, IsFunction};
+ghost use Rattle.passing_steps.specs.Steps.{written_type};
+ghost use Rattle.c_passing.specs.Passes.{written_action, AddsActions};
+ghost use Rattle.c_passing.specs.Routines.{written_routine, written_variable, source_routine, source_variable};
+ghost use Rattle.c_passing.specs.Routines.{HasBody, AreRun, IsRun, IsNamed, named_so_far, AddsParam, HasParams};
+ghost use Rattle.c_passing.specs.Routines.{HasLocals, IsParamCopy, AreParamCopies, IsBody, IsFunction};
 
 use crate::counts::{after, count, sum};
-use crate::names::Names;
-use crate::nodes::{Made, Source};
-use crate::statements::{statements, variables};
-use crate::types::{Types, bare, by_pointer, given_by_pointer};
+use crate::statements::statements;
+use crate::types::given_by_pointer;
 use c_tree::{ExprKind, FunDef, StmtKind, Typed, VarDef};
 use ck_base::{NoMemory, Sequence};
+use passing_steps::{Made, Names, Source, Types, add_numbers, bare, block_vars, by_pointer};
 use std::alloc::Global;
 
 /// The program as it is written, and what stands for its types and names its calls.
@@ -232,35 +231,6 @@ fn param_copies(
         from = after(from)?;
     }
     Ok(())
-}
-
-// Some numbers behind others, from one to before another.
-fn add_numbers(list: &mut Vec<u32>, from: u32, to: u32) -> Result<(), NoMemory>
-    ensures { OnOk result (list.new.items ≡ list.old.items ++ numbers_from from (to - from)) }
-{
-    for k in from..to {
-        list.push(k)?;
-    }
-    Ok(())
-}
-
-// The variables of the outermost block: the locals that parameters are copied to, those that it declares, and the
-// hidden ones.
-fn block_vars(
-    source: &Source<'_>,
-    copied: (u32, u32),
-    vars: &[u32],
-    hidden: (u32, u32),
-) -> Result<Vec<u32>, NoMemory>
-    requires { AllBelow (length source.now.numbers.now) vars.now }
-    ensures { IfOk result (λ v. AreBlockVars source.now copied vars.now hidden v.items) }
-{
-    let declared = variables(source, vars)?;
-    let mut list = Vec::new(source.alloc);
-    add_numbers(&mut list, copied.0, copied.1)?;
-    list.extend_from_slice(declared.as_slice())?;
-    add_numbers(&mut list, hidden.0, hidden.1)?;
-    Ok(list)
 }
 
 // The body of a function, which is a block.

@@ -1,7 +1,8 @@
 //! The program that is run in the place of a typed one: structs and unions go to functions and come back by pointers,
 //! through hidden locals of the caller.
 //!
-//! Promise: `pass` gives the program that the typing puts in the place of one with its types as written.
+//! Promise: `pass` gives the program that the typing puts in the place of one with its types as written. What each step
+//! makes is said by `passing_steps`; here is the recursion over expressions and statements, functions and types.
 //! Definitions (`specs/`): `Passed` of `c_tree`; `Routines` (`IsPassedProgram`), `Passes`, `Numbered`, `Named`,
 //! `Lists`. Main lemmas (`proofs/`): `Programs`, `Passing`.
 #![tactic(auto)]
@@ -11,7 +12,6 @@ mod counts;
 mod expressions;
 mod functions;
 mod names;
-mod nodes;
 mod program;
 mod statements;
 mod types;

@@ -7,11 +7,11 @@ ghost use Rattle.c_passing.specs.Routines.{written_routine, HaveBodies, AreFunct
 ghost use Rattle.c_passing.specs.Routines.{IsPassedProgram};
 
 use crate::functions::{Whole, function};
-use crate::names::Names;
-use crate::nodes::Made;
-use crate::types::{Types, listed, number_in};
+use crate::names::names_of;
+use crate::types::{listed, types_of};
 use c_tree::{FunDef, GlobalDef, Tree, Typed};
 use ck_base::{NoMemory, Sequence};
+use passing_steps::{Made, number_in};
 use std::alloc::Global;
 
 fn functions(whole: &Whole<'_>, out: &mut Made) -> Result<Vec<FunDef>, NoMemory>
@@ -65,8 +65,8 @@ pub fn pass(alloc: Global, p: Typed, tree: &Tree) -> Result<Typed, NoMemory>
     requires bodies { HaveBodies p }
     ensures { IfOk result (IsPassedProgram tree.now p) }
 {
-    let names = Names::new(alloc, tree)?;
-    let types = Types::new(alloc, p.types.as_slice())?;
+    let names = names_of(alloc, tree)?;
+    let types = types_of(alloc, p.types.as_slice())?;
     let mut out = Made {
         exprs: Vec::new(alloc),
         stmts: Vec::new(alloc),

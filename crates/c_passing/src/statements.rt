@@ -1,22 +1,19 @@
 //! Statements as they are run.
 
-ghost use Rattle.std.specs.Prelude.{◌≡◌, ◌<◌, ◌≤◌, true, IfOk, OnOk, length, map};
+ghost use Rattle.std.specs.Prelude.{◌≡◌, ◌<◌, ◌≤◌, IfOk, OnOk, length, map};
 ghost use Rattle.c_tree.specs.declared.typed.StmtKind.TheVariants as StmtKinds;
-ghost use Rattle.c_tree.specs.Types.{is_tagged};
 ghost use Rattle.c_tree.specs.Views.{values, parts, listed, same_number};
 ghost use Rattle.c_tree.specs.Passed.{ahead, hidden_of};
 ghost use Rattle.c_copy.specs.Copying.{AllBelow, stmt_form};
 ghost use Rattle.c_passing.specs.Lists.{hidden_of_each};
-ghost use Rattle.c_passing.specs.Passes.{written_type, written_action, FormWithin, ActionWithin, ActionsWithin};
-ghost use Rattle.c_passing.specs.Passes.{AreVariables, IsRenumbered, AddsActions, IsGivenBack};
-ghost use Rattle.c_passing.specs.Passes.{IsGivenValue, IsReturned, IsPassedAction, ArePassedActions};
+ghost use Rattle.c_passing.specs.Passes.{written_action, FormWithin, ActionWithin, ActionsWithin, IsRenumbered};
+ghost use Rattle.c_passing.specs.Passes.{AddsActions, IsGivenValue, IsReturned, IsPassedAction, ArePassedActions};
 
 use crate::expressions::{expression, expressions};
-use crate::nodes::{Made, Source};
-use crate::types::{bare, by_pointer};
 use c_copy::{parts, stmt_with, values};
-use c_tree::{ExprKind, StmtKind};
-use ck_base::{NoMemory, Pos, Sequence};
+use c_tree::StmtKind;
+use ck_base::{NoMemory, Sequence};
+use passing_steps::{Made, Source, bare, by_pointer, give_back, variables};
 
 // How many parts of a statement stand before its expressions.
 fn ahead(kind: &StmtKind) -> usize
@@ -28,19 +25,6 @@ fn ahead(kind: &StmtKind) -> usize
         StmtKind::For { first, .. } => first.as_slice().len(),
         _ => 0,
     }
-}
-
-/// The new numbers of variables.
-pub(crate) fn variables(source: &Source<'_>, ks: &[u32]) -> Result<Vec<u32>, NoMemory>
-    requires { AllBelow (length source.now.numbers.now) ks.now }
-    ensures { IfOk result (λ v. AreVariables source.now ks.now v.items) }
-{
-    let mut list = Vec::new(source.alloc);
-    for k in ks {
-        let v = source.variable(*k);
-        list.push(v)?;
-    }
-    Ok(list)
 }
 
 // A statement with the new numbers of its variables.
@@ -92,33 +76,6 @@ fn renumbered(source: &Source<'_>, kind: StmtKind) -> Result<StmtKind, NoMemory>
         }
         other => Ok(other),
     }
-}
-
-// `return` of a struct or union: it is put where the first parameter points to.
-fn give_back(
-    source: &Source<'_>,
-    value: u32,
-    t: u32,
-    pos: Pos,
-    out: &mut Made,
-) -> Result<u32, NoMemory>
-    requires { is_tagged (written_type source.now t) ≡ true }
-    ensures { IfOk result (IsGivenBack source.now out.old out.new value t pos) }
-{
-    let of = source.types.number(t);
-    let pointer = source.types.pointer(t);
-    let place = out.behind(0, pointer, of, pos)?;
-    let assigned = out.push_expr(ExprKind::Assign(place, value), of, pos)?;
-    let first = out.push_stmt(StmtKind::Expr(assigned), pos)?;
-    let second = out.push_stmt(StmtKind::Return(None), pos)?;
-    let mut body = Vec::new(source.alloc);
-    body.push(first)?;
-    body.push(second)?;
-    let kind = StmtKind::Block {
-        vars: Sequence::from_vec(Vec::new(source.alloc)),
-        body: Sequence::from_vec(body),
-    };
-    out.push_stmt(kind, pos)
 }
 
 // The value that is given back by a pointer, and its type.

@@ -2,9 +2,9 @@ use Rattle.std.proofs.Common.{refl, ap, ◌∙◌, ◌++◌, ◌∷◌, []}
 use Rattle.c_tree.specs.declared.typed.ExprKind.TheVariants as exprs
 use Rattle.c_copy.proofs.Copies.{pushed, extends_same, extends_push}
 use Rattle.c_passing.proofs.Calling.{result_made, result_ordered}
-use Rattle.c_passing.proofs.Ordering.{rest_then}
-use Rattle.c_passing.proofs.Passing.{on_both}
 use Rattle.c_passing.proofs.calls.by_result.Goals as goal
+use Rattle.passing_steps.proofs.Ordering.{rest_then}
+use Rattle.passing_steps.proofs.Results.{on_both}
 
 pub returns : goal.returns
 returns c =

@@ -1,12 +1,14 @@
 use Rattle.std.proofs.Common.{get_or, map, refl, ap, subst, ◌∙◌}
 use Rattle.std.proofs.lemmas.List.{take_all}
-use Rattle.c_passing.specs.declared.nodes.Made.{Made}
+use Rattle.passing_steps.specs.declared.nodes.Made.{Made}
 use Rattle.c_passing.specs.Lists.{hidden_for_each}
-use Rattle.c_passing.specs.Passes.{written_term, Hides}
-use Rattle.c_passing.proofs.Calling.{hides_none}
+use Rattle.c_passing.specs.Passes.{written_term}
 use Rattle.c_passing.proofs.Each.{hides_argument}
-use Rattle.c_passing.proofs.Within.{at_index, term_within}
+use Rattle.c_passing.proofs.Within.{term_within}
 use Rattle.c_passing.proofs.calls.hide_arguments.Goals as goal
+use Rattle.passing_steps.specs.Steps.{Hides}
+use Rattle.passing_steps.proofs.Calling.{hides_none}
+use Rattle.passing_steps.proofs.Counting.{at_index}
 
 pub loop-x-preserved : goal.loop-x-preserved
 loop-x-preserved c =

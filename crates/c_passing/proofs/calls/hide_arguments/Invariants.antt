@@ -1,7 +1,8 @@
 use Rattle.std.proofs.Common.{◌≡◌, take, map}
 use Rattle.c_passing.specs.Lists.{hidden_for_each}
-use Rattle.c_passing.specs.Passes.{written_term, Hides}
+use Rattle.c_passing.specs.Passes.{written_term}
 use Rattle.c_passing.proofs.calls.hide_arguments.Given as goal
+use Rattle.passing_steps.specs.Steps.{Hides}
 
 abbrev pub invariant-loop-x : goal.invariant-loop-x
 invariant-loop-x l = record {

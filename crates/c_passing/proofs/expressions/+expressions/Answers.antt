@@ -13,13 +13,14 @@ use Rattle.c_passing.proofs.Each.{terms_turn, no_terms_add, none_counted, no_arg
 use Rattle.c_passing.proofs.Each.{arguments_plainly, arguments_by_address}
 use Rattle.c_passing.proofs.Least.{least_above, least_is, item_below}
 use Rattle.c_passing.proofs.Numbering.{if_ok}
-use Rattle.c_passing.proofs.Passing.{on_both, shape_calls, expression_passed}
-use Rattle.c_passing.proofs.Passing.{plain_call_passed, result_call_passed, written_call_is, plain_call_made}
-use Rattle.c_passing.proofs.Passing.{result_call_made}
-use Rattle.c_passing.proofs.Within.{at_index, term_within, operands_within, operands_below, kind_within}
+use Rattle.c_passing.proofs.Passing.{shape_calls, expression_passed, plain_call_passed, result_call_passed}
+use Rattle.c_passing.proofs.Passing.{written_call_is, plain_call_made, result_call_made}
+use Rattle.c_passing.proofs.Within.{term_within, operands_within, operands_below, kind_within}
 use Rattle.c_passing.proofs.expressions.+expressions.Goals as goal
 use Rattle.c_passing.proofs.expressions.+expressions.Goals.{arguments-in-None+in_ok-push-in-None}
 use Rattle.c_passing.proofs.expressions.+expressions.Goals.{arguments-in-Some+in_ok-argument-in-Some+in_ok-push-in-Some+in_ok-h-in-Some}
+use Rattle.passing_steps.proofs.Results.{on_both}
+use Rattle.passing_steps.proofs.Counting.{at_index}
 
 pub arguments-loop-x-preserved : goal.arguments-loop-x-preserved
 arguments-loop-x-preserved t c =
@@ -30,7 +31,8 @@ arguments-loop-x-preserved t c =
     let v = c.in_ok-value in
     let now : Arguments s a.out.now l.out a.first a.pos a.xs.now i l.h a.list.now.items l.list.items =
     record { adds = l.invariant.adds; counted = l.invariant.counted } in
-    let all : Arguments s a.out.now c.match-hidden_type.out a.first a.pos a.xs.now (i + 1) c.match-hidden_type.h a.list.now.items c.match-hidden_type.list.items =
+    let all : Arguments s a.out.now c.match-hidden_type.out a.first a.pos a.xs.now (i + 1) c.match-hidden_type.h
+    a.list.now.items c.match-hidden_type.list.items =
     elim c.match-hidden_type.branch [
       | arguments-in-None+in_ok-push-in-None w ↦
           arguments_at s a.out.now c.expression.new.out _ a.first a.pos a.xs.now
@@ -132,7 +134,8 @@ pub call_plainly-returns : goal.call_plainly-returns
 call_plainly-returns t c =
     let a = c.args in
     let xs = map (written_term a.source.now) a.xs.now in
-    let before : AddsTerms a.source.now a.out.now c.arguments.new.out (λ names. hidden_in_each names xs) (ArePassedArguments a.source.now a.out.now c.arguments.new.out a.own a.e.now.pos xs [] c.arguments.new.list.items) =
+    let before : AddsTerms a.source.now a.out.now c.arguments.new.out (λ names. hidden_in_each names xs)
+    (ArePassedArguments a.source.now a.out.now c.arguments.new.out a.own a.e.now.pos xs [] c.arguments.new.list.items) =
     subst (λ zs. AddsTerms a.source.now a.out.now c.arguments.new.out (λ names. hidden_in_each names xs)
     (ArePassedArguments a.source.now a.out.now c.arguments.new.out a.own a.e.now.pos xs zs
     c.arguments.new.list.items)) c.new-list.ensures.items c.in_ok-arguments.ensures in
@@ -168,7 +171,8 @@ expression-returns t c =
     c.as_slice-in_default.ensures.value ∙ c.in_ok-ks.ensures in
     let below = operands_below s k e c.requires c.expr-e.ensures in
     let calls = shape_calls (types_of s.program.now.types) e.kind c.in_default.not-Call in
-    let passed : AddsTerms s old mid (λ names. hidden_in_each names (map (written_term s) (operands e.kind))) (ArePassed s old mid (map (written_term s) (operands e.kind)) js) =
+    let passed : AddsTerms s old mid (λ names. hidden_in_each names (map (written_term s) (operands e.kind)))
+    (ArePassed s old mid (map (written_term s) (operands e.kind)) js) =
     subst (λ zs. AddsTerms s old mid (λ names. hidden_in_each names (map (written_term s) zs))
     (ArePassed s old mid (map (written_term s) zs) js)) too c.in_ok-js-in_default.ensures in
     let d : Expr = record { kind = c.in_ok-kind-in_default.kind; of = c.number-of.result; pos = e.pos } in

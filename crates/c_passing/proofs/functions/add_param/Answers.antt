@@ -1,8 +1,8 @@
 use Rattle.std.proofs.Common.{refl, sym, ap, ◌∙◌}
 use Rattle.c_tree.specs.Passed.{by_pointer}
-use Rattle.c_passing.specs.Numbered.{type_in}
 use Rattle.c_passing.proofs.Standing.{pointed_added, plain_added}
 use Rattle.c_passing.proofs.functions.add_param.Goals as goal
+use Rattle.passing_steps.specs.Numbered.{type_in}
 
 pub returns-in_ok-push-2 : goal.returns-in_ok-push-2
 returns-in_ok-push-2 c =

@@ -6,12 +6,13 @@ use Rattle.c_copy.specs.Copying.{AllBelow}
 use Rattle.c_copy.proofs.Copies.{pushed}
 use Rattle.c_passing.specs.Lists.{hidden_of_each}
 use Rattle.c_passing.specs.Passes.{written_action, ActionsWithin, AddsActions, ArePassedActions}
-use Rattle.c_passing.specs.Routines.{source_variable, AreParamCopies, AreBlockVars}
+use Rattle.c_passing.specs.Routines.{source_variable, AreParamCopies}
 use Rattle.c_passing.proofs.Bodies.{BodySteps, body_made}
-use Rattle.c_passing.proofs.Passing.{on_both}
 use Rattle.c_passing.proofs.Within.{body_within, parts_within, form_within}
 use Rattle.c_passing.proofs.functions.body.Goals.{After-push_stmt}
 use Rattle.c_passing.proofs.functions.body.Goals as goal
+use Rattle.passing_steps.specs.Steps.{AreBlockVars}
+use Rattle.passing_steps.proofs.Results.{on_both}
 
 steps : (c : After-push_stmt) (j : ℕ) →
     c.push_stmt.new.self.stmts.items ≡ c.statements.new.out.stmts.items

@@ -1,8 +1,8 @@
 use Rattle.std.proofs.Common.{◌+◌, length, refl, ap, ◌∙◌}
 use Rattle.c_tree.specs.Terms.{numbers_from}
 use Rattle.c_tree.specs.declared.typed.FunDef.{FunDef}
-use Rattle.c_passing.specs.declared.nodes.Source.{Source}
-use Rattle.c_passing.specs.declared.nodes.Made.{Made}
+use Rattle.passing_steps.specs.declared.nodes.Source.{Source}
+use Rattle.passing_steps.specs.declared.nodes.Made.{Made}
 use Rattle.c_passing.specs.Routines.{written_routine, IsFunction}
 use Rattle.c_passing.proofs.Bodies.{function_made}
 use Rattle.c_passing.proofs.functions.function.Goals as goal
@@ -28,7 +28,8 @@ returns c =
       vars = c.from_vec-2.result;
       body = c.in_ok-body.body;
     } in
-    let made : IsFunction w (written_routine w f) old c.body.new.out g = function_made w s f g n old c.body.new.out (record {
+    let made : IsFunction w (written_routine w f) old c.body.new.out g =
+    function_made w s f g n old c.body.new.out (record {
       program = refl;
       types = refl;
       names = refl;

@@ -2,12 +2,12 @@ use Rattle.std.proofs.Common.{◌+◌, false, get_or, map, arith, refl, sym, ap,
 use Rattle.std.proofs.lemmas.List.{take_all}
 use Rattle.c_tree.specs.declared.typed.VarDef.{VarDef}
 use Rattle.c_tree.specs.Passed.{by_pointer}
-use Rattle.c_passing.specs.Numbered.{type_in}
 use Rattle.c_passing.specs.Routines.{source_variable, AreParamCopies}
 use Rattle.c_passing.proofs.Returning.{Copies, no_copies, copies_pointed, copies_plain, copies_at}
 use Rattle.c_passing.proofs.functions.param_copies.Goals as goal
 use Rattle.c_passing.proofs.functions.param_copies.Goals.{then-by_pointer+in_ok-copy+in_ok-push+in_ok-to}
 use Rattle.c_passing.proofs.functions.param_copies.Goals.{else-by_pointer}
+use Rattle.passing_steps.specs.Numbered.{type_in}
 
 pub loop-v-init : goal.loop-v-init
 loop-v-init c = record {
@@ -34,7 +34,8 @@ loop-v-preserved c =
       to_is = l.invariant.to;
       are = l.invariant.are;
     } in
-    let all : Copies s a.out.now c.if-by_pointer.out a.first a.local a.params.now (i + 1) c.in_ok-from.from c.if-by_pointer.to a.body.now.items c.if-by_pointer.body.items =
+    let all : Copies s a.out.now c.if-by_pointer.out a.first a.local a.params.now (i + 1) c.in_ok-from.from
+    c.if-by_pointer.to a.body.now.items c.if-by_pointer.body.items =
     elim c.if-by_pointer.branch [
       | then-by_pointer+in_ok-copy+in_ok-push+in_ok-to w ↦
           copies_at s a.out.now w.param_copy.new.out _ a.first a.local a.params.now (i + 1) (l.from + 1)

@@ -1,9 +1,9 @@
 use Rattle.std.proofs.Common.{refl, subst}
 use Rattle.c_copy.proofs.Copies.{pushed}
-use Rattle.c_passing.specs.Numbered.{IsBare}
-use Rattle.c_passing.proofs.Passing.{on_both}
 use Rattle.c_passing.proofs.Returning.{param_copy_made}
 use Rattle.c_passing.proofs.functions.param_copy.Goals as goal
+use Rattle.passing_steps.specs.Numbered.{IsBare}
+use Rattle.passing_steps.proofs.Results.{on_both}
 
 pub returns : goal.returns
 returns c =

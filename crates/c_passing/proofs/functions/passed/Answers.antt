@@ -1,8 +1,8 @@
 use Rattle.std.proofs.Common.{sym, ap, ◌∙◌}
 use Rattle.c_tree.specs.Passed.{by_pointer}
-use Rattle.c_passing.specs.Numbered.{type_in}
 use Rattle.c_passing.proofs.Standing.{param_pointed, param_plain}
 use Rattle.c_passing.proofs.functions.passed.Goals as goal
+use Rattle.passing_steps.specs.Numbered.{type_in}
 
 pub returns-then-by_pointer : goal.returns-then-by_pointer
 returns-then-by_pointer c =

@@ -17,7 +17,8 @@ loop-f-preserved c =
     let slice = c.as_slice-f-items.ensures in
     let lt : i < length fs = subst (λ zs. i < length zs) slice c.loop-f-test.true in
     let read : f ≡ get_or fs i f = c.f-item.is ∙ ap (λ zs. get_or zs i f) slice in
-    let turn : map (written_routine w) (take (i + 1) fs) ≡ map (written_routine w) (take i fs) ++ written_routine w f ∷ [] =
+    let turn : map (written_routine w) (take (i + 1) fs) ≡ map (written_routine w) (take i fs) ++ written_routine w f
+    ∷ [] =
     ap (map (written_routine w)) (take_more fs i f lt ∙ ap (λ z. take i fs ++ z ∷ []) (sym read))
     ∙ map-append (written_routine w) (take i fs) (f ∷ []) in
     subst (λ rs. AreFunctions w rs c.args.out.now c.function.new.out c.push.new.self.items) (sym turn)

@@ -38,7 +38,7 @@ returns c =
       exprs = c.from_vec-4.ensures;
       stmts = c.from_vec-5.ensures;
       main = refl;
-      no_exprs = c.new-3.ensures.items;
-      no_stmts = c.new-4.ensures.items;
+      no_exprs = c.new.ensures.items;
+      no_stmts = c.new-2.ensures.items;
     })
     refl

@@ -1,6 +1,5 @@
 use Rattle.std.proofs.Common.{◌≡◌, ℕ, ◌<◌, ◌≤◌, List, [], ◌∷◌, ◌++◌, Some, length, get_or, take, drop, map, refl, ap}
-use Rattle.std.proofs.Common.{subst}
-use Rattle.std.proofs.Common.{sym, ◌+◌, ◌∙◌, arith}
+use Rattle.std.proofs.Common.{subst, sym, ◌+◌, ◌∙◌, arith}
 use Rattle.std.proofs.lemmas.List.{length-map, take_all}
 use Rattle.std.specs.Prelude.{slice_get}
 use Rattle.c_tree.specs.declared.typed.Stmt.{Stmt}
@@ -8,18 +7,19 @@ use Rattle.c_tree.specs.Views.{values, parts}
 use Rattle.c_tree.specs.Passed.{ahead, passed_form}
 use Rattle.c_copy.specs.Copying.{AllBelow, stmt_form}
 use Rattle.c_copy.proofs.Copies.{pushed}
-use Rattle.c_passing.specs.declared.nodes.Source.{Source}
+use Rattle.passing_steps.specs.declared.nodes.Source.{Source}
 use Rattle.c_passing.specs.Lists.{hidden_in_each, hidden_of_each}
-use Rattle.c_passing.specs.Passes.{written_term, written_action, FormWithin, ActionWithin, ActionsWithin}
-use Rattle.c_passing.specs.Passes.{AddsTerms, AddsActions, IsReturned, ArePassed, ArePassedActions}
+use Rattle.c_passing.specs.Passes.{written_term, written_action, FormWithin, ActionWithin, ActionsWithin, AddsTerms}
+use Rattle.c_passing.specs.Passes.{AddsActions, IsReturned, ArePassed, ArePassedActions}
 use Rattle.c_passing.proofs.Building.{Built, statement_made, returned_made}
 use Rattle.c_passing.proofs.Each.{statements_turn, no_statements_add}
 use Rattle.c_passing.proofs.Least.{least_above, item_below, front_least, back_least, count_both}
 use Rattle.c_passing.proofs.Numbering.{if_ok}
-use Rattle.c_passing.proofs.Passing.{on_both}
-use Rattle.c_passing.proofs.Within.{at_index, terms_there, form_within, values_within, parts_below, parts_within}
-use Rattle.c_passing.proofs.Within.{front_within, back_within}
+use Rattle.c_passing.proofs.Within.{terms_there, form_within, values_within, parts_below, parts_within, front_within}
+use Rattle.c_passing.proofs.Within.{back_within}
 use Rattle.c_passing.proofs.statements.+statements.Goals as goal
+use Rattle.passing_steps.proofs.Results.{on_both}
+use Rattle.passing_steps.proofs.Counting.{at_index}
 
 pub statement-returns-in_ok-value-in-Some : goal.statement-returns-in_ok-value-in-Some
 statement-returns-in_ok-value-in-Some t c =

@@ -2,10 +2,11 @@ use Rattle.std.proofs.Common.{◌≡◌, true, refl, sym, ap, subst, ◌∙◌}
 use Rattle.c_tree.specs.Types.{bare}
 use Rattle.c_tree.specs.Terms.{type_of}
 use Rattle.c_tree.specs.Passed.{by_pointer}
-use Rattle.c_passing.specs.Numbered.{type_in, IsBare}
-use Rattle.c_passing.specs.Passes.{written_type, written_term}
+use Rattle.c_passing.specs.Passes.{written_term}
 use Rattle.c_passing.proofs.Calling.{written_of}
 use Rattle.c_passing.proofs.statements.given_back.Goals as goal
+use Rattle.passing_steps.specs.Numbered.{type_in, IsBare}
+use Rattle.passing_steps.specs.Steps.{written_type}
 
 pub returns-then-by_pointer : goal.returns-then-by_pointer
 returns-then-by_pointer c =

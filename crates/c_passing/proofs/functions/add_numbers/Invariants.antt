@@ -1,9 +1,0 @@
-use Rattle.std.proofs.Common.{◌≡◌, ◌≤◌, ◌++◌, ◌-◌}
-use Rattle.c_tree.specs.Terms.{numbers_from}
-use Rattle.c_passing.proofs.functions.add_numbers.Given as goal
-
-abbrev pub invariant-loop-k : goal.invariant-loop-k
-invariant-loop-k l = record {
-  items : l.list.items ≡ l.initial.list.items ++ numbers_from l.from (l.k - l.from);
-  none : l.to ≤ l.from → l.k ≡ l.from;
-}
