@@ -2,7 +2,7 @@
 //! leaves.
 ghost use Rattle.std.specs.Prelude.{◌≡◌, ◌<◌, true, length};
 
-use crate::given::with_types;
+use crate::given::{got, with_types};
 use c_interner::{Lengths, Numbers, agree, append, next_number};
 use c_tree::{CType, Typed};
 use ck_base::{NoMemory, Sequence};
@@ -100,22 +100,24 @@ fn small_types(alloc: Global) -> Result<Typed, NoMemory> {
 // The pointed types of a call and the numbers of the pointers.
 const NUMBERED: [(u32, u32); 4] = [(0, 1), (1, 2), (0, 1), (1, 2)];
 
-fn have_one_number(alloc: Global) -> Result<bool, NoMemory> {
-    let mut p = with_types(alloc, Vec::new(alloc));
-    let mut numbers = Numbers::new(alloc);
-    for &(of, expected) in &NUMBERED {
-        let int = numbers.number_of(&mut p, CType::Int(IntKind::I32, 0))?;
-        let pointer = numbers.number_of(&mut p, CType::Pointer(of))?;
-        if int != 0 || pointer != expected {
-            return Ok(false);
+fn has_number(numbers: &mut Numbers, p: &mut Typed, &(of, expected): &(u32, u32)) -> bool {
+    numbers.number_of(p, CType::Int(IntKind::I32, 0)) == Ok(0)
+        && numbers.number_of(p, CType::Pointer(of)) == Ok(expected)
+}
+
+fn have_one_number(numbers: &mut Numbers, p: &mut Typed) -> bool {
+    for row in &NUMBERED {
+        if !has_number(numbers, p, row) {
+            return false;
         }
     }
-    Ok(true)
+    true
 }
 
 #[test]
 fn equal_types_have_one_number(rt: HostRuntime) {
-    assert!(rt; have_one_number(rt.alloc()).unwrap_or(false));
+    let mut p = with_types(rt.alloc(), Vec::new(rt.alloc()));
+    assert!(rt; have_one_number(&mut Numbers::new(rt.alloc()), &mut p));
 }
 
 // Two of the small types, and whether they are equal, and compatible.
@@ -135,10 +137,9 @@ fn agreements(alloc: Global, p: &Typed, a: u32, b: u32) -> Result<(bool, bool), 
     Ok((equal, compatible))
 }
 
-fn are_agreed(alloc: Global) -> Result<bool, NoMemory> {
-    let p = small_types(alloc)?;
+fn are_agreed(alloc: Global, p: &Typed) -> Result<bool, NoMemory> {
     for &(a, b, equal, compatible) in &AGREEMENTS {
-        if agreements(alloc, &p, a, b)? != (equal, compatible) {
+        if agreements(alloc, p, a, b)? != (equal, compatible) {
             return Ok(false);
         }
     }
@@ -147,7 +148,8 @@ fn are_agreed(alloc: Global) -> Result<bool, NoMemory> {
 
 #[test]
 fn types_agree(rt: HostRuntime) {
-    assert!(rt; are_agreed(rt.alloc()).unwrap_or(false));
+    let p = got(&rt, small_types(rt.alloc()));
+    assert!(rt; are_agreed(rt.alloc(), &p).unwrap_or(false));
 }
 
 // Two of the small types, and the length at the bottom of their composite.
@@ -173,11 +175,9 @@ fn composed(
     Ok((bottom(p.types.as_slice(), c).0, compatible))
 }
 
-fn are_composed(alloc: Global) -> Result<bool, NoMemory> {
-    let mut p = small_types(alloc)?;
-    let mut numbers = Numbers::new(alloc);
+fn are_composed(alloc: Global, numbers: &mut Numbers, p: &mut Typed) -> Result<bool, NoMemory> {
     for &(a, b, length) in &COMPOSITES {
-        if composed(alloc, &mut numbers, &mut p, a, b)? != (length, true) {
+        if composed(alloc, numbers, p, a, b)? != (length, true) {
             return Ok(false);
         }
     }
@@ -186,7 +186,9 @@ fn are_composed(alloc: Global) -> Result<bool, NoMemory> {
 
 #[test]
 fn a_composite_knows_each_length(rt: HostRuntime) {
-    assert!(rt; are_composed(rt.alloc()).unwrap_or(false));
+    let mut p = got(&rt, small_types(rt.alloc()));
+    let mut numbers = Numbers::new(rt.alloc());
+    assert!(rt; are_composed(rt.alloc(), &mut numbers, &mut p).unwrap_or(false));
 }
 
 // What is said of two types, and the bottom of their composite.
@@ -214,27 +216,27 @@ fn only_lengths_differ(c: Compared, levels: usize) -> bool {
     !c.equal && c.compatible && c.length == 4 && c.levels == levels
 }
 
-fn doublings_compared(alloc: Global) -> Result<bool, NoMemory> {
-    let mut p = small_types(alloc)?;
-    let a = doubling(alloc, &mut p, 1)?;
-    let b = doubling(alloc, &mut p, 2)?;
-    let compared = compare(alloc, &mut p, a, b)?;
+fn doublings_compared(alloc: Global, p: &mut Typed) -> Result<bool, NoMemory> {
+    let a = doubling(alloc, p, 1)?;
+    let b = doubling(alloc, p, 2)?;
+    let compared = compare(alloc, p, a, b)?;
     Ok(only_lengths_differ(compared, 121) && p.types.as_slice().len() < 400)
 }
 
 #[test]
 fn types_with_many_leaves(rt: HostRuntime) {
-    assert!(rt; doublings_compared(rt.alloc()).unwrap_or(false));
+    let mut p = got(&rt, small_types(rt.alloc()));
+    assert!(rt; doublings_compared(rt.alloc(), &mut p).unwrap_or(false));
 }
 
-fn pointers_compared(alloc: Global) -> Result<bool, NoMemory> {
-    let mut p = small_types(alloc)?;
-    let a = pointers(alloc, &mut p, 1)?;
-    let b = pointers(alloc, &mut p, 2)?;
-    Ok(only_lengths_differ(compare(alloc, &mut p, a, b)?, 100_000))
+fn pointers_compared(alloc: Global, p: &mut Typed) -> Result<bool, NoMemory> {
+    let a = pointers(alloc, p, 1)?;
+    let b = pointers(alloc, p, 2)?;
+    Ok(only_lengths_differ(compare(alloc, p, a, b)?, 100_000))
 }
 
 #[test]
 fn deep_types(rt: HostRuntime) {
-    assert!(rt; pointers_compared(rt.alloc()).unwrap_or(false));
+    let mut p = got(&rt, small_types(rt.alloc()));
+    assert!(rt; pointers_compared(rt.alloc(), &mut p).unwrap_or(false));
 }

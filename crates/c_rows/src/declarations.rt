@@ -9,7 +9,11 @@ use std::alloc::Global;
 
 const PLACE: Pos = Pos { line: 1, col: 1 };
 
-const NAME: Span = Span { start: 0, end: 1 };
+// The names of the tests, one byte each, in the file that they are declared over.
+const NAMES: &[u8] = b"abfgtzuvx";
+
+// The name where no table has another: `x`.
+const NAME: Span = Span { start: 8, end: 9 };
 
 const SOUND: Faults = Faults {
     lacks: false,
@@ -17,11 +21,96 @@ const SOUND: Faults = Faults {
     too_large: false,
 };
 
-// Scopes of a file, and a program with the types that they begin with.
-fn begun<'a>(alloc: Global, file: &'a [u8]) -> Result<(Scopes<'a>, Typed), NoMemory> {
+// The numbers of the types that the tests name.
+#[derive(Clone, Copy)]
+struct Kinds {
+    int: u32,
+    char: u32,
+    open: u32,
+    ten: u32,
+    call: u32,
+    other: u32,
+}
+
+// Scopes of the names, a program with the types that they begin with and those that the tests name, and the numbers of
+// these.
+#[derive(Drop)]
+struct Declaring {
+    scopes: Scopes<'static>,
+    p: Typed,
+    k: Kinds,
+}
+
+fn known_kinds(alloc: Global, scopes: &mut Scopes, p: &mut Typed) -> Result<Kinds, NoMemory> {
+    let int = scopes.number_of(p, CType::Int(IntKind::I32, 0))?;
+    let char = scopes.number_of(p, CType::Int(IntKind::U8, 0))?;
+    let open = scopes.number_of(p, CType::Array(int, 0))?;
+    let ten = scopes.number_of(p, CType::Array(int, 10))?;
+    let call = scopes.number_of(p, CType::Function(int, none(alloc)))?;
+    let other = scopes.number_of(p, CType::Function(char, none(alloc)))?;
+    Ok(Kinds {
+        int,
+        char,
+        open,
+        ten,
+        call,
+        other,
+    })
+}
+
+fn with_kinds(
+    alloc: Global,
+    mut scopes: Scopes<'static>,
+    mut p: Typed,
+) -> Result<Declaring, NoMemory> {
+    let k = known_kinds(alloc, &mut scopes, &mut p)?;
+    Ok(Declaring { scopes, p, k })
+}
+
+fn begun(alloc: Global) -> Result<Declaring, NoMemory> {
     let mut p = with_types(alloc, Vec::new(alloc));
-    let scopes = Scopes::new(alloc, &mut p, file)?;
-    Ok((scopes, p))
+    let scopes = Scopes::new(alloc, &mut p, NAMES)?;
+    with_kinds(alloc, scopes, p)
+}
+
+// What is asked of scopes and a program that are begun, each on its own.
+#[derive(Clone, Copy)]
+enum Case {
+    Names,
+    Numbers,
+    Nested(Nested),
+    Begun,
+    Tags,
+    Locals,
+    FileScope,
+    Block,
+    Filled,
+    Members,
+    Codes,
+}
+
+// One function asks all, and one alone owns what is asked: each that owns it takes a proof long.
+fn is_met(alloc: Global, d: &mut Declaring, case: Case) -> bool {
+    match case {
+        Case::Names => are_names_known(&mut d.scopes).unwrap_or(false),
+        Case::Numbers => have_one_number(d).unwrap_or(false),
+        Case::Nested(row) => passes(is_nested(alloc, d, row)),
+        Case::Begun => is_begun_once(d).unwrap_or(false),
+        Case::Tags => is_tag_declared_once(d),
+        Case::Locals => are_locals_taken(&mut d.scopes).unwrap_or(false),
+        Case::FileScope => is_file_scope_declared(d),
+        Case::Block => is_block_declared(d),
+        Case::Filled => passes(are_filled(alloc, d)),
+        Case::Members => are_members_known(alloc, d).unwrap_or(false),
+        Case::Codes => are_codes_in_order(d),
+    }
+}
+
+fn holds(alloc: Global, case: Case) -> bool {
+    match begun(alloc) {
+        Ok(mut d) => is_met(alloc, &mut d, case),
+        Err(_) => false,
+    }
 }
 
 // Whether a test of scopes passes, with an answer for want of memory and refusals.
@@ -42,8 +131,8 @@ fn denotes(scopes: &Scopes, name: &[u8], entry: Option<Entry>) -> bool {
 }
 
 // Whether a type has this layout.
-fn is_laid_out(scopes: &Scopes, p: &Typed, t: u32, size: u64, align: u64) -> bool {
-    scopes.layout(p, t) == Ok(Layout { size, align })
+fn is_laid_out(d: &Declaring, t: u32, size: u64, align: u64) -> bool {
+    d.scopes.layout(&d.p, t) == Ok(Layout { size, align })
 }
 
 // Names, and what they denote where nothing is declared.
@@ -109,75 +198,89 @@ fn closes(scopes: &mut Scopes) -> Result<bool, NoMemory> {
     Ok(is_closed)
 }
 
-fn knows_names(alloc: Global) -> Result<bool, Refusal> {
-    let (mut scopes, _p) = begun(alloc, b"x")?;
-    let known = are_known(&scopes);
+fn is_block_known(scopes: &mut Scopes) -> Result<bool, NoMemory> {
     scopes.enter()?;
-    let in_block = is_constant_declared_once(&mut scopes) && is_in_block(&scopes);
-    let closed = closes(&mut scopes)?;
-    Ok(known && in_block && closed && is_outside(&scopes))
+    Ok(is_constant_declared_once(scopes) && is_in_block(scopes) && closes(scopes)?)
+}
+
+fn are_names_known(scopes: &mut Scopes) -> Result<bool, NoMemory> {
+    Ok(are_known(scopes) && is_block_known(scopes)? && is_outside(scopes))
 }
 
 #[test]
 fn names_are_known(rt: HostRuntime) {
-    assert!(rt; passes(knows_names(rt.alloc())));
+    assert!(rt; holds(rt.alloc(), Case::Names));
 }
 
 // Pointers in one another to a type, made by turns in two rows of the same.
-fn rows_of_pointers(scopes: &mut Scopes, p: &mut Typed, of: u32) -> Result<(u32, u32), NoMemory> {
+fn rows_of_pointers(d: &mut Declaring, of: u32) -> Result<(u32, u32), NoMemory> {
     let mut first = of;
     let mut second = of;
     for _ in 0..100_000 {
-        first = scopes.number_of(p, CType::Pointer(first))?;
-        second = scopes.number_of(p, CType::Pointer(second))?;
+        first = d.scopes.number_of(&mut d.p, CType::Pointer(first))?;
+        second = d.scopes.number_of(&mut d.p, CType::Pointer(second))?;
     }
     Ok((first, second))
 }
 
 // Arrays and the words `const` in one another around a type.
-fn arrays(scopes: &mut Scopes, p: &mut Typed, of: u32) -> Result<u32, NoMemory> {
+fn arrays(d: &mut Declaring, of: u32) -> Result<u32, NoMemory> {
     let mut inner = of;
     for _ in 0..100_000 {
-        inner = scopes.number_of(p, CType::Array(inner, 1))?;
-        inner = scopes.number_of(p, CType::Const(inner))?;
+        inner = d.scopes.number_of(&mut d.p, CType::Array(inner, 1))?;
+        inner = d.scopes.number_of(&mut d.p, CType::Const(inner))?;
     }
     Ok(inner)
 }
 
-fn have_one_number(alloc: Global) -> Result<bool, Refusal> {
-    let (mut scopes, mut p) = begun(alloc, b"x")?;
-    let char = scopes.number_of(&mut p, CType::Int(IntKind::U8, 0))?;
-    let other = scopes.number_of(&mut p, CType::Int(IntKind::U8, 1))?;
-    let (first, second) = rows_of_pointers(&mut scopes, &mut p, char)?;
-    let array = arrays(&mut scopes, &mut p, second)?;
-    Ok(
-        char != other
-            && first == second
-            && is_laid_out(&scopes, &p, first, 16, 16)
-            && is_laid_out(&scopes, &p, array, 16, 16)
-            && scopes.is_complete(&p, array),
-    )
+fn have_chars_two_numbers(d: &mut Declaring) -> Result<bool, NoMemory> {
+    let other = d.scopes.number_of(&mut d.p, CType::Int(IntKind::U8, 1))?;
+    Ok(d.k.char != other)
+}
+
+fn are_arrays_laid_out(d: &mut Declaring, of: u32) -> Result<bool, NoMemory> {
+    let array = arrays(d, of)?;
+    Ok(is_laid_out(d, array, 16, 16) && d.scopes.is_complete(&d.p, array))
+}
+
+fn have_pointers_one_number(d: &mut Declaring) -> Result<bool, NoMemory> {
+    let (first, second) = rows_of_pointers(d, d.k.char)?;
+    Ok(first == second && is_laid_out(d, first, 16, 16) && are_arrays_laid_out(d, second)?)
+}
+
+fn have_one_number(d: &mut Declaring) -> Result<bool, NoMemory> {
+    Ok(have_chars_two_numbers(d)? && have_pointers_one_number(d)?)
 }
 
 #[test]
 fn equal_types_have_one_number(rt: HostRuntime) {
-    assert!(rt; passes(have_one_number(rt.alloc())));
+    assert!(rt; holds(rt.alloc(), Case::Numbers));
+}
+
+// A struct or union gets so many members of a type.
+fn complete(
+    alloc: Global,
+    d: &mut Declaring,
+    tag: u32,
+    of: u32,
+    times: usize,
+) -> Result<(), Refusal> {
+    let members = vec![in alloc; Member { name: NAME, of }; times]?;
+    d.scopes.complete_tag(&mut d.p, tag, members, PLACE)
 }
 
 // A struct or union of so many members of a type.
 fn record(
     alloc: Global,
-    scopes: &mut Scopes,
-    p: &mut Typed,
+    d: &mut Declaring,
     kind: RecordKind,
     of: u32,
     times: usize,
 ) -> Result<u32, Refusal> {
-    let tag = scopes.new_tag(p, kind)?;
-    let whole = newest(p);
-    scopes.begin_tag(tag, PLACE)?;
-    let members = vec![in alloc; Member { name: NAME, of }; times]?;
-    scopes.complete_tag(p, tag, members, PLACE)?;
+    let tag = d.scopes.new_tag(&mut d.p, kind)?;
+    let whole = newest(&d.p);
+    d.scopes.begin_tag(tag, PLACE)?;
+    complete(alloc, d, tag, of, times)?;
     Ok(whole)
 }
 
@@ -191,34 +294,40 @@ const NESTED: [Nested; 3] = [
     (RecordKind::Struct, 2, 3, 36),
 ];
 
-fn is_nested(alloc: Global, &(kind, levels, times, size): &Nested) -> Result<bool, Refusal> {
-    let (mut scopes, mut p) = begun(alloc, b"x")?;
-    let mut of = scopes.number_of(&mut p, CType::Int(IntKind::I32, 0))?;
+fn is_nested(
+    alloc: Global,
+    d: &mut Declaring,
+    (kind, levels, times, size): Nested,
+) -> Result<bool, Refusal> {
+    let mut of = d.k.int;
     for _ in 0..levels {
-        of = record(alloc, &mut scopes, &mut p, kind, of, times)?;
+        of = record(alloc, d, kind, of, times)?;
     }
-    Ok(is_laid_out(&scopes, &p, of, size, 4))
+    Ok(is_laid_out(d, of, size, 4))
 }
 
-fn is_begun_once(alloc: Global) -> Result<bool, Refusal> {
-    let (mut scopes, mut p) = begun(alloc, b"x")?;
-    let tag = scopes.new_tag(&mut p, RecordKind::Struct)?;
-    let open = newest(&p);
-    let is_open = scopes.layout(&p, open) == Err(LayoutFault::Incomplete);
-    let is_incomplete = !scopes.is_complete(&p, open);
-    scopes.begin_tag(tag, PLACE)?;
-    Ok(is_open && is_incomplete && scopes.begin_tag(tag, PLACE).is_err())
+fn is_incomplete(d: &Declaring, t: u32) -> bool {
+    d.scopes.layout(&d.p, t) == Err(LayoutFault::Incomplete) && !d.scopes.is_complete(&d.p, t)
+}
+
+fn is_begun_once(d: &mut Declaring) -> Result<bool, NoMemory> {
+    let tag = d.scopes.new_tag(&mut d.p, RecordKind::Struct)?;
+    Ok(
+        is_incomplete(d, newest(&d.p))
+            && d.scopes.begin_tag(tag, PLACE).is_ok()
+            && d.scopes.begin_tag(tag, PLACE).is_err(),
+    )
 }
 
 #[test]
 fn records_have_layouts(rt: HostRuntime) {
-    for row in &NESTED {
-        assert!(rt; passes(is_nested(rt.alloc(), row)), "{} levels", row.1);
+    for &row in &NESTED {
+        assert!(rt; holds(rt.alloc(), Case::Nested(row)), "{} levels", row.1);
     }
-    assert!(rt; passes(is_begun_once(rt.alloc())));
+    assert!(rt; holds(rt.alloc(), Case::Begun));
 }
 
-fn declared_tag(scopes: &mut Scopes, p: &mut Typed, kind: TagKind) -> Result<Entry, Refusal> {
+fn declared_tag(d: &mut Declaring, kind: TagKind) -> Result<Entry, Refusal> {
     let tag = Decl {
         name: NAME,
         pos: PLACE,
@@ -228,21 +337,24 @@ fn declared_tag(scopes: &mut Scopes, p: &mut Typed, kind: TagKind) -> Result<Ent
         storage: Storage::Plain,
         defines: true,
     };
-    scopes.declare_tag(p, kind, tag)
+    d.scopes.declare_tag(&mut d.p, kind, tag)
 }
 
 fn is_refused(answer: Result<Entry, Refusal>, code: u16) -> bool {
     answer == Err(Refusal::Code(code, PLACE))
 }
 
-fn is_tag_declared_once(alloc: Global) -> Result<bool, Refusal> {
-    let (mut scopes, mut p) = begun(alloc, b"x")?;
-    let entry = declared_tag(&mut scopes, &mut p, TagKind::Struct)?;
-    Ok(
-        scopes.find_tag(b"x") == Some(entry)
-            && is_refused(declared_tag(&mut scopes, &mut p, TagKind::Struct), 131)
-            && is_refused(declared_tag(&mut scopes, &mut p, TagKind::Enum), 133),
-    )
+fn is_tag_found(d: &mut Declaring) -> bool {
+    match declared_tag(d, TagKind::Struct) {
+        Ok(entry) => d.scopes.find_tag(b"x") == Some(entry),
+        Err(_) => false,
+    }
+}
+
+fn is_tag_declared_once(d: &mut Declaring) -> bool {
+    is_tag_found(d)
+        && is_refused(declared_tag(d, TagKind::Struct), 131)
+        && is_refused(declared_tag(d, TagKind::Enum), 133)
 }
 
 fn local(of: u32) -> VarDef {
@@ -254,25 +366,25 @@ fn local(of: u32) -> VarDef {
     }
 }
 
-fn are_locals_taken(alloc: Global) -> Result<bool, Refusal> {
-    let (mut scopes, _p) = begun(alloc, b"x")?;
+fn is_local_known(scopes: &mut Scopes) -> Result<bool, NoMemory> {
     scopes.add_parameter(local(0))?;
     scopes.complete_local(0, 1, NAME)?;
-    Ok(
-        denotes(&scopes, b"x", Some(Entry::Var(0)))
-            && scopes.take_locals().len() == 1
-            && scopes.take_locals().is_empty(),
-    )
+    Ok(denotes(scopes, b"x", Some(Entry::Var(0))))
+}
+
+fn are_taken_once(scopes: &mut Scopes) -> bool {
+    scopes.take_locals().len() == 1 && scopes.take_locals().is_empty()
+}
+
+fn are_locals_taken(scopes: &mut Scopes) -> Result<bool, NoMemory> {
+    Ok(is_local_known(scopes)? && are_taken_once(scopes))
 }
 
 #[test]
 fn tags_and_locals_are_declared(rt: HostRuntime) {
-    assert!(rt; passes(is_tag_declared_once(rt.alloc())));
-    assert!(rt; passes(are_locals_taken(rt.alloc())));
+    assert!(rt; holds(rt.alloc(), Case::Tags));
+    assert!(rt; holds(rt.alloc(), Case::Locals));
 }
-
-// The names of the tables, one byte each, in the file that they are declared over.
-const NAMES: &[u8] = b"abfgtzuv";
 
 // A type that the tables name.
 #[derive(Clone, Copy)]
@@ -285,34 +397,6 @@ enum Of {
     // Functions without parameters: that give an `int`, and a `char`.
     Call,
     Other,
-}
-
-// The numbers of these types.
-#[derive(Clone, Copy)]
-struct Kinds {
-    int: u32,
-    char: u32,
-    open: u32,
-    ten: u32,
-    call: u32,
-    other: u32,
-}
-
-fn known_kinds(alloc: Global, scopes: &mut Scopes, p: &mut Typed) -> Result<Kinds, NoMemory> {
-    let int = scopes.number_of(p, CType::Int(IntKind::I32, 0))?;
-    let char = scopes.number_of(p, CType::Int(IntKind::U8, 0))?;
-    let open = scopes.number_of(p, CType::Array(int, 0))?;
-    let ten = scopes.number_of(p, CType::Array(int, 10))?;
-    let call = scopes.number_of(p, CType::Function(int, none(alloc)))?;
-    let other = scopes.number_of(p, CType::Function(char, none(alloc)))?;
-    Ok(Kinds {
-        int,
-        char,
-        open,
-        ten,
-        call,
-        other,
-    })
 }
 
 fn number(k: Kinds, of: Of) -> u32 {
@@ -359,20 +443,6 @@ fn named(at: u32, of: u32, what: DeclKind, storage: Storage, defines: bool) -> D
 
 // The place of a name, its type, what is declared, its storage and whether it is defined; and what is given.
 type Row = (u32, Of, DeclKind, Storage, bool, Given);
-
-// Scopes of the names, a program, and the numbers of the types.
-#[derive(Drop)]
-struct Declaring {
-    scopes: Scopes<'static>,
-    p: Typed,
-    k: Kinds,
-}
-
-fn names_to_declare(alloc: Global) -> Result<Declaring, NoMemory> {
-    let (mut scopes, mut p) = begun(alloc, NAMES)?;
-    let k = known_kinds(alloc, &mut scopes, &mut p)?;
-    Ok(Declaring { scopes, p, k })
-}
 
 fn is_declared(d: &mut Declaring, &(at, of, what, storage, defines, given): &Row) -> bool {
     let name = named(at, number(d.k, of), what, storage, defines);
@@ -557,19 +627,16 @@ fn has_two_of_each(d: &Declaring) -> bool {
         && d.p.funs.as_slice().len() == 2
 }
 
-fn is_file_scope_declared(alloc: Global) -> bool {
-    let Ok(mut d) = names_to_declare(alloc) else {
-        return false;
-    };
-    are_declared(&mut d, &OBJECTS)
-        && are_declared(&mut d, &FUNCTIONS)
-        && are_declared(&mut d, &ALIASES)
-        && has_two_of_each(&d)
+fn is_file_scope_declared(d: &mut Declaring) -> bool {
+    are_declared(d, &OBJECTS)
+        && are_declared(d, &FUNCTIONS)
+        && are_declared(d, &ALIASES)
+        && has_two_of_each(d)
 }
 
 #[test]
 fn file_scope_is_declared(rt: HostRuntime) {
-    assert!(rt; is_file_scope_declared(rt.alloc()));
+    assert!(rt; holds(rt.alloc(), Case::FileScope));
 }
 
 const OUTSIDE: [Row; 2] = [
@@ -707,19 +774,13 @@ fn is_left(d: &mut Declaring) -> bool {
         && !d.scopes.is_defined(1)
 }
 
-fn is_block_declared(alloc: Global) -> bool {
-    let Ok(mut d) = names_to_declare(alloc) else {
-        return false;
-    };
-    are_declared(&mut d, &OUTSIDE)
-        && d.scopes.enter().is_ok()
-        && are_declared(&mut d, &INSIDE)
-        && is_left(&mut d)
+fn is_block_declared(d: &mut Declaring) -> bool {
+    are_declared(d, &OUTSIDE) && d.scopes.enter().is_ok() && are_declared(d, &INSIDE) && is_left(d)
 }
 
 #[test]
 fn blocks_are_declared(rt: HostRuntime) {
-    assert!(rt; is_block_declared(rt.alloc()));
+    assert!(rt; holds(rt.alloc(), Case::Block));
 }
 
 const AGAIN: Row = (
@@ -747,40 +808,34 @@ fn is_function_filled(alloc: Global, d: &mut Declaring) -> Result<bool, Refusal>
     Ok(matches!(d.p.funs.as_slice(), [f] if f.body == 5))
 }
 
-fn are_filled(alloc: Global) -> bool {
-    let Ok(mut d) = names_to_declare(alloc) else {
-        return false;
-    };
-    are_declared(&mut d, &OUTSIDE)
-        && passes(is_global_filled(alloc, &mut d))
-        && passes(is_function_filled(alloc, &mut d))
+fn are_filled(alloc: Global, d: &mut Declaring) -> Result<bool, Refusal> {
+    Ok(are_declared(d, &OUTSIDE) && is_global_filled(alloc, d)? && is_function_filled(alloc, d)?)
 }
 
 #[test]
 fn what_was_declared_is_filled(rt: HostRuntime) {
-    assert!(rt; are_filled(rt.alloc()));
+    assert!(rt; holds(rt.alloc(), Case::Filled));
 }
 
-fn has_one_union(scopes: &Scopes, p: &Typed, tag: u32) -> bool {
-    matches!(scopes.members(p, tag), Some([_]))
-        && matches!(scopes.kind_of_tag(tag), Some(RecordKind::Union))
-        && scopes.kind_of_tag(1).is_none()
-        && scopes.tag_count() == 1
+fn has_one_union(d: &Declaring, tag: u32) -> bool {
+    matches!(d.scopes.members(&d.p, tag), Some([_]))
+        && matches!(d.scopes.kind_of_tag(tag), Some(RecordKind::Union))
+        && d.scopes.kind_of_tag(1).is_none()
+        && d.scopes.tag_count() == 1
 }
 
-fn are_members_known(alloc: Global) -> Result<bool, Refusal> {
-    let (mut scopes, mut p) = begun(alloc, NAMES)?;
-    let of = scopes.number_of(&mut p, CType::Int(IntKind::I32, 0))?;
-    let tag = scopes.new_tag(&mut p, RecordKind::Union)?;
-    let has_none = scopes.members(&p, tag).is_none();
-    let members = vec![in alloc; Member { name: NAME, of }; 1]?;
-    scopes.complete_tag(&mut p, tag, members, PLACE)?;
-    Ok(has_none && has_one_union(&scopes, &p, tag))
+fn are_members_known(alloc: Global, d: &mut Declaring) -> Result<bool, NoMemory> {
+    let tag = d.scopes.new_tag(&mut d.p, RecordKind::Union)?;
+    Ok(
+        d.scopes.members(&d.p, tag).is_none()
+            && complete(alloc, d, tag, d.k.int, 1).is_ok()
+            && has_one_union(d, tag),
+    )
 }
 
 #[test]
 fn members_are_known(rt: HostRuntime) {
-    assert!(rt; passes(are_members_known(rt.alloc())));
+    assert!(rt; holds(rt.alloc(), Case::Members));
 }
 
 // The place of a declaration of an object whose type breaks rules, which of them, in the order of `Faults`, and the
@@ -824,17 +879,14 @@ fn have_codes(d: &mut Declaring, rows: &[Broken]) -> bool {
     true
 }
 
-fn are_codes_in_order(alloc: Global) -> bool {
-    let Ok(mut d) = names_to_declare(alloc) else {
-        return false;
-    };
-    have_codes(&mut d, &LOWEST)
+fn are_codes_in_order(d: &mut Declaring) -> bool {
+    have_codes(d, &LOWEST)
         && denotes(&d.scopes, b"u", None)
-        && is_declared(&mut d, &DECLARED)
-        && have_codes(&mut d, &TWICE)
+        && is_declared(d, &DECLARED)
+        && have_codes(d, &TWICE)
 }
 
 #[test]
 fn the_lowest_code_comes_first(rt: HostRuntime) {
-    assert!(rt; are_codes_in_order(rt.alloc()));
+    assert!(rt; holds(rt.alloc(), Case::Codes));
 }

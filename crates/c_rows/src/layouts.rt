@@ -151,11 +151,15 @@ fn statements(alloc: Global) -> Result<Vec<Stmt>, AllocError> {
 }
 
 fn program(alloc: Global) -> Result<Typed, AllocError> {
-    let mut p = with_types(alloc, types(alloc)?);
-    p.funs = Sequence::from_vec(functions(alloc)?);
-    p.exprs = Sequence::from_vec(expressions(alloc)?);
-    p.stmts = Sequence::from_vec(statements(alloc)?);
-    Ok(p)
+    Ok(Typed {
+        types: Sequence::from_vec(types(alloc)?),
+        globals: none(alloc),
+        literals: none(alloc),
+        funs: Sequence::from_vec(functions(alloc)?),
+        exprs: Sequence::from_vec(expressions(alloc)?),
+        stmts: Sequence::from_vec(statements(alloc)?),
+        main: 0,
+    })
 }
 
 // Where a member of a struct begins, if there is such a member.
@@ -273,19 +277,19 @@ fn have_kept_layouts(p: &Typed, layouts: &Layouts) -> bool
 }
 
 // Whether layouts are kept, and the granules and copies are counted by them.
-fn are_kept(alloc: Global) -> Result<bool, AllocError> {
-    let p = program(alloc)?;
-    let layouts = Layouts::new(alloc, &p)?;
+fn are_kept(alloc: Global, p: &Typed) -> Result<bool, AllocError> {
+    let layouts = Layouts::new(alloc, p)?;
     Ok(
-        have_kept_layouts(&p, &layouts)
-            && granules(&layouts, &p) == 2 * (257 + 1)
-            && copies(&layouts, &p) == 2 + 2 + 1 + 2,
+        have_kept_layouts(p, &layouts)
+            && granules(&layouts, p) == 2 * (257 + 1)
+            && copies(&layouts, p) == 2 + 2 + 1 + 2,
     )
 }
 
 #[test]
 fn layouts_are_kept_and_parts_are_counted(rt: HostRuntime) {
-    assert!(rt; are_kept(rt.alloc()).unwrap_or(false));
+    let p = program(rt.alloc()).expect(&rt, "a program");
+    assert!(rt; are_kept(rt.alloc(), &p).unwrap_or(false));
 }
 
 const OFFSETS: [(u32, u32, u64); 6] = [
