@@ -1,4 +1,3 @@
-pub mod Arguments
 pub mod Asking
 pub mod Assigning
 pub mod Choosing

@@ -1,6 +1,6 @@
 -- Parts of the rules on operands: each rule without its test that the state knows the size of what a pointer points to,
 -- and single cases.
-use Rattle.std.specs.Prelude.{ℕ, Bool, not, ◌&&◌, ◌||◌, if◌then◌else◌, List}
+use Rattle.std.specs.Prelude.{ℕ, Bool, ◌&&◌, ◌||◌, if◌then◌else◌, List}
 use Rattle.ck_base.specs.declared.positions.Pos.{Pos}
 use Rattle.ck_int.specs.declared.kinds.IntOp.{IntOp}
 use Rattle.ck_int.specs.declared.kinds.IntOp.TheVariants.{Add, Sub, Shl, Shr}
@@ -9,16 +9,15 @@ use Rattle.c_tree.specs.declared.typed.UnaryOp.{UnaryOp}
 use Rattle.c_tree.specs.declared.typed.UnaryOp.TheVariants as unary
 use Rattle.c_tree.specs.declared.syntax.InfixOperator.{InfixOperator}
 use Rattle.c_tree.specs.declared.syntax.InfixOperator.TheVariants as infixes
-use Rattle.c_tree.specs.declared.syntax.StepOperator.{StepOperator}
 use Rattle.c_tree.specs.Types.{Ty, Pointer, bare, is_integer, is_pointer, is_scalar, is_function, int, promoted}
 use Rattle.c_tree.specs.Values.{integer_of, number_type, character_value}
-use Rattle.c_tree.specs.Terms.{Constant, leaf, Unary, Load, Compare, And, Or, Comma, Compound, Step, Address, Term}
+use Rattle.c_tree.specs.Terms.{Constant, leaf, Unary, Load, Compare, And, Or, Comma, Compound, Address, Term}
 use Rattle.c_tree.specs.Terms.{type_of, pos_of, step, join}
 use Rattle.c_tree.specs.Scopes.{Doing, need, refuse, ◌>>◌}
 use Rattle.c_tree.specs.Conversions.{Operand, operand_type, designates, is_place, converted_term}
 use Rattle.c_tree.specs.Expressions.{gives, arithmetic, shift, sum_of, difference_of, compared, logical, is_modifiable}
-use Rattle.c_tree.specs.Expressions.{both_agree, compounds, computed_in, right_of, points_to_function, increments}
-use Rattle.c_tree.specs.Expressions.{is_void_pointer}
+use Rattle.c_tree.specs.Expressions.{both_agree, compounds, computed_in, right_of, is_void_pointer}
+pub use Rattle.c_postfix_operators.specs.Steps.{stepped_of}
 use Rattle.c_operators.specs.declared.pointers.Fallback.{Fallback}
 use Rattle.c_operators.specs.declared.pointers.Fallback.TheVariants as fallbacks
 
@@ -90,12 +89,6 @@ compound_of o a b p =
     let t = operand_type b in
     need (is_modifiable a.is && compounds o s t) 133 a.first >>
     gives (join (Compound o (computed_in o s t)) a.is (right_of o s b.is) s p) a.first
-
-abbrev pub stepped_of : StepOperator → Bool → Operand → Pos → Pos → Doing Operand
-stepped_of o in_front a p first =
-    let t = bare (operand_type a) in
-    need (is_modifiable a.is && is_scalar t && not (points_to_function t)) 133 first >>
-    gives (step (Step (increments o) in_front) a.is t p) first
 
 -- the address of a place or function. That the address of a local is taken is another step
 abbrev pub address_of : Operand → Pos → Doing Operand

@@ -1,20 +1,19 @@
-//! Assignments, steps, addresses and casts (C11 6.5.2.4, 6.5.3.1, 6.5.3.2, 6.5.4, 6.5.16).
+//! Assignments, addresses and casts (C11 6.5.3.2, 6.5.4, 6.5.16).
 
-ghost use Rattle.std.specs.Prelude.{◌≡◌, ◌<◌, ◌&&◌, ◌||◌, not, if◌then◌else◌, IfOk};
-ghost use Rattle.c_tree.specs.Types.{promoted, common, is_pointer, is_scalar, is_void, is_function};
+ghost use Rattle.std.specs.Prelude.{◌≡◌, ◌<◌, ◌&&◌, ◌||◌, if◌then◌else◌, IfOk};
+ghost use Rattle.c_tree.specs.Types.{promoted, common, is_pointer, is_function};
 ghost use Rattle.c_tree.specs.Terms.{type_of};
 ghost use Rattle.c_tree.specs.Conversions.{converted_term, is_place};
 ghost use Rattle.c_tree.specs.Expressions.{assign, is_modifiable, is_additive, is_shift, computed_in, right_of};
-ghost use Rattle.c_tree.specs.Expressions.{compounds, increments, points_to_function, casts, cast, as_qualified};
+ghost use Rattle.c_tree.specs.Expressions.{compounds, casts, cast, as_qualified};
 ghost use Rattle.c_expressions.specs.Answers.{Answers};
 ghost use Rattle.c_expressions.specs.Facts.{local_of};
 ghost use Rattle.c_expressions.specs.Nodes.{IsWhole, HasTerm, HasType, IsOperand, operand_in, type_in, term_in};
 ghost use Rattle.c_expressions.specs.Nodes.{type_count};
 ghost use Rattle.c_expressions.specs.Nodes.{term_count};
-ghost use Rattle.c_operators.specs.Rules.{compound_of, stepped_of, address_of};
+ghost use Rattle.c_operators.specs.Rules.{compound_of, address_of};
 
 use c_expressions::{Join, Nodes, Operand, Step};
-use c_tree::StepOperator;
 use ck_base::{NoMemory, Pos, Refusal};
 use ck_int::IntOp;
 
@@ -47,15 +46,6 @@ fn is_shift(op: IntOp) -> bool
         | IntOp::And
         | IntOp::Or
         | IntOp::Xor => false,
-    }
-}
-
-fn increments(op: StepOperator) -> bool
-    ensures { increments op ≡ result }
-{
-    match op {
-        StepOperator::Increment => true,
-        StepOperator::Decrement => false,
     }
 }
 
@@ -186,41 +176,6 @@ pub fn compound_of(
         node,
         first: a.first,
     })
-}
-
-// ---- steps (C11 6.5.2.4, 6.5.3.1)
-
-fn may_step(nodes: &Nodes<'_>, node: u32, t: u32) -> bool
-    requires whole { IsWhole nodes.now }
-    requires node { node < term_count nodes.now }
-    requires there { t < type_count nodes.now }
-    ensures { (is_modifiable (term_in nodes.now node) && is_scalar (type_in nodes.now t)
-        && not (points_to_function (type_in nodes.now t))) ≡ result }
-{
-    nodes.is_modifiable(node) && nodes.is_scalar(t) && !nodes.points_to_function(t)
-}
-
-/// `++` and `--`, where what a pointer points to is known to be complete.
-pub fn stepped_of(
-    nodes: &mut Nodes<'_>,
-    op: StepOperator,
-    in_front: bool,
-    a: Operand,
-    pos: Pos,
-    first: Pos,
-) -> Result<Operand, Refusal>
-    requires whole { IsWhole nodes.old }
-    requires operand { a.node < term_count nodes.old }
-    ensures { Answers nodes.old nodes.new (stepped_of op in_front (operand_in nodes.old a) pos first) IsOperand result }
-{
-    let of = nodes.of(a.node);
-    let t = nodes.bare(of);
-    if !may_step(nodes, a.node, t) {
-        return Err(Refusal::Code(133, first));
-    }
-    let adds = increments(op);
-    let node = nodes.step(Step::Move(adds, in_front), a.node, t, pos)?;
-    Ok(Operand { node, first })
 }
 
 // ---- addresses (C11 6.5.3.2)

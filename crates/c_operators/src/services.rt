@@ -3,17 +3,17 @@
 ghost use Rattle.std.specs.Prelude.{◌≡◌, ◌<◌, ◌==◌, length, map, slice_get, IfOk};
 ghost use Rattle.c_tree.specs.Conversions.{assigned};
 ghost use Rattle.c_tree.specs.Expressions.{asked, all_asked, given_type, first_type, library_call};
-ghost use Rattle.c_tree.specs.Libraries.{services};
+ghost use Rattle.c_tree.specs.Libraries.{services, Any_capability};
 ghost use Rattle.c_expressions.specs.Agreement.{AreBelow};
 ghost use Rattle.c_expressions.specs.Answers.{Answers};
-ghost use Rattle.c_operators.specs.Called.{AreTerms, AreThere};
 ghost use Rattle.c_expressions.specs.Classes.{integer_type};
 ghost use Rattle.c_expressions.specs.Nodes.{IsWhole, IsOperand, IsTerm, IsType, HasType, operand_in, term_in};
 ghost use Rattle.c_expressions.specs.Nodes.{term_count};
+ghost use Rattle.c_postfix_operators.specs.Called.{AreTerms, AreThere};
 ghost use Rattle.c_operators.specs.Services.{asked_as, takes_as, given_as, library_as};
 
-use crate::calls::{capability, fewer, push};
 use c_expressions::{Integer, Nodes, Operand};
+use c_postfix_operators::{fewer, push};
 use ck_base::{NoMemory, Pos, Refusal};
 use ck_int::IntKind;
 
@@ -172,6 +172,18 @@ fn are_as_many_asked(takes: &[Asked], xs: &[Operand]) -> bool
     ensures { (length xs.now == length takes.now) ≡ result }
 {
     xs.len() == takes.len()
+}
+
+// An argument that may be any pointer or capability integer.
+fn capability(nodes: &Nodes<'_>, x: Operand) -> Result<u32, Refusal>
+    requires whole { IsWhole nodes.now }
+    requires operand { x.node < term_count nodes.now }
+    ensures { Answers nodes.now nodes.now (asked Any_capability (operand_in nodes.now x)) IsTerm result }
+{
+    if !nodes.is_capability(nodes.of(x.node)) {
+        return Err(Refusal::Code(133, x.first));
+    }
+    Ok(x.node)
 }
 
 fn assigned_integer(nodes: &mut Nodes<'_>, to: Integer, x: Operand) -> Result<u32, Refusal>

@@ -4,7 +4,7 @@ use Rattle.c_tree.specs.Views.{tys}
 use Rattle.c_tree.specs.Expressions.{call_of}
 use Rattle.c_expressions.specs.Nodes.{IsOperand, operand_in, type_in}
 use Rattle.c_expressions.proofs.Keeping.{answers_is}
-use Rattle.c_operators.proofs.calls.call.Goals as goal
+use Rattle.c_postfix_operators.proofs.calls.call.Goals as goal
 
 pub called-requires-clause-gives : goal.called-requires-clause-gives
 called-requires-clause-gives c = let h = rw c.in-Some.is at c.in_ok-callee.ensures in h.gives

@@ -2,11 +2,11 @@ use Rattle.std.proofs.Common.{◌≡◌, ap, ◌∙◌, map}
 use Rattle.std.proofs.lemmas.Result.{err_from_is_err_and}
 use Rattle.c_tree.specs.Types.{bare}
 use Rattle.c_tree.specs.Terms.{Call, term, terms, with_term}
-use Rattle.c_operators.specs.Called.{AreTerms}
+use Rattle.c_postfix_operators.specs.Called.{AreTerms}
 use Rattle.c_expressions.specs.Nodes.{IsOperand, operand_in, type_in, term_in}
-use Rattle.c_operators.proofs.Arguments.{left_from, call_in, call_refuses, call_few, call_done}
+use Rattle.c_postfix_operators.proofs.Arguments.{left_from, call_in, call_refuses, call_few, call_done}
 use Rattle.c_expressions.proofs.Keeping.{answers_err, given_operand, has_term_then}
-use Rattle.c_operators.proofs.calls.called.Goals as goal
+use Rattle.c_postfix_operators.proofs.calls.called.Goals as goal
 
 pub returns-in_err-values : goal.returns-in_err-values
 returns-in_err-values c =

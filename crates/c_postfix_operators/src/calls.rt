@@ -3,14 +3,13 @@
 ghost use Rattle.std.specs.Prelude.{◌≡◌, ℕ, ◌<◌, ◌≤◌, ◌⊎◌, ◌==◌, ◌++◌, ◌∷◌, [], length, map, IfOk, OnOk};
 ghost use Rattle.c_tree.specs.Types.{Ty, Pointer, Function};
 ghost use Rattle.c_tree.specs.Views.{tys};
-ghost use Rattle.c_tree.specs.Expressions.{arguments, many, call_of, asked};
+ghost use Rattle.c_tree.specs.Expressions.{arguments, many, call_of};
 ghost use Rattle.c_tree.specs.Conversions.{operand_type};
 ghost use Rattle.c_tree.specs.Conversions.{Operand as MeantOperand};
-ghost use Rattle.c_tree.specs.Libraries.{Any_capability};
 ghost use Rattle.c_expressions.specs.Agreement.{AreBelow};
 ghost use Rattle.c_expressions.specs.Answers.{Answers};
-ghost use Rattle.c_expressions.specs.Nodes.{IsWhole, IsOperand, IsTerm, operand_in, type_in, type_count, term_count};
-ghost use Rattle.c_operators.specs.Called.{AreTerms, AreThere, IsCallee};
+ghost use Rattle.c_expressions.specs.Nodes.{IsWhole, IsOperand, operand_in, type_in, type_count, term_count};
+ghost use Rattle.c_postfix_operators.specs.Called.{AreTerms, AreThere, IsCallee};
 
 use c_expressions::{Class, Nodes, Operand};
 use ck_base::{NoMemory, Pos, Refusal};
@@ -22,14 +21,16 @@ pub struct Signature {
     pub params: Vec<u32>,
 }
 
-pub(crate) fn push(values: &mut Vec<u32>, value: u32) -> Result<(), NoMemory>
+/// One more number, behind the others. Fails only where memory runs out.
+pub fn push(values: &mut Vec<u32>, value: u32) -> Result<(), NoMemory>
     ensures { OnOk result (values.new.items ≡ values.old.items ++ value ∷ []) }
 {
     values.push(value)?;
     Ok(())
 }
 
-pub(crate) fn fewer(m: usize, n: usize) -> usize
+/// The smaller of two counts. Refuses nothing.
+pub fn fewer(m: usize, n: usize) -> usize
     ensures first { result ≤ m }
     ensures second { result ≤ n }
     ensures one { (m ≤ result) ⊎ (n ≤ result) }
@@ -83,8 +84,8 @@ fn function(nodes: &Nodes<'_>, t: u32) -> Result<Option<Signature>, NoMemory>
     }
 }
 
-/// Each argument as by assignment to its parameter's type, as far as there are both.
-pub fn arguments(nodes: &mut Nodes<'_>, params: &[u32], xs: &[Operand]) -> Result<Vec<u32>, Refusal>
+// Each argument as by assignment to its parameter's type, as far as there are both.
+fn arguments(nodes: &mut Nodes<'_>, params: &[u32], xs: &[Operand]) -> Result<Vec<u32>, Refusal>
     requires whole { IsWhole nodes.old }
     requires params { AreBelow (type_count nodes.old) params.now }
     requires operands { AreThere (term_count nodes.old) xs.now }
@@ -100,7 +101,9 @@ pub fn arguments(nodes: &mut Nodes<'_>, params: &[u32], xs: &[Operand]) -> Resul
     Ok(values)
 }
 
-/// A call of a value.
+/// A call of a value, each argument as by assignment to its parameter's type (C11 6.5.2.2). Refused with 133 at its
+/// first byte where the value is no pointer to a function; as the first argument is that cannot be assigned so; and
+/// with 136 at its first byte where there are more arguments than parameters, or fewer.
 pub fn call(nodes: &mut Nodes<'_>, f: Operand, xs: &[Operand], pos: Pos) -> Result<Operand, Refusal>
     requires whole { IsWhole nodes.old }
     requires called { f.node < term_count nodes.old }
@@ -149,16 +152,4 @@ fn called(
         node,
         first: f.first,
     })
-}
-
-/// An argument that may be any pointer or capability integer.
-pub fn capability(nodes: &Nodes<'_>, x: Operand) -> Result<u32, Refusal>
-    requires whole { IsWhole nodes.now }
-    requires operand { x.node < term_count nodes.now }
-    ensures { Answers nodes.now nodes.now (asked Any_capability (operand_in nodes.now x)) IsTerm result }
-{
-    if !nodes.is_capability(nodes.of(x.node)) {
-        return Err(Refusal::Code(133, x.first));
-    }
-    Ok(x.node)
 }

@@ -17,7 +17,7 @@ use Rattle.c_expressions.specs.declared.nodes.Nodes.{Nodes}
 use Rattle.c_expressions.specs.declared.nodes.Operand.{Operand}
 use Rattle.c_expressions.specs.Agreement.{AreBelow}
 use Rattle.c_expressions.specs.Answers.{Given, Refuses}
-use Rattle.c_operators.specs.Called.{AreThere}
+use Rattle.c_postfix_operators.specs.Called.{AreThere}
 use Rattle.c_expressions.specs.Nodes.{IsWhole, Keeps, IsTerm, operand_in, type_in, term_in, type_count, term_count}
 use Rattle.c_expressions.proofs.Agreeing.{below_more}
 use Rattle.c_expressions.proofs.Keeping.{keeps_same, keeps_then, operand_kept, bind_refuses, bind_gives, refused}

@@ -3,12 +3,12 @@ use Rattle.std.proofs.lemmas.List.{get_or_default}
 use Rattle.std.proofs.lemmas.Result.{err_from_is_err_and}
 use Rattle.c_tree.specs.Conversions.{assigned}
 use Rattle.c_expressions.specs.declared.nodes.Operand.{Operand}
-use Rattle.c_operators.specs.Called.{AreTerms}
+use Rattle.c_postfix_operators.specs.Called.{AreTerms}
 use Rattle.c_expressions.specs.Nodes.{IsTerm, operand_in, type_in, term_in, type_count, term_count}
-use Rattle.c_operators.proofs.Arguments.{left_from, reached_start, below_at, there_at, reached_more, reached_refuses}
-use Rattle.c_operators.proofs.Arguments.{reached_end}
+use Rattle.c_postfix_operators.proofs.Arguments.{left_from, reached_start, below_at, there_at, reached_more}
+use Rattle.c_postfix_operators.proofs.Arguments.{reached_refuses, reached_end}
 use Rattle.c_expressions.proofs.Keeping.{answers_err}
-use Rattle.c_operators.proofs.calls.arguments.Goals as goal
+use Rattle.c_postfix_operators.proofs.calls.arguments.Goals as goal
 
 pub loop-k-init : goal.loop-k-init
 loop-k-init c = rw c.new-values.ensures.items

@@ -1,7 +1,7 @@
 use Rattle.std.proofs.Common.{refl}
 use Rattle.c_tree.specs.Types.{is_capability}
 use Rattle.c_expressions.proofs.Keeping.{given_term, has_term_same, needed, one_type}
-use Rattle.c_operators.proofs.calls.capability.Goals as goal
+use Rattle.c_operators.proofs.services.capability.Goals as goal
 
 pub returns : goal.returns
 returns c =

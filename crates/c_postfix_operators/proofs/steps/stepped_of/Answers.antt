@@ -5,7 +5,7 @@ use Rattle.c_tree.specs.Terms.{Step, step}
 use Rattle.c_tree.specs.Expressions.{is_modifiable, points_to_function, increments}
 use Rattle.c_expressions.specs.Nodes.{type_in, term_in}
 use Rattle.c_expressions.proofs.Keeping.{type_is, given_operand, has_term_is, needed, one_type}
-use Rattle.c_operators.proofs.assignments.stepped_of.Goals as goal
+use Rattle.c_postfix_operators.proofs.steps.stepped_of.Goals as goal
 
 pub returns : goal.returns
 returns c =
