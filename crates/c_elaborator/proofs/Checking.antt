@@ -20,6 +20,7 @@ use Rattle.c_tree.specs.Scopes.{State, Doing, need, give, ◌>>=◌, ◌>>◌, t
 use Rattle.c_tree.specs.Expressions.{gives, sized, compound, compounds, computed_in, right_of}
 use Rattle.c_tree.specs.Expressions.{is_modifiable, stepped, increments, points_to_function, is_counted, sum, sum_of}
 use Rattle.c_tree.specs.Expressions.{difference, difference_of}
+use Rattle.c_types.specs.Stands.{Stands}
 use Rattle.c_types.proofs.Sizing.{size_fits, size_over}
 use Rattle.c_expressions.specs.declared.nodes.Nodes.{Nodes}
 use Rattle.c_expressions.specs.declared.nodes.Operand.{Operand}
@@ -27,7 +28,8 @@ use Rattle.c_expressions.specs.Nodes.{HasTerm, IsType, type_in}
 use Rattle.c_elaborator.specs.declared.work.Work.{Work}
 use Rattle.c_elaborator.specs.Work.{Shows}
 use Rattle.c_elaborator.specs.Answers.{Way, quietly, Answers, OperandThere, IsOperand}
-use Rattle.c_elaborator.specs.Rules.{sum_counted, difference_counted, compound_counted, is_sized, dereferencing}
+use Rattle.c_complete_types.specs.Complete.{sum_counted, difference_counted, compound_counted, is_sized}
+use Rattle.c_elaborator.specs.Rules.{dereferencing}
 use Rattle.c_elaborator.proofs.Growing.{quiet_nodes, shows_nodes}
 use Rattle.c_elaborator.proofs.Sequencing.{answers_at, need_true, still_same}
 
@@ -99,10 +101,11 @@ type_is n k t u h e = record { there = h.there; is = h.is ∙ e }
 
 -- what is known of the types of two operands
 pub two_told : (f : State → Ty → Ty → Bool) (w : Work) (s t : ℕ) (x y : Ty) (r v : Bool) → IsType w.nodes s x →
-    IsType w.nodes t y → ((st : State) → Shows w st → f st (type_in w.nodes s) (type_in w.nodes t) ≡ r) → r ≡ v →
+    IsType w.nodes t y →
+    ((st : State) → Stands w.nodes.scopes w.nodes.p st → f st (type_in w.nodes s) (type_in w.nodes t) ≡ r) → r ≡ v →
     (st : State) → Shows w st → f st x y ≡ v
 two_told f w s t x y r v h k e d st q =
-    ap (λ z. f st z y) (sym h.is) ∙ ap (λ z. f st (type_in w.nodes s) z) (sym k.is) ∙ e st q ∙ d
+    ap (λ z. f st z y) (sym h.is) ∙ ap (λ z. f st (type_in w.nodes s) z) (sym k.is) ∙ e st q.stands ∙ d
 
 pub one_told : (f : State → Ty → Bool) (w : Work) (s : ℕ) (x : Ty) (r v : Bool) → IsType w.nodes s x →
     ((st : State) → Shows w st → f st (type_in w.nodes s) ≡ r) → r ≡ v → (st : State) → Shows w st → f st x ≡ v

@@ -2,7 +2,6 @@ pub mod Adding
 pub mod Begun
 pub mod Checking
 pub mod Extending
-pub mod Finding
 pub mod Going
 pub mod Growing
 pub mod Kept
@@ -12,6 +11,7 @@ pub mod Owning
 pub mod Parting
 pub mod Reading
 pub mod Scoping
+pub mod Selecting
 pub mod Sequencing
 pub mod Shown
 pub mod Unevaluated

@@ -1,7 +1,6 @@
 pub mod Answers
 pub mod Items
 pub mod Marks
-pub mod Members
 pub mod Nodes
 pub mod Parts
 pub mod Rules

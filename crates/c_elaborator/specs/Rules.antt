@@ -1,41 +1,20 @@
--- Whether the state knows the sizes that a rule on operands asks for.
-use Rattle.std.specs.Prelude.{◌≡◌, ℕ, Bool, not, ◌&&◌, ◌||◌, nat_le, List, [], ◌∷◌, ◌++◌, length, Option, Some, None}
-use Rattle.std.specs.Prelude.{slice_get}
-use Rattle.ck_int.specs.declared.kinds.IntOp.{IntOp}
+-- What names, string literals and pointers that are dereferenced give.
+use Rattle.std.specs.Prelude.{◌≡◌, ℕ, nat_le, List, [], ◌∷◌, ◌++◌, length, Option, Some, None, slice_get}
 use Rattle.ck_int.specs.Kinds.{kept_of}
 use Rattle.ck_base.specs.declared.positions.Pos.{Pos}
 use Rattle.c_tree.specs.Terms.{Shape, Constant, Literal, Var, Global, Fun, Term, Deref, leaf, step}
 use Rattle.c_tree.specs.Layout.{size_limit}
-use Rattle.c_tree.specs.Types.{Ty, Pointer, Array, char, int, is_integer, is_pointer, is_scalar, is_function}
+use Rattle.c_tree.specs.Types.{Ty, Pointer, Array, char, int}
 use Rattle.c_tree.specs.Scopes.{StaticState, RoutineState, State, Doing, look, change, refuse, need}
-use Rattle.c_tree.specs.Scopes.{use_static, use_routine, is_complete, ◌>>=◌, ◌>>◌}
+use Rattle.c_tree.specs.Scopes.{use_static, use_routine, ◌>>=◌, ◌>>◌}
 use Rattle.c_tree.specs.Conversions.{Operand}
-use Rattle.c_tree.specs.Expressions.{gives, static_type, routine_type, pointed, is_counted, is_additive}
+use Rattle.c_tree.specs.Expressions.{gives, static_type, routine_type, pointed}
 use Rattle.c_types.specs.declared.entries.Entity.{Entity}
 use Rattle.c_types.specs.declared.entries.Entity.TheVariants as entities
 use Rattle.c_expressions.specs.declared.nodes.Nodes.{Nodes}
 use Rattle.c_expressions.specs.Nodes.{type_in}
 use Rattle.c_elaborator.specs.declared.work.Work.{Work}
 use Rattle.c_elaborator.specs.Work.{Shows}
-
--- a function, or a complete object type
-abbrev pub is_sized : State → Ty → Bool
-is_sized s t = is_function t || is_complete s t
-
--- where something is so, the size is known
-abbrev pub if_so : Bool → Bool → Bool
-if_so asked known = not asked || known
-
-abbrev pub sum_counted : State → Ty → Ty → Bool
-sum_counted st s t = if_so (is_pointer s && is_integer t) (is_counted st s)
-    && if_so (is_integer s && is_pointer t) (is_counted st t)
-
-abbrev pub difference_counted : State → Ty → Ty → Bool
-difference_counted st s t =
-    if_so (is_pointer s && is_scalar t) (is_counted st s) && if_so (is_pointer s && is_pointer t) (is_counted st t)
-
-abbrev pub compound_counted : State → IntOp → Ty → Ty → Bool
-compound_counted st o s t = if_so (is_additive o && is_pointer s && is_integer t) (is_counted st s)
 
 -- what a pointer to a type points to
 abbrev pub dereferencing : Ty → Term → Pos → Pos → Doing Operand

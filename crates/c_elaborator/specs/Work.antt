@@ -5,14 +5,14 @@ use Rattle.std.specs.List.{list_any}
 use Rattle.ck_base.specs.declared.positions.Pos.{Pos}
 use Rattle.c_tree.specs.Types.{Ty}
 use Rattle.c_tree.specs.Terms.{Action, Variable}
-use Rattle.c_tree.specs.Scopes.{Reach, All, Within, Aiming, Part, TagState, StaticState, LocalState, Body, RoutineState}
-use Rattle.c_tree.specs.Scopes.{Pending, State}
+use Rattle.c_tree.specs.Scopes.{Reach, All, Within, Aiming, StaticState, LocalState, Body, RoutineState, Pending, State}
 use Rattle.c_tree.specs.Programs as programs
 use Rattle.c_tree.specs.declared.typed.Stmt.{Stmt}
 use Rattle.c_tree.specs.declared.typed.VarDef.{VarDef}
 use Rattle.c_tree.specs.Views.{types_of, text_of, aim_of, action_at, actions_of, values}
 use Rattle.c_tree.specs.Views as views
-use Rattle.c_types.specs.Stands.{Stands, text_at}
+use Rattle.c_types.specs.Stands.{Stands}
+pub use Rattle.c_complete_types.specs.Members.{MembersAreSpelled}
 use Rattle.c_elaborator.specs.declared.work.Used.{Used}
 use Rattle.c_elaborator.specs.declared.work.Used.TheVariants as used
 use Rattle.c_elaborator.specs.declared.work.Use.{Use}
@@ -103,12 +103,6 @@ pub record DefinitionIsThere (w : Work) (s : State) (d : Definition) : Type 0 wh
 abbrev pub ValuesAreThere : Work → Type 0
 ValuesAreThere w = (k : ℕ) (x : Stmt) → slice_get w.nodes.p.stmts k ≡ Some x → (j a : ℕ) →
     slice_get (values x.kind) j ≡ Some a → a < length w.nodes.p.exprs
-
--- the members of structs and unions are named as the file has them
-abbrev pub MembersAreSpelled : List ℕ → State → Type 0
-MembersAreSpelled file s =
-    (n : ℕ) (t : TagState) (ms : List Part) → slice_get s.tags n ≡ Some t → t.members ≡ Some ms → (k : ℕ) (m : Part) →
-    slice_get ms k ≡ Some m → m.name.text ≡ text_at file m.name.span
 
 pub record IsClosed (w : Work) (s : State) : Type 0 where
   pub file : w.nodes.scopes.file.now ≡ w.file.now

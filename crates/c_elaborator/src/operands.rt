@@ -1,87 +1,22 @@
 //! The rules on operands that ask what is complete (C11 6.3.2.1, 6.5.6, 6.5.16.2, 6.5.3.1).
 
-ghost use Rattle.std.specs.Prelude.{◌≡◌, ◌<◌, ◌&&◌, ◌||◌, not};
-ghost use Rattle.c_tree.specs.Types.{bare, is_integer, is_pointer, is_scalar};
-ghost use Rattle.c_tree.specs.Scopes.{State, is_complete};
-ghost use Rattle.c_tree.specs.Conversions.{is_readable, value, operand_type};
-ghost use Rattle.c_tree.specs.Expressions.{is_counted, is_additive, sum, difference, int_join, infix_join, compound};
-ghost use Rattle.c_tree.specs.Expressions.{stepped};
-ghost use Rattle.c_expressions.specs.Nodes.{IsWhole, type_in, term_in, type_count, term_count};
-ghost use Rattle.c_elaborator.specs.Work.{Shows};
+ghost use Rattle.c_tree.specs.Conversions.{value};
+ghost use Rattle.c_tree.specs.Expressions.{sum, difference, int_join, infix_join, compound, stepped};
+ghost use Rattle.c_expressions.specs.Nodes.{IsWhole};
 ghost use Rattle.c_elaborator.specs.Answers.{Answers, quietly, OperandThere, IsOperand, operand_in};
-ghost use Rattle.c_elaborator.specs.Rules.{is_sized, if_so, sum_counted, difference_counted, compound_counted};
 ghost use Rattle.c_operators.specs.Rules.{infix_join_of};
 
 use crate::work::Work;
+use c_complete_types::{
+    is_compound_counted, is_counted, is_difference_counted, is_readable, is_sum_counted,
+};
 use c_expressions::Operand;
 use c_operators::{compound_of, infix_join_of, stepped_of};
 use c_tree::{InfixOperator, StepOperator};
 use ck_base::{Pos, Refusal};
 use ck_int::IntOp;
 
-fn if_so(asked: bool, known: bool) -> bool
-    ensures { if_so asked known ≡ result }
-{
-    !asked || known
-}
-
-fn is_additive(op: IntOp) -> bool
-    ensures { is_additive op ≡ result }
-{
-    match op {
-        IntOp::Add | IntOp::Sub => true,
-        IntOp::Mul
-        | IntOp::Div
-        | IntOp::Rem
-        | IntOp::And
-        | IntOp::Or
-        | IntOp::Xor
-        | IntOp::Shl
-        | IntOp::Shr => false,
-    }
-}
-
 impl Work<'_> {
-    // ---- what is complete
-
-    /// Whether a type is complete (C11 6.2.5p1).
-    pub fn is_complete(&self, t: u32) -> bool
-        ensures { (s : State) → Shows self.now s → is_complete s (type_in self.now.nodes t) ≡ result }
-    {
-        self.nodes.scopes.is_complete(&self.nodes.p, t)
-    }
-
-    // Whether a type is that of a function, or complete.
-    pub(crate) fn is_sized(&self, t: u32) -> bool
-        requires whole { IsWhole self.now.nodes }
-        requires there { t < type_count self.now.nodes }
-        ensures { (s : State) → Shows self.now s → is_sized s (type_in self.now.nodes t) ≡ result }
-    {
-        self.nodes.is_function(t) || self.is_complete(t)
-    }
-
-    // Whether a pointer of the type can be moved, as far as the size of what it points to goes. Any other type can.
-    fn is_counted(&self, t: u32) -> bool
-        requires whole { IsWhole self.now.nodes }
-        requires there { t < type_count self.now.nodes }
-        ensures { (s : State) → Shows self.now s → is_counted s (type_in self.now.nodes t) ≡ result }
-    {
-        match self.nodes.target(t) {
-            None => true,
-            Some(of) => self.is_sized(of),
-        }
-    }
-
-    fn is_readable(&self, node: u32) -> bool
-        requires whole { IsWhole self.now.nodes }
-        requires there { node < term_count self.now.nodes }
-        ensures { (s : State) → Shows self.now s → is_readable s (term_in self.now.nodes node) ≡ result }
-    {
-        let of = self.nodes.of(node);
-        let bare = self.nodes.bare(of);
-        if_so(self.nodes.is_tagged(bare), self.is_complete(of))
-    }
-
     // ---- values
 
     /// What an operand stands for where a value is wanted (C11 6.3.2.1).
@@ -90,7 +25,7 @@ impl Work<'_> {
         requires operand { OperandThere self.old x }
         ensures { Answers quietly self.old self.new (value (operand_in self.old x)) OperandThere IsOperand result }
     {
-        if !self.is_readable(x.node) {
+        if !is_readable(&self.nodes, x.node) {
             return Err(Refusal::Code(132, x.first));
         }
         let node = self.nodes.value_term(x.node)?;
@@ -102,78 +37,6 @@ impl Work<'_> {
 
     // ---- two operands
 
-    fn is_pointer_with_integer(&self, s: u32, t: u32) -> bool
-        requires whole { IsWhole self.now.nodes }
-        requires first { s < type_count self.now.nodes }
-        requires second { t < type_count self.now.nodes }
-        ensures { (is_pointer (type_in self.now.nodes s) && is_integer (type_in self.now.nodes t)) ≡ result }
-    {
-        self.nodes.is_pointer(s) && self.nodes.is_integer(t)
-    }
-
-    fn is_integer_with_pointer(&self, s: u32, t: u32) -> bool
-        requires whole { IsWhole self.now.nodes }
-        requires first { s < type_count self.now.nodes }
-        requires second { t < type_count self.now.nodes }
-        ensures { (is_integer (type_in self.now.nodes s) && is_pointer (type_in self.now.nodes t)) ≡ result }
-    {
-        self.nodes.is_integer(s) && self.nodes.is_pointer(t)
-    }
-
-    fn is_pointer_with_scalar(&self, s: u32, t: u32) -> bool
-        requires whole { IsWhole self.now.nodes }
-        requires first { s < type_count self.now.nodes }
-        requires second { t < type_count self.now.nodes }
-        ensures { (is_pointer (type_in self.now.nodes s) && is_scalar (type_in self.now.nodes t)) ≡ result }
-    {
-        self.nodes.is_pointer(s) && self.nodes.is_scalar(t)
-    }
-
-    fn are_pointers(&self, s: u32, t: u32) -> bool
-        requires whole { IsWhole self.now.nodes }
-        requires first { s < type_count self.now.nodes }
-        requires second { t < type_count self.now.nodes }
-        ensures { (is_pointer (type_in self.now.nodes s) && is_pointer (type_in self.now.nodes t)) ≡ result }
-    {
-        self.nodes.is_pointer(s) && self.nodes.is_pointer(t)
-    }
-
-    fn is_sum_counted(&self, s: u32, t: u32) -> bool
-        requires whole { IsWhole self.now.nodes }
-        requires first { s < type_count self.now.nodes }
-        requires second { t < type_count self.now.nodes }
-        ensures { (st : State) → Shows self.now st →
-            sum_counted st (type_in self.now.nodes s) (type_in self.now.nodes t) ≡ result }
-    {
-        if_so(self.is_pointer_with_integer(s, t), self.is_counted(s))
-            && if_so(self.is_integer_with_pointer(s, t), self.is_counted(t))
-    }
-
-    fn is_difference_counted(&self, s: u32, t: u32) -> bool
-        requires whole { IsWhole self.now.nodes }
-        requires first { s < type_count self.now.nodes }
-        requires second { t < type_count self.now.nodes }
-        ensures { (st : State) → Shows self.now st →
-            difference_counted st (type_in self.now.nodes s) (type_in self.now.nodes t) ≡ result }
-    {
-        if_so(self.is_pointer_with_scalar(s, t), self.is_counted(s))
-            && if_so(self.are_pointers(s, t), self.is_counted(t))
-    }
-
-    fn is_compound_counted(&self, op: IntOp, s: u32, t: u32) -> bool
-        requires whole { IsWhole self.now.nodes }
-        requires first { s < type_count self.now.nodes }
-        requires second { t < type_count self.now.nodes }
-        ensures { (st : State) → Shows self.now st →
-            compound_counted st op (type_in self.now.nodes s) (type_in self.now.nodes t) ≡ result }
-    {
-        if is_additive(op) {
-            if_so(self.is_pointer_with_integer(s, t), self.is_counted(s))
-        } else {
-            true
-        }
-    }
-
     /// A sum (C11 6.5.6).
     pub fn sum(&mut self, a: Operand, b: Operand, pos: Pos) -> Result<Operand, Refusal>
         requires whole { IsWhole self.old.nodes }
@@ -184,7 +47,7 @@ impl Work<'_> {
     {
         let s = self.nodes.of(a.node);
         let t = self.nodes.of(b.node);
-        if !self.is_sum_counted(s, t) {
+        if !is_sum_counted(&self.nodes, s, t) {
             return Err(Refusal::Code(132, a.first));
         }
         infix_join_of(&mut self.nodes, InfixOperator::Int(IntOp::Add), a, b, pos)
@@ -200,7 +63,7 @@ impl Work<'_> {
     {
         let s = self.nodes.of(a.node);
         let t = self.nodes.of(b.node);
-        if !self.is_difference_counted(s, t) {
+        if !is_difference_counted(&self.nodes, s, t) {
             return Err(Refusal::Code(132, a.first));
         }
         infix_join_of(&mut self.nodes, InfixOperator::Int(IntOp::Sub), a, b, pos)
@@ -292,7 +155,7 @@ impl Work<'_> {
     {
         let s = self.nodes.bare(self.nodes.of(a.node));
         let t = self.nodes.of(b.node);
-        if !self.is_compound_counted(op, s, t) {
+        if !is_compound_counted(&self.nodes, op, s, t) {
             return Err(Refusal::Code(132, a.first));
         }
         compound_of(&mut self.nodes, op, a, b, pos)
@@ -313,7 +176,7 @@ impl Work<'_> {
             (stepped op in_front (operand_in self.old a) pos first) OperandThere IsOperand result }
     {
         let t = self.nodes.bare(self.nodes.of(a.node));
-        if !self.is_counted(t) {
+        if !is_counted(&self.nodes, t) {
             return Err(Refusal::Code(132, first));
         }
         stepped_of(&mut self.nodes, op, in_front, a, pos, first)

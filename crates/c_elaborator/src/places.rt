@@ -8,6 +8,7 @@ ghost use Rattle.c_elaborator.specs.Answers.{Answers, quietly, OperandThere, IsO
 ghost use Rattle.c_elaborator.specs.Rules.{dereferencing};
 
 use crate::work::Work;
+use c_complete_types::is_sized;
 use c_expressions::{Operand, Step};
 use c_operators::{address_of, local_of};
 use ck_base::{NoMemory, Pos, Refusal};
@@ -35,7 +36,7 @@ impl Work<'_> {
             (dereferencing (type_in self.old.nodes to) (operand_in self.old a).is pos first) OperandThere IsOperand
             result }
     {
-        if !self.is_sized(to) {
+        if !is_sized(&self.nodes, to) {
             return Err(Refusal::Code(132, first));
         }
         let node = self.nodes.step(Step::Deref, a.node, to, pos)?;

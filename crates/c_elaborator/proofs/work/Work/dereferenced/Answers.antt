@@ -1,6 +1,6 @@
 use Rattle.std.proofs.Common.{◌∙◌}
 use Rattle.c_elaborator.specs.Answers.{operand_in}
-use Rattle.c_elaborator.specs.Rules.{is_sized}
+use Rattle.c_complete_types.specs.Complete.{is_sized}
 use Rattle.c_tree.specs.Expressions.{gives}
 use Rattle.c_tree.specs.Terms.{step, Deref}
 use Rattle.c_expressions.specs.Nodes.{type_in}
@@ -16,4 +16,4 @@ returns c =
     built w _ _ _ _ c.in_ok-node.ensures
     (λ s k. dereferencing_is u x c.args.pos c.args.first s
     ∙ need_true (is_sized s u) 132 c.args.first (gives (step Deref x u c.args.pos) c.args.first) s
-    (c.is_sized.ensures s k ∙ c.if-not-is_sized.false))
+    (c.is_sized.ensures s k.stands ∙ c.if-not-is_sized.false))

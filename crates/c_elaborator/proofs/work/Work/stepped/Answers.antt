@@ -15,6 +15,6 @@ returns c =
     checked quietly w _ _ (stepped_of c.args.op c.args.in_front a c.args.pos c.args.first)
     (λ s. is_counted s (bare (operand_type a))) 132 c.args.first OperandThere IsOperand _
     (stepped_checked c.args.op c.args.in_front a c.args.pos c.args.first)
-    (one_told is_counted w _ _ _ _ (type_is _ _ _ _ c.bare-t.ensures (ap bare c.of.ensures.is)) c.is_counted.ensures
-    c.if-not-is_counted.false)
+    (one_told is_counted w _ _ _ _ (type_is _ _ _ _ c.bare-t.ensures (ap bare c.of.ensures.is))
+    (λ s k. c.is_counted.ensures s k.stands) c.if-not-is_counted.false)
     (lift_operand w _ _ _ c.stepped_of.ensures)

@@ -12,4 +12,4 @@ returns c =
     let x = operand_in w c.args.x in
     built w _ _ _ _ c.in_ok-node.ensures
     (λ s k. need_true (is_readable s x.is) 132 x.first (give (record x { is = value_term x.is })) s
-    (c.is_readable.ensures s k ∙ c.if-not-is_readable.false))
+    (c.is_readable.ensures s k.stands ∙ c.if-not-is_readable.false))

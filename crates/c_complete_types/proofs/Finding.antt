@@ -1,25 +1,24 @@
 -- Members that are found by their names.
-use Rattle.std.proofs.Common.{◌≡◌, ℕ, suc, ◌+◌, Bool, true, false, List, [], ◌∷◌, map, Option, Some, None, Err, refl}
-use Rattle.std.proofs.Common.{sym, ap, ◌∙◌, arith}
+use Rattle.std.proofs.Common.{◌≡◌, ℕ, suc, ◌+◌, Bool, true, false, List, [], ◌∷◌, map, Option, Some, None, Result}
+use Rattle.std.proofs.Common.{Ok, Err, refl, sym, ap, ◌∙◌, arith}
 use Rattle.std.specs.Prelude.{option_map, slice_get, bytes_eq, if◌then◌else◌}
 use Rattle.ck_base.specs.declared.positions.Pos.{Pos}
 use Rattle.ck_base.specs.declared.positions.Span.{Span}
+use Rattle.ck_base.specs.declared.refusal.Refusal.{Refusal}
+use Rattle.ck_base.specs.declared.refusal.Refusal.TheVariants.{Code, NoMemory}
 use Rattle.c_tree.specs.declared.typed.Member.{Member}
 use Rattle.c_tree.specs.declared.typed.Typed.{Typed}
 use Rattle.c_tree.specs.Views.{types_of, type_at}
 use Rattle.c_types.proofs.Looking.{type_is, seen_at}
 use Rattle.c_tree.specs.Types.{Ty, Tagged, bare, is_tagged}
-use Rattle.c_tree.specs.Terms as tree
-use Rattle.c_tree.specs.Terms.{step}
 use Rattle.c_tree.specs.Scopes.{Part, TagState, State, Doing, refuse, some_or, ◌>>=◌}
-use Rattle.c_tree.specs.Conversions.{Operand, operand_type}
-use Rattle.c_tree.specs.Expressions.{gives, as_qualified, member, member_from, members_in, parts_of}
+use Rattle.c_tree.specs.Expressions.{member_from, members_in, parts_of}
 use Rattle.c_types.specs.Stands.{named, text_at, part_seen, member_kept, first_named, first_part}
 use Rattle.c_types.specs.Members as theirs
-use Rattle.c_elaborator.specs.declared.members.Found.{Found}
-use Rattle.c_elaborator.specs.declared.members.Outcome.TheVariants.{Incomplete, Missing, At}
-use Rattle.c_elaborator.specs.Work.{MembersAreSpelled}
-use Rattle.c_elaborator.specs.Members.{found_in, sought, IsSought, membering}
+use Rattle.c_expressions.specs.declared.nodes.Nodes.{Nodes}
+use Rattle.c_complete_types.specs.declared.members.Found.{Found}
+use Rattle.c_complete_types.specs.declared.members.Outcome.TheVariants.{Incomplete, Missing, At}
+use Rattle.c_complete_types.specs.Members.{MembersAreSpelled, found_in, sought, IsSought, told, finding, Finds}
 
 -- members are named as the file has them
 abbrev pub AreNamed : List ℕ → List Part → Type 0
@@ -109,27 +108,42 @@ complete_is file ts s n name ms k e h g =
     (some_there file ts name ms (parts_of (slice_get s.tags n)) (e ∙ ap (option_map (map part_seen)) same)
     (spelled_parts file s n (slice_get s.tags n) refl h))
 
--- ---- what a member gives
+-- ---- what is answered
 
-pub member_is : (a : Operand) (name : List ℕ) (p : Pos) (n : ℕ) (s : State) → bare (operand_type a) ≡ Tagged n →
-    member a name p s ≡ membering a p (sought s n name) s
-member_is a name p n s e =
-    ap (λ (t : Ty). (members_in s t a.first >>= λ ms. some_or (member_from 0 ms name) 133 a.first
-    >>= λ m. gives (step (tree.Member m.0) a.is (as_qualified (operand_type a) m.1) p) a.first) s) e
+-- what is found of a struct or union is the member of the name, or the rule that fails
+pub told_is : (t : Ty) (name : List ℕ) (first : Pos) (n : ℕ) (s : State) → bare t ≡ Tagged n →
+    finding t name first s ≡ told first (sought s n name) s
+told_is t name first n s e =
+    ap (λ (u : Ty). (members_in s u first >>= λ ms. some_or (member_from 0 ms name) 133 first) s) e
     ∙ by_parts (parts_of (slice_get s.tags n))
   where
-    by_member : (o : Option (ℕ × Ty)) →
-        (some_or o 133 a.first >>= λ m. gives (step (tree.Member m.0) a.is (as_qualified (operand_type a) m.1) p)
-        a.first) s ≡ membering a p (Some o) s
+    by_member : (o : Option (ℕ × Ty)) → some_or o 133 first s ≡ told first (Some o) s
     by_member None = refl
     by_member (Some m) = refl
 
     by_parts : (o : Option (List Part)) →
-        (some_or o 132 a.first >>= λ ms. some_or (member_from 0 ms name) 133 a.first
-        >>= λ m. gives (step (tree.Member m.0) a.is (as_qualified (operand_type a) m.1) p) a.first) s
-        ≡ membering a p (option_map (λ ms. member_from 0 ms name) o) s
+        (some_or o 132 first >>= λ ms. some_or (member_from 0 ms name) 133 first) s
+        ≡ told first (option_map (λ ms. member_from 0 ms name) o) s
     by_parts None = refl
     by_parts (Some ms) = by_member (member_from 0 ms name)
+
+-- what is no struct or union has no members
+untagged : (t : Ty) (s : State) (first : Pos) → is_tagged t ≡ false → members_in s t first ≡ refuse 133 first
+untagged (Tagged n) s first e = absurd cc
+untagged t s first e = refl
+
+pub none_found : (t u : Ty) (name : List ℕ) (first : Pos) (s : State) → u ≡ bare t → is_tagged u ≡ false →
+    finding t name first s ≡ Err (record { code = 133; place = first })
+none_found t u name first s e h =
+    ap (λ (d : Doing (List Part)). (d >>= λ ms. some_or (member_from 0 ms name) 133 first) s)
+    (ap (λ (x : Ty). members_in s x first) (sym e) ∙ untagged u s first h)
+
+-- steps that give the same find the same
+pub finds_at : (n : Nodes) (d e : Doing (ℕ × Ty)) (s : State) (r : Result Found Refusal) → d s ≡ e s →
+    Finds n e s r → Finds n d s r
+finds_at n d e s (Ok f) q h = q ∙ h
+finds_at n d e s (Err (Code code place)) q h = q ∙ h
+finds_at n d e s (Err NoMemory) q h = absurd h
 
 pub sought_none : (ts : List Ty) (o : Option (Option (ℕ × Ty))) → IsSought ts Incomplete o → o ≡ None
 sought_none ts None h = refl
@@ -147,15 +161,3 @@ sought_at p f (Some None) h = absurd h
 sought_at p f (Some (Some m)) h =
     ap (λ (k : ℕ). Some (Some (k, m.1))) (sym h.0)
     ∙ ap (λ (t : Ty). Some (Some (f.number, t))) (sym (type_is p f.of m.1 h.1))
-
--- what is no struct or union has no members
-untagged : (t : Ty) (s : State) (first : Pos) → is_tagged t ≡ false → members_in s t first ≡ refuse 133 first
-untagged (Tagged n) s first e = absurd cc
-untagged t s first e = refl
-
-pub member_of_none : (a : Operand) (name : List ℕ) (p : Pos) (t : Ty) (s : State) → t ≡ bare (operand_type a) →
-    is_tagged t ≡ false → member a name p s ≡ Err (record { code = 133; place = a.first })
-member_of_none a name p t s e h =
-    ap (λ (d : Doing (List Part)). (d >>= λ ms. some_or (member_from 0 ms name) 133 a.first
-    >>= λ m. gives (step (tree.Member m.0) a.is (as_qualified (operand_type a) m.1) p) a.first) s)
-    (ap (λ (u : Ty). members_in s u a.first) (sym e) ∙ untagged t s a.first h)
