@@ -1,6 +1,6 @@
 -- What specifiers, parameters and declarators stand for.
 use Rattle.std.specs.Prelude.{◌≡◌, ℕ, ◌<◌, List, [], ◌∷◌, length, map, reverse, Option, option_map, All, Result, Ok}
-use Rattle.std.specs.Prelude.{Err, Bool, bytes_eq, is_some, ℤ, pos, ◌<ℤ◌, ◌^◌}
+use Rattle.std.specs.Prelude.{Err, Bool, bytes_eq, is_some, ℤ}
 use Rattle.std.specs.List.{list_any}
 use Rattle.std.specs.Map.{lookup}
 use Rattle.ck_base.specs.declared.refusal.Refusal.{Refusal}
@@ -22,6 +22,7 @@ use Rattle.c_expressions.specs.Nodes.{type_in, type_count}
 use Rattle.c_elaborator.specs.declared.work.Work.{Work}
 use Rattle.c_elaborator.specs.declared.work.Name.{Name}
 use Rattle.c_elaborator.specs.Parts.{token_of}
+pub use Rattle.c_constants.specs.Constants.{in_any, ConstantThere, IsConstant, CountThere, IsCount}
 use Rattle.c_declarators.specs.declared.parts.Specified.{Specified}
 use Rattle.c_declarators.specs.declared.parts.Param.{Param}
 use Rattle.c_declarators.specs.declared.parts.Prototype.{Prototype}
@@ -29,13 +30,8 @@ use Rattle.c_declarators.specs.declared.parts.Wrap.{Wrap}
 use Rattle.c_declarators.specs.declared.parts.Wrap.TheVariants.{Point, Row, Gives}
 use Rattle.c_declarators.specs.declared.parts.Derived.{Derived}
 use Rattle.c_declarators.specs.declared.parts.Formed.{Formed}
-use Rattle.c_declarators.specs.declared.constants.Constant.{Constant}
 use Rattle.c_declarators.specs.declared.members.Members.{Members}
 use Rattle.c_declarators.specs.Forming.{WrapIsThere, formed_in}
-
--- whatever the state
-abbrev pub in_any : {A X : Type 0} → (Work → X → A → Type 0) → Work → X → State → A → Type 0
-in_any Is w x s a = Is w x a
 
 -- ---- specifiers
 
@@ -154,20 +150,7 @@ pub record AllMembersThere (w : Work) (v : Members) : Type 0 where
 abbrev pub AreAllMembers : Work → Members → State → List meant.Part → Type 0
 AreAllMembers w v s xs = AreMembers w v.all.items xs
 
--- ---- constants
-
--- a value of an integer type
-abbrev pub ConstantThere : Work → Constant → Type 0
-ConstantThere w c = c.number <ℤ pos (2 ^ 64)
-
-abbrev pub IsConstant : Work → Constant → meant_types.Constant → Type 0
-IsConstant w c x = x ≡ record { number = c.number; first = c.first }
-
-abbrev pub CountThere : Work → ℕ → Type 0
-CountThere w n = Unit {0}
-
-abbrev pub IsCount : Work → ℕ → ℕ → Type 0
-IsCount w n x = x ≡ n
+-- ---- tags and enumeration constants
 
 -- the number of a struct or union of this kind
 abbrev pub IsRecord : RecordKind → Work → ℕ → State → ℕ → Type 0

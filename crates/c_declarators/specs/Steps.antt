@@ -1,18 +1,17 @@
 -- The steps of typing that stand for what comes once the parts of a construct are typed.
-use Rattle.std.specs.Prelude.{ℕ, ℤ, Bool, false, not, ◌||◌, ◌&&◌, ◌++◌, length, is_none, ◌==◌, nat_lt, nat_le}
+use Rattle.std.specs.Prelude.{Bool, false, not, ◌||◌, ◌&&◌, ◌++◌, length, is_none, ◌==◌, nat_lt, nat_le}
 use Rattle.std.specs.Prelude.{if◌then◌else◌, List, [], ◌∷◌, Option, Some, None}
 use Rattle.ck_base.specs.declared.positions.Pos.{Pos}
 use Rattle.ck_base.specs.Tokens.{Lexeme}
 use Rattle.c_tree.specs.declared.syntax.SpecifierWord.TheVariants as words
 use Rattle.c_tree.specs.Syntax.{Syns}
-use Rattle.c_tree.specs.Types.{Ty, qualified, bare, is_function}
-use Rattle.c_tree.specs.Constants.{constant_of}
-use Rattle.c_tree.specs.Conversions.{Operand, operand_type}
+use Rattle.c_tree.specs.Types.{Ty, qualified, is_function}
 use Rattle.c_tree.specs.Scopes.{Part, Scope, State, Tagging, find_in, find_tag, innermost, leave, is_complete, Doing}
 use Rattle.c_tree.specs.Scopes.{give, need, look, some_or, ◌>>=◌, ◌>>◌}
 use Rattle.c_tree.specs.Readings.{Storage, Plain, Internal, External, Defining_type, Specified, Wrap}
 use Rattle.c_tree.specs.Declarators as meant
 use Rattle.c_tree.specs.Declarators.{formed, judge, Formed}
+pub use Rattle.c_constants.specs.Constants.{constant, array_length}
 use Rattle.c_declarators.specs.declared.parts.Derived.{Derived}
 use Rattle.c_declarators.specs.declared.words.Words.{Words}
 use Rattle.c_declarators.specs.Words.{type_words, storage_words, word_type}
@@ -64,16 +63,6 @@ forms t ws = look >>= λ s. give (formed s t ws)
 -- the end of a type name
 abbrev pub named_type : Ty → List Wrap → Pos → Doing Ty
 named_type t ws p = look >>= λ s. let f = formed s t ws in judge f false false p >> give f.of
-
--- ---- constants
-
--- an integer constant expression that was read as a value
-abbrev pub constant : Operand → Doing meant.Constant
-constant x = some_or (constant_of x.is) 134 x.first
-    >>= λ v. give (record { number = meant.number_of (bare (operand_type x)) v; first = x.first })
-
-abbrev pub array_length : ℤ → Pos → Doing ℕ
-array_length z p = some_or (meant.positive z) 134 p
 
 -- ---- members and parameters
 

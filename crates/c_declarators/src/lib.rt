@@ -1,12 +1,11 @@
 //! What declaration specifiers, tags, enumerators, declarators, members and parameters make of their parts (C11 6.7).
 //!
 //! Promise: each gives what the definition's rule gives, or the first refusal.
-//! Definitions (`specs/`): `Declarators` of `c_tree`; here `Steps`, `Forming`.
+//! Definitions (`specs/`): `Declarators` of `c_tree`; `Constants` of `c_constants`; here `Steps`, `Forming`.
 //! Main lemmas (`proofs/`): `Deriving`, `Tagging`.
 #![tactic(auto)]
 
 mod building;
-mod constants;
 mod forming;
 mod judging;
 mod members;
@@ -19,7 +18,7 @@ mod tags;
 mod typing;
 mod words;
 
-pub use constants::{Constant, array_length, constant_value};
+pub use c_constants::{Constant, array_length, constant_value};
 pub use forming::{adjusted, form};
 pub use judging::judge;
 pub use members::{Members, add_member};

@@ -1,8 +1,7 @@
 //! Names that stand for types (C11 6.7.8), and enumeration constants (6.7.2.2).
 
-ghost use Rattle.std.specs.Prelude.{◌≡◌, true, false, pos, ◌+ℤ◌, MatchOption, FitsSigned};
-ghost use Rattle.std.specs.Int.{w32, w128};
-ghost use Rattle.c_tree.specs.Declarators.{typedef_name, in_int, enumerate};
+ghost use Rattle.std.specs.Prelude.{◌≡◌};
+ghost use Rattle.c_tree.specs.Declarators.{typedef_name, enumerate};
 ghost use Rattle.c_expressions.specs.Nodes.{IsWhole};
 ghost use Rattle.c_elaborator.specs.Answers.{Answers, quietly, TypeThere, IsType};
 ghost use Rattle.c_elaborator.specs.Parts.{token_of};
@@ -11,6 +10,7 @@ ghost use Rattle.c_declarators.specs.Naming.{IsAlias};
 
 use crate::members::text_of;
 use crate::parameters::is_new;
+use c_constants::{in_int, next_after};
 use c_elaborator::{Name, Work};
 use c_types::{Decl, DeclKind, Entity, Faults, Storage};
 use ck_base::{Pos, Refusal};
@@ -44,20 +44,6 @@ pub fn typedef_name(work: &Work<'_>, name: Name) -> Result<u32, Refusal>
     }
 }
 
-// Whether a number is one of `int`.
-fn in_int(number: i128) -> Option<i32>
-    ensures { MatchOption result (in_int number ≡ false)
-        (λ n. (in_int number ≡ true) × (n ≡ number) × FitsSigned w32 n) }
-{
-    if number < -2147483648 {
-        return None;
-    }
-    if number > 2147483647 {
-        return None;
-    }
-    Some(number as i32)
-}
-
 fn constant_of(name: Name, value: i32) -> Decl
     ensures name { result.name ≡ name.span }
     ensures pos { result.pos ≡ name.pos }
@@ -75,13 +61,6 @@ fn constant_of(name: Name, value: i32) -> Decl
         storage: Storage::Plain,
         defines: true,
     }
-}
-
-fn next_after(value: i32) -> i128
-    ensures value { result ≡ value +ℤ pos 1 }
-    ensures fits { FitsSigned w128 result }
-{
-    i128::from(value) + 1
 }
 
 /// An enumeration constant has its value from here on: 131 for a second one of its name in the scope, and 134 at the

@@ -1,11 +1,11 @@
-//! Integer constant expressions in declarations (C11 6.6), and lengths of arrays (6.7.6.2).
+//! Integer constant expressions (C11 6.6), and lengths of arrays (6.7.6.2).
 
 ghost use Rattle.std.specs.Prelude.{◌≡◌, ◌*◌, ◌<◌, ◌≤◌, ◌^◌, nat_lt, pos, ◌-ℤ◌, ◌<ℤ◌, if◌then◌else◌};
 ghost use Rattle.ck_int.specs.Kinds.{value_of, reduced};
 ghost use Rattle.c_expressions.specs.Nodes.{IsWhole};
 ghost use Rattle.c_elaborator.specs.Answers.{Answers, quietly, OperandThere, operand_in};
-ghost use Rattle.c_declarators.specs.Parts.{ConstantThere, IsConstant, CountThere, IsCount, in_any};
-ghost use Rattle.c_declarators.specs.Steps.{constant, array_length};
+ghost use Rattle.c_constants.specs.Constants.{ConstantThere, IsConstant, CountThere, IsCount, in_any};
+ghost use Rattle.c_constants.specs.Constants.{constant, array_length};
 
 use c_elaborator::Work;
 use c_expressions::Operand;
@@ -52,7 +52,7 @@ fn number_of(kind: IntKind, value: u64) -> i128
     }
 }
 
-/// The value of an integer constant expression that was read as a value: 134 at its first byte if it is none.
+/// The value of an integer constant expression that was read as a value: 134 at its first byte if it is none (C11 6.6).
 pub fn constant_value(work: &Work<'_>, x: Operand) -> Result<Constant, Refusal>
     requires whole { IsWhole work.now.nodes }
     requires there { OperandThere work.now x }
@@ -72,7 +72,8 @@ pub fn constant_value(work: &Work<'_>, x: Operand) -> Result<Constant, Refusal>
     }
 }
 
-/// The number of elements that a constant expression gives: 134 if it is not at least 1.
+/// The number of elements that a constant expression gives: 134 at its first byte if it is not at least 1 (C11
+/// 6.7.6.2p1).
 pub fn array_length(work: &Work<'_>, c: Constant) -> Result<u64, Refusal>
     requires whole { IsWhole work.now.nodes }
     requires small { ConstantThere work.now c }
