@@ -13,9 +13,9 @@ use Rattle.c_tree.specs.Types.{Ty, Void, Tys}
 use Rattle.c_tree.specs.Types as types
 use Rattle.c_tree.specs.Views.{grow, type_from, type_at, types_of, tys}
 use Rattle.c_tree.proofs.Forest.{forest_reads}
-use Rattle.c_interner.specs.declared.heads.Head.{Head}
-use Rattle.c_interner.specs.declared.heads.Head.TheVariants as heads
-use Rattle.c_interner.specs.Heads.{built, PartStandsBefore, AllBefore}
+use Rattle.c_type_levels.specs.declared.heads.Head.{Head}
+use Rattle.c_type_levels.specs.declared.heads.Head.TheVariants as heads
+use Rattle.c_type_levels.specs.Heads.{built, PartStandsBefore, AllBefore}
 use Rattle.c_interner.specs.Numbers.{type_after, IsAt, IsNumberOf, SeesBefore}
 
 -- a type that a number within the list reads

@@ -14,13 +14,14 @@ use Rattle.c_tree.specs.declared.typed.CType.{CType}
 use Rattle.c_tree.specs.declared.typed.Typed.{Typed}
 use Rattle.c_tree.specs.Types.{Ty, agree, composite}
 use Rattle.c_tree.specs.Views.{type_from}
-use Rattle.c_interner.specs.declared.agreement.Lengths.{Lengths}
-use Rattle.c_interner.specs.declared.agreement.Lengths.TheVariants.{Equal, Compatible}
+use Rattle.c_type_levels.specs.declared.agreement.Lengths.{Lengths}
+use Rattle.c_type_levels.specs.declared.agreement.Lengths.TheVariants.{Equal, Compatible}
 use Rattle.c_interner.specs.declared.composites.Composites.{Composites}
-use Rattle.c_interner.specs.declared.heads.Head.{Head}
-use Rattle.c_interner.specs.Heads.{built}
-use Rattle.c_interner.specs.Agreement.{lengths_of}
-use Rattle.c_interner.specs.Levels.{same_pair, parts_of, rank, levels_agree, pairs_agree, pair_composite, AreBelow}
+use Rattle.c_type_levels.specs.declared.heads.Head.{Head}
+use Rattle.c_type_levels.specs.Heads.{built}
+use Rattle.c_type_levels.specs.Agreement.{lengths_of}
+use Rattle.c_type_levels.specs.Levels.{parts_of, levels_agree, pair_composite}
+use Rattle.c_interner.specs.Levels.{same_pair, rank, pairs_agree, AreBelow}
 use Rattle.c_interner.specs.Known.{type_in, has_answer, answers_left, LastIsOpen, IsComposite, AreComposites}
 use Rattle.c_interner.specs.Known.{NamesComposites}
 use Rattle.c_interner.specs.Numbers.{IsPlain, AddsTypes, IsNumberOf}

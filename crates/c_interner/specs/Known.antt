@@ -8,8 +8,9 @@ use Rattle.c_tree.specs.Types.{Ty, Void, agree}
 use Rattle.c_tree.specs.Views.{type_at, types_of}
 use Rattle.c_interner.specs.declared.agreement.Agreements.{Agreements}
 use Rattle.c_interner.specs.declared.composites.Composites.{Composites}
-use Rattle.c_interner.specs.Agreement.{lengths_of}
-use Rattle.c_interner.specs.Levels.{rank, same_pair, pair_composite}
+use Rattle.c_type_levels.specs.Agreement.{lengths_of}
+use Rattle.c_type_levels.specs.Levels.{pair_composite}
+use Rattle.c_interner.specs.Levels.{rank, same_pair}
 
 -- the type that a number names in a list
 abbrev pub type_in : List CType → ℕ → Ty

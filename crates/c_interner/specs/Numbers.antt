@@ -1,10 +1,10 @@
 -- The types of a program by their numbers.
 use Rattle.std.specs.Prelude.{◌≡◌, ℕ, ◌<◌, ◌≤◌, List, ◌++◌, length, All}
 use Rattle.c_tree.specs.declared.typed.CType.{CType}
-use Rattle.c_tree.specs.declared.typed.CType.TheVariants as ctypes
 use Rattle.c_tree.specs.declared.typed.Typed.{Typed}
 use Rattle.c_tree.specs.Types.{Ty, Void}
 use Rattle.c_tree.specs.Views.{type_from, type_at, types_of}
+pub use Rattle.c_type_levels.specs.Heads.{IsPlain}
 
 -- the type that a number names in a program
 abbrev pub type_named : Typed → ℕ → Ty
@@ -18,13 +18,6 @@ type_after types c = type_from c (type_at (types_of types))
 pub record IsAt (types : List CType) (k : ℕ) (c : CType) : Type 0 where
   pub there : k < length types
   pub is : type_at (types_of types) k ≡ type_after types c
-
--- a type that is no struct or union
-abbrev pub IsPlain : CType → Type 0
-IsPlain (ctypes.Struct n ms) = ⊥
-IsPlain (ctypes.Union n ms) = ⊥
-IsPlain (ctypes.Incomplete n) = ⊥
-IsPlain c = Unit {0}
 
 -- Types that are no structs or unions may have been added at the end of the list, and nothing else has changed
 pub record AddsTypes (old new : Typed) : Type 0 where

@@ -1,21 +1,18 @@
 //! Composites of types (C11 6.2.7p3). The composite of a pair of types is made of those of the pairs of their parts,
 //! and each is made once, since types share parts.
 
-ghost use Rattle.std.specs.Prelude.{◌≡◌, ℕ, ◌<◌, List, ◌++◌, length, map, drop, false, is_some, IfOk, IfSome, IfNone};
-ghost use Rattle.std.specs.Prelude.{OnOk, MatchOption};
-ghost use Rattle.c_tree.specs.Types.{Ty, Void, composite};
-ghost use Rattle.c_tree.specs.Views.{type_from};
-ghost use Rattle.c_interner.specs.Heads.{built};
+ghost use Rattle.std.specs.Prelude.{◌≡◌, ℕ, ◌<◌, List, length, false, is_some, IfOk, IfSome, IfNone, OnOk};
+ghost use Rattle.c_tree.specs.Types.{Void};
 ghost use Rattle.c_interner.specs.Known.{type_in, IsComposite, AreComposites, NamesComposites};
 ghost use Rattle.c_interner.specs.Known.{has_answer, answers_left, LastIsOpen};
-ghost use Rattle.c_interner.specs.Levels.{parts_of, pair_composite, rank, RankBelow, AreBelow};
-ghost use Rattle.c_interner.specs.Numbers.{IsPlain, AddsTypes, type_named};
+ghost use Rattle.c_interner.specs.Levels.{rank, RankBelow, AreBelow};
+ghost use Rattle.c_interner.specs.Numbers.{AddsTypes};
 
-use crate::heads::Head;
-use crate::levels::{Level, level_at, parts_of, take_last};
+use crate::levels::{level_at, parts_of, take_last};
 use crate::numbers::Numbers;
 use c_tree::{CType, Typed};
-use ck_base::{NoMemory, Sequence};
+use c_type_levels::composed;
+use ck_base::NoMemory;
 use indexmap::IndexMap;
 use std::alloc::Global;
 
@@ -26,42 +23,6 @@ pub(crate) struct Composites {
     /// The number of a type that is void.
     void: u32,
     known: IndexMap<(u32, u32), u32>,
-}
-
-/// The parameters of a composite: the composites of the parameters that both types have, and those that the first has
-/// beside them.
-fn composed_params(alloc: Global, made: &[u32], params: &[u32]) -> Result<Sequence<u32>, NoMemory>
-    ensures { IfOk result (λ v. v ≡ made.now ++ drop (length made.now) params.now) }
-{
-    let mut all = made.to_vec(alloc)?;
-    if made.len() < params.len() {
-        all.extend_from_slice(&params[made.len()..])?;
-    }
-    Ok(Sequence::from_vec(all))
-}
-
-/// The composite of two types, of the numbers of their parts' composites. None where it is the first type.
-fn composed(alloc: Global, c: &Level, d: &Level, made: &[u32]) -> Result<Option<CType>, NoMemory>
-    ensures plain { IfOk result (λ o. IfSome o IsPlain) }
-    ensures is { IfOk result (λ o. (go : ℕ → Ty) →
-        map go made.now ≡ map (pair_composite go)
-        (parts_of c.now.head c.now.params.items d.now.head d.now.params.items) →
-        let t = composite (built c.now.head c.now.params.items go) (built d.now.head d.now.params.items go) in
-        MatchOption o (t ≡ built c.now.head c.now.params.items go) (λ m. type_from m go ≡ t)) }
-{
-    let Some((first, others)) = made.split_first() else {
-        return Ok(None);
-    };
-    match (c.head, d.head) {
-        (Head::Pointer(_), Head::Pointer(_)) => Ok(Some(CType::Pointer(*first))),
-        (Head::Array(_, m), Head::Array(_, n)) => Ok(Some(CType::Array(*first, m.max(n)))),
-        (Head::Function(_), Head::Function(_)) => {
-            let params = composed_params(alloc, others, c.params.as_slice())?;
-            Ok(Some(CType::Function(*first, params)))
-        }
-        (Head::Const(_), Head::Const(_)) => Ok(Some(CType::Const(*first))),
-        _ => Ok(None),
-    }
 }
 
 impl Composites {

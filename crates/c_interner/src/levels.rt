@@ -2,21 +2,15 @@
 
 ghost use Rattle.std.specs.Prelude.{◌≡◌, ℕ, ◌<◌, ◌≤◌, List, [], ◌∷◌, map, ◌++◌, length, All, IfOk, OnOk};
 ghost use Rattle.c_tree.specs.Types.{Ty, Void};
-ghost use Rattle.c_interner.specs.Heads.{built, OfPart};
+ghost use Rattle.c_type_levels.specs.Heads.{built, OfPart};
+ghost use Rattle.c_type_levels.specs.Levels.{pairs_of, parts_of};
 ghost use Rattle.c_interner.specs.Known.{type_in};
-ghost use Rattle.c_interner.specs.Levels.{part_of, rank, pairs_of, parts_of};
+ghost use Rattle.c_interner.specs.Levels.{part_of, rank};
 
-use crate::heads::{Head, head_of, params_of};
 use c_tree::CType;
+use c_type_levels::{Head, Level, head_of, params_of};
 use ck_base::NoMemory;
 use std::alloc::Global;
-
-/// One level of a type. Its numbers are those of types of the whole list.
-#[derive(Drop)]
-pub(crate) struct Level {
-    pub head: Head,
-    pub params: Vec<u32>,
-}
 
 /// The number of a part of the type with a number. A part that does not stand before the type is void.
 fn part_of(void: u32, k: u32, part: u32) -> u32

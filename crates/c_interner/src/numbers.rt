@@ -4,12 +4,12 @@ ghost use Rattle.std.specs.Prelude.{◌≡◌, ℕ, ◌<◌, ◌++◌, [], ◌�
 ghost use Rattle.std.specs.Prelude.{OnErr};
 ghost use Rattle.c_tree.specs.Types.{Ty, composite};
 ghost use Rattle.c_tree.specs.Views.{type_from};
-ghost use Rattle.c_interner.specs.Heads.{built};
-ghost use Rattle.c_interner.specs.Numbers.{IsPlain, AddsTypes, IsAt, IsNumberOf, type_named};
+ghost use Rattle.c_type_levels.specs.Heads.{built, IsPlain};
+ghost use Rattle.c_interner.specs.Numbers.{AddsTypes, IsAt, IsNumberOf, type_named};
 
 use crate::composites::Composites;
-use crate::heads::{Head, head_of, params_of, stands_before};
 use c_tree::{CType, Typed};
+use c_type_levels::{Head, head_of, params_of, stands_before};
 use ck_base::{NoMemory, Sequence};
 use ck_int::IntKind;
 use indexmap::IndexMap;

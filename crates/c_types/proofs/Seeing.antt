@@ -18,8 +18,7 @@ use Rattle.c_tree.specs.Declarations.{alias_agrees, object_agrees, function_agre
 use Rattle.c_tree.specs.Declarations.{agrees_routine, agrees_library, is_there, is_routine, linked_routine, file_names}
 use Rattle.c_tree.specs.Declarations.{named_function, has_linkage, may_be_external}
 use Rattle.c_interner.specs.Numbers.{type_named}
-use Rattle.c_interner.specs.Agreement.{lengths_of}
-use Rattle.c_interner.specs.declared.agreement.Lengths.TheVariants.{Equal, Compatible}
+use Rattle.c_interner.specs.Agreement.{lengths_of, Equal, Compatible}
 use Rattle.c_types.specs.declared.scopes.Scope.{Scope}
 use Rattle.c_types.specs.declared.scopes.Scopes.{Scopes}
 use Rattle.c_types.specs.declared.scopes.TagInfo.{TagInfo}

@@ -14,9 +14,8 @@ use Rattle.c_tree.specs.Layout.{Extent, with_extent, times, size_limit, size_of,
 use Rattle.c_tree.specs.Types.{Ty}
 use Rattle.c_tree.specs.Views.{type_from, type_at, types_of}
 use Rattle.c_tree.specs.Scopes.{TagState, type_extent}
-use Rattle.c_interner.specs.declared.heads.Head.{Head}
 use Rattle.c_types.specs.declared.extents.Step.{Step}
-use Rattle.c_interner.specs.Heads.{built, params_of}
+use Rattle.c_interner.specs.Heads.{Head, built, params_of}
 use Rattle.c_interner.specs.Numbers.{SeesBefore}
 use Rattle.c_types.specs.Sizes.{step_extent, numbered_extent}
 use Rattle.c_interner.proofs.Growing.{type_at-level, sees_before}

@@ -1,6 +1,6 @@
 use Rattle.std.proofs.Common.{ap, ◌∙◌, length, min, arith, append_assoc, ◌<◌, ◌≤◌, ◌∷◌, ◌++◌, [], take, get_or}
 use Rattle.std.proofs.lemmas.List.{get_or_default}
-use Rattle.c_interner.specs.Levels.{pairs_of}
+use Rattle.c_type_levels.specs.Levels.{pairs_of}
 use Rattle.c_interner.proofs.Pairing.{pairs-more, pairs_whole}
 use Rattle.c_interner.proofs.levels.add_pairs.Goals as goal
 

@@ -1,5 +1,5 @@
 use Rattle.std.proofs.Common.{◌≡◌, ◌++◌, take}
-use Rattle.c_interner.specs.Levels.{pairs_of}
+use Rattle.c_type_levels.specs.Levels.{pairs_of}
 use Rattle.c_interner.proofs.levels.add_pairs.Given as goal
 
 abbrev pub invariant-loop-k : goal.invariant-loop-k

@@ -1,7 +1,7 @@
 use Rattle.std.proofs.Common.{ap, sym, ◌∙◌, map}
 use Rattle.c_tree.specs.Types.{Function}
 use Rattle.c_tree.specs.Views.{tys}
-use Rattle.c_interner.specs.Heads.{built}
+use Rattle.c_type_levels.specs.Heads.{built}
 use Rattle.c_interner.specs.Levels.{part_of}
 use Rattle.c_interner.proofs.Pairing.{tys-map, rank_part}
 use Rattle.c_interner.proofs.levels.with_part.Goals as goal

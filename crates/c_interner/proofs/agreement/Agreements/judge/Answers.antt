@@ -1,6 +1,6 @@
 use Rattle.std.proofs.Common.{◌≡◌, ℕ, Bool, true, false, List, refl, sym, ap, subst, ◌∙◌}
 use Rattle.c_tree.specs.Types.{agree}
-use Rattle.c_interner.specs.Agreement.{lengths_of}
+use Rattle.c_type_levels.specs.Agreement.{lengths_of}
 use Rattle.c_interner.specs.Known.{type_in, LastIsOpen}
 use Rattle.c_interner.specs.Levels.{pairs_agree, rank, RankBelow}
 use Rattle.c_interner.proofs.Keeping.{if_ok_some, if_ok_none, judged}

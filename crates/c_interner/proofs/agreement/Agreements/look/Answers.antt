@@ -1,6 +1,6 @@
 use Rattle.std.proofs.Common.{◌≡◌, ℕ, Bool, true, sym, subst, ◌∙◌}
 use Rattle.c_tree.specs.Types.{agree}
-use Rattle.c_interner.specs.Agreement.{lengths_of}
+use Rattle.c_type_levels.specs.Agreement.{lengths_of}
 use Rattle.c_interner.specs.Known.{type_in}
 use Rattle.c_interner.proofs.Keeping.{if_some, lengths_self, answer_plain, answer_kept}
 use Rattle.c_interner.proofs.Pairing.{agree_self}

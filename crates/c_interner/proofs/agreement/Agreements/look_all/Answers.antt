@@ -2,7 +2,7 @@ use Rattle.std.proofs.Common.{◌≡◌, ℕ, true, List, sym, ap, subst, ◌∙
 use Rattle.std.specs.Prelude.{is_some}
 use Rattle.std.proofs.lemmas.Bool.{false≢true}
 use Rattle.std.proofs.lemmas.List.{take_all}
-use Rattle.c_interner.specs.Agreement.{lengths_of}
+use Rattle.c_type_levels.specs.Agreement.{lengths_of}
 use Rattle.c_interner.specs.Known.{type_in, LastIsOpen}
 use Rattle.c_interner.specs.Levels.{pairs_agree}
 use Rattle.c_interner.proofs.Pairing.{pairs_agree_false, pairs_agree_next}

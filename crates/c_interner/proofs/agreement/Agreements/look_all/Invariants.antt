@@ -1,5 +1,5 @@
 use Rattle.std.proofs.Common.{◌≡◌, ℕ, true, false, take}
-use Rattle.c_interner.specs.Agreement.{lengths_of}
+use Rattle.c_type_levels.specs.Agreement.{lengths_of}
 use Rattle.c_interner.specs.Known.{type_in, LastIsOpen}
 use Rattle.c_interner.specs.Levels.{pairs_agree, RankBelow}
 use Rattle.c_interner.proofs.agreement.Agreements.look_all.Given as goal

@@ -1,6 +1,6 @@
 use Rattle.std.proofs.Common.{◌≡◌, ◌≤◌, length, arith}
 use Rattle.c_tree.specs.Types.{agree}
-use Rattle.c_interner.specs.Agreement.{lengths_of}
+use Rattle.c_type_levels.specs.Agreement.{lengths_of}
 use Rattle.c_interner.specs.Known.{type_in}
 use Rattle.c_interner.proofs.Growing.{type_at-past}
 use Rattle.c_interner.proofs.Keeping.{none_kept}

@@ -2,9 +2,10 @@ use Rattle.std.proofs.Common.{◌≡◌, ℕ, ◌<◌, ◌≤◌, length, map, L
 use Rattle.std.specs.Prelude.{All}
 use Rattle.c_tree.specs.Types.{composite}
 use Rattle.c_tree.specs.Views.{type_from}
-use Rattle.c_interner.specs.declared.heads.Head.{Head}
-use Rattle.c_interner.specs.Heads.{built, OfPart}
-use Rattle.c_interner.specs.Levels.{parts_of, pair_composite, rank, RankBelow, AreBelow}
+use Rattle.c_type_levels.specs.declared.heads.Head.{Head}
+use Rattle.c_type_levels.specs.Heads.{built, OfPart}
+use Rattle.c_type_levels.specs.Levels.{parts_of, pair_composite}
+use Rattle.c_interner.specs.Levels.{rank, RankBelow, AreBelow}
 use Rattle.c_interner.specs.Known.{type_in, LastIsOpen}
 use Rattle.c_interner.proofs.Pairing.{parts_are_below, parts_fall}
 use Rattle.c_interner.proofs.Keeping.{adds_none, first_composite, new_composite, if_none}

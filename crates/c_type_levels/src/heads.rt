@@ -3,7 +3,7 @@
 ghost use Rattle.std.specs.Prelude.{◌≡◌, ℕ, ◌<◌, true};
 ghost use Rattle.c_tree.specs.Types.{Ty};
 ghost use Rattle.c_tree.specs.Views.{type_from};
-ghost use Rattle.c_interner.specs.Heads.{built, params_of, PartStandsBefore, AllBefore};
+ghost use Rattle.c_type_levels.specs.Heads.{built, params_of, PartStandsBefore, AllBefore};
 
 use c_tree::CType;
 use ck_int::IntKind;
@@ -21,6 +21,13 @@ pub enum Head {
     /// What it gives.
     Function(u32),
     Const(u32),
+}
+
+/// One level of a type. Its numbers are those of types of the whole list.
+#[derive(Drop)]
+pub struct Level {
+    pub head: Head,
+    pub params: Vec<u32>,
 }
 
 /// The level of a type.

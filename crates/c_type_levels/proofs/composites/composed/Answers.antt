@@ -1,6 +1,6 @@
 use Rattle.std.proofs.Common.{◌≡◌, ◌∷◌, ◌++◌, length, drop, ap, ◌∙◌}
-use Rattle.c_interner.proofs.Pairing.{composite_params}
-use Rattle.c_interner.proofs.composites.composed.Goals as goal
+use Rattle.c_type_levels.proofs.Composing.{composite_params}
+use Rattle.c_type_levels.proofs.composites.composed.Goals as goal
 
 pub returns-in_ok-params-in-Function-Function-clause-is : goal.returns-in_ok-params-in-Function-Function-clause-is
 returns-in_ok-params-in-Function-Function-clause-is c go e =
