@@ -28,7 +28,7 @@ use Rattle.c_types.specs.declared.entries.Entry.{Entry}
 use Rattle.c_types.specs.declared.entries.Entry.TheVariants as entries
 use Rattle.c_types.specs.declared.scopes.TagInfo.{TagInfo}
 use Rattle.c_interner.specs.Numbers.{type_named}
-use Rattle.c_types.specs.Sizes.{room_extent}
+use Rattle.c_type_sizes.specs.Sizes.{room_extent}
 use Rattle.c_types.specs.Calls.{IsTag, Found}
 use Rattle.c_types.specs.Looks.{tag_kind_of, IsThere, Numbered, name_among, tag_among}
 

@@ -1,7 +1,7 @@
 -- Structs and unions: new ones, and their members.
 use Rattle.std.proofs.Common.{◌≡◌, ℕ, zero, suc, ◌^◌, ◌<◌, ◌≤◌, List, [], ◌∷◌, ◌++◌, length, set, take, map, Option}
 use Rattle.std.proofs.Common.{Some, None, Ok, Err, Bool, true, false, refl, sym, ap, subst, ◌∙◌, arith, inl, inr}
-use Rattle.std.proofs.Common.{length-append}
+use Rattle.std.proofs.Common.{Result, length-append}
 use Rattle.std.specs.Prelude.{◌⊎◌, ◌||◌, is_some, slice_get, option_map, reverse, nat_le, nat_eq, if◌then◌else◌}
 use Rattle.std.specs.Global.{Vec}
 use Rattle.std.proofs.lemmas.List.{map_push, map-set, length-set, append-nil}
@@ -12,14 +12,12 @@ use Rattle.c_tree.specs.declared.syntax.RecordKind.{RecordKind}
 use Rattle.c_tree.specs.declared.syntax.RecordKind.TheVariants as records
 use Rattle.c_tree.specs.Layout.{Extent, size_limit, with_extent, members, no_members, whole, times, member_offset}
 use Rattle.c_tree.specs.Layout.{behind, within}
-use Rattle.cap_layout.specs.declared.answers.Layout.{Layout}
 use Rattle.cap_layout.specs.declared.answers.LayoutFault.{LayoutFault}
-use Rattle.cap_layout.specs.Answers.{Fits, Exceeds, IsLayout, extent_is}
+use Rattle.cap_layout.specs.Answers.{Exceeds}
 use Rattle.cap_layout.specs.Walks.{placing}
-use Rattle.cap_layout.proofs.Steps.{whole_fault, fault_at}
-use Rattle.cap_layout.proofs.Rows.{layout_at}
 use Rattle.std.proofs.lemmas.Bool.{false≢true, le-leb, leb-true, eqb-true, eq-eqb}
-use Rattle.c_types.specs.Sizes.{is_union, has_tag, completed_type, numbered_extent, room_extent, AreStarts}
+use Rattle.c_type_sizes.specs.Sizes.{numbered_extent, room_extent, IsRecordRoom}
+use Rattle.c_types.specs.Sizes.{is_union, has_tag, completed_type, AreStarts}
 use Rattle.c_tree.specs.declared.typed.CType.{CType}
 use Rattle.c_tree.specs.declared.typed.CType.TheVariants as ctypes
 use Rattle.c_tree.specs.declared.typed.Member.{Member}
@@ -30,7 +28,7 @@ use Rattle.c_tree.specs.Views.{grow, type_from, type_at, types_of}
 use Rattle.c_tree.specs.Scopes.{State, TagState, Part, changed_at, with_changed, type_extent, tag_extent, extent_size}
 use Rattle.c_tree.specs.Declarators.{is_begun, begin_tag, complete_tag, completed, members_extent, record_extent}
 use Rattle.c_tree.specs.Declarators.{kind_at, has_kind, same_record}
-use Rattle.c_types.specs.declared.rooms.Room.{Room}
+use Rattle.c_type_sizes.specs.declared.rooms.Room.{Room}
 use Rattle.c_types.specs.declared.scopes.TagInfo.{TagInfo}
 use Rattle.c_types.specs.declared.scopes.MemberTable.{MemberTable}
 use Rattle.c_tree.specs.Initializers.{or_none, next_within, struct_places, record_places, known_places}
@@ -524,24 +522,13 @@ types_of-completed cs of n k ms e =
     let c = tag_form (slice_get cs of) n e in
     grow-set cs [] of c.0 (completed_type k n ms) c.1 (λ f. completed_form k n ms f ∙ sym (c.2 f))
 
-pub record_fault : (tags : List TagState) (cs : List CType) (k : RecordKind) (parts : List Part) (ms : List Member)
-    (shared : Bool) (f g : LayoutFault) → shared ≡ is_union k → HasParts (types_of cs) parts ms → f ≡ g →
-    IsLayout (members (placing shared) (numbered_extent tags cs) ms no_members) (Err f) →
-    IsLayout (record_extent tags k parts) (Err g)
-record_fault tags cs k parts ms shared f g u h e l =
-    layout_at _ _ (Err g) (record_is tags cs k parts ms h)
-    (whole_fault (is_union k) (numbered_extent tags cs) ms g
-    (fault_at _ f g e (subst (λ x. IsLayout (members (placing x) (numbered_extent tags cs) ms no_members) (Err f)) u
-    l)))
-
-pub record_fits : (tags : List TagState) (cs : List CType) (k : RecordKind) (parts : List Part) (ms : List Member)
-    (shared : Bool) (end l : Layout) → shared ≡ is_union k → HasParts (types_of cs) parts ms →
-    Fits (members (placing shared) (numbered_extent tags cs) ms no_members) end →
-    whole (extent_is end) ≡ Some (extent_is l) → record_extent tags k parts ≡ Some (extent_is l)
-record_fits tags cs k parts ms shared end l u h f w =
-    let e : members (placing (is_union k)) (numbered_extent tags cs) ms no_members ≡ Some (extent_is end) =
-    subst (λ x. members (placing x) (numbered_extent tags cs) ms no_members ≡ Some (extent_is end)) u f.is in
-    record_is tags cs k parts ms h ∙ ap (λ o. with_extent o whole) e ∙ w
+pub record_room : (tags : List TagState) (cs : List CType) (k : RecordKind) (parts : List Part) (ms : List Member)
+    (shared : Bool) (r : Result (Option Room) LayoutFault) → shared ≡ is_union k → HasParts (types_of cs) parts ms →
+    IsRecordRoom (with_extent (members (placing shared) (numbered_extent tags cs) ms no_members) whole) r →
+    IsRecordRoom (record_extent tags k parts) r
+record_room tags cs k parts ms shared r u h l =
+    subst (λ o. IsRecordRoom o r) (sym (record_is tags cs k parts ms h))
+    (subst (λ x. IsRecordRoom (with_extent (members (placing x) (numbered_extent tags cs) ms no_members) whole) r) u l)
 
 -- ---- completion
 

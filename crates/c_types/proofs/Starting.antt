@@ -1,5 +1,5 @@
 -- Where the members of a struct begin.
-use Rattle.std.proofs.Common.{◌≡◌, ℕ, zero, suc, ◌+◌, List, [], ◌∷◌, ◌++◌, map, drop, Some, refl, sym, ap, ◌∙◌, arith}
+use Rattle.std.proofs.Common.{◌≡◌, ℕ, zero, suc, ◌+◌, List, [], ◌∷◌, ◌++◌, map, drop, Some, sym, ap, ◌∙◌, arith}
 use Rattle.std.proofs.Common.{append_assoc}
 use Rattle.std.specs.Prelude.{slice_get}
 use Rattle.std.proofs.lemmas.Option.{same_Some, none-some, get_or_from_slice_get}
@@ -11,7 +11,7 @@ use Rattle.c_tree.specs.Scopes.{Part, TagState, type_extent}
 use Rattle.c_tree.specs.Types.{Ty, Void}
 use Rattle.c_tree.specs.Views.{type_at, types_of}
 use Rattle.c_types.specs.Calls.{HasParts}
-use Rattle.c_types.specs.Sizes.{numbered_extent}
+use Rattle.c_type_sizes.specs.Sizes.{numbered_extent}
 use Rattle.c_types.specs.Stands.{part_seen, member_kept}
 use Rattle.ck_base.specs.declared.positions.Span.{Span}
 use Rattle.std.specs.Prelude.{Bool, false, Option, None, IfSome, nat_eq}

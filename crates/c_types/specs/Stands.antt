@@ -18,14 +18,14 @@ use Rattle.c_tree.specs.Layout.{Extent}
 use Rattle.c_tree.specs.Types.{Ty, Tagged, int}
 use Rattle.c_tree.specs.Views.{types_of}
 use Rattle.c_tree.specs.Scopes as meant
-use Rattle.c_tree.specs.Scopes.{Named, Part, TagState, StaticState, LocalState, RoutineState, State, find_in}
+use Rattle.c_tree.specs.Scopes.{Part, TagState, StaticState, LocalState, RoutineState, State, find_in}
 use Rattle.c_tree.specs.Declarations.{is_there, linked}
 use Rattle.c_tree.specs.Initializers.{tag_places}
 use Rattle.c_types.specs.declared.entries.Entity.{Entity}
 use Rattle.c_types.specs.declared.entries.Entity.TheVariants.{Local, Static, Routine, Alias, Enumerator, Library}
 use Rattle.c_types.specs.declared.entries.Tagging.{Tagging}
 use Rattle.c_types.specs.declared.entries.Tagging.TheVariants.{Recorded, Enumerated}
-use Rattle.c_types.specs.Sizes.{room_extent}
+use Rattle.c_type_sizes.specs.Sizes.{room_extent}
 use Rattle.c_types.specs.declared.scopes.Scope.{Scope}
 use Rattle.c_types.specs.declared.scopes.TagInfo.{TagInfo}
 use Rattle.c_types.specs.declared.scopes.MemberTable.{MemberTable}

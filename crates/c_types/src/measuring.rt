@@ -8,12 +8,13 @@ ghost use Rattle.c_interner.specs.Numbers.{type_named};
 ghost use Rattle.c_tree.specs.declared.syntax.RecordKind.TheVariants.{Struct};
 ghost use Rattle.c_tree.specs.Views.{types_of};
 ghost use Rattle.c_types.specs.Calls.{HasParts};
-ghost use Rattle.c_types.specs.Sizes.{IsModest, numbered_extent, AreStarts};
+ghost use Rattle.c_type_sizes.specs.Sizes.{IsModest, numbered_extent};
+ghost use Rattle.c_types.specs.Sizes.{AreStarts};
 ghost use Rattle.c_types.specs.Stands.{Stands};
 
-use crate::extents::{Base, placed, repeated, row_of, start_of};
 use crate::scopes::Scopes;
 use c_tree::{Member, Typed};
+use c_type_sizes::{Base, placed, repeated, row_of, start_of};
 use cap_layout::{LIMIT, Layout, LayoutFault};
 use ck_base::NoMemory;
 

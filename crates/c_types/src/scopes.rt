@@ -12,9 +12,9 @@ ghost use Rattle.c_types.specs.Calls.{Does, Keeps, Found, IsEntity, IsTag, Exten
 ghost use Rattle.c_types.specs.Looks.{ShowsInnermost, IsThere, name_among, tag_among, entry_of, tag_kind_of};
 
 use crate::entries::{Entity, Entry, TagKind, Tagging};
-use crate::rooms::Room;
 use c_interner::Numbers;
 use c_tree::{CType, RecordKind, Typed, VarDef};
+use c_type_sizes::Room;
 use ck_base::NoMemory;
 use indexmap::IndexMap;
 use std::alloc::Global;

@@ -7,17 +7,17 @@ ghost use Rattle.c_tree.specs.Scopes.{State, Part};
 ghost use Rattle.c_tree.specs.Declarators.{new_tag, begin_tag, complete_tag, is_begun, record_extent};
 ghost use Rattle.c_types.specs.Calls.{Given, Does, Keeps, Answers, HasParts, Completes, Extends};
 ghost use Rattle.c_tree.specs.Views.{types_of};
-ghost use Rattle.c_types.specs.Sizes.{AreStarts, IsRecordRoom, is_union, has_tag, completed_type};
+ghost use Rattle.c_type_sizes.specs.Sizes.{IsRecordRoom};
+ghost use Rattle.c_types.specs.Sizes.{AreStarts, is_union, has_tag, completed_type};
 ghost use Rattle.c_types.specs.Stands.{Stands, part_seen, member_kept};
 ghost use Rattle.c_types.specs.Stands.{number_among, first_named};
 ghost use Rattle.std.specs.Map.{lookup};
 
-use crate::extents::finished;
-use crate::rooms::Room;
 use crate::scopes::{MemberTable, Scopes, TagInfo};
 use c_interner::{append, next_number, replace};
 use c_tree::{CType, Member, RecordKind, Typed};
-use cap_layout::{LIMIT, LayoutFault};
+use c_type_sizes::{Room, whole_room};
+use cap_layout::LayoutFault;
 use ck_base::{NoMemory, Pos, Refusal, Sequence};
 use indexmap::IndexMap;
 
@@ -183,21 +183,7 @@ impl<'a> Scopes<'a> {
         ensures { (s : State) (parts : List Part) → Stands self.now p.now s →
             HasParts (types_of p.now.types) parts ms.now → IsRecordRoom (record_extent s.tags kind parts) result }
     {
-        match self.members_end(p, ms, is_union(kind)) {
-            Err(LayoutFault::Incomplete) => Ok(None),
-            Err(LayoutFault::TooLarge) => Err(LayoutFault::TooLarge),
-            Ok(end) => {
-                let l = finished(end);
-                if l.size > LIMIT {
-                    Err(LayoutFault::TooLarge)
-                } else {
-                    Ok(Some(Room {
-                        size: l.size,
-                        align: l.align,
-                    }))
-                }
-            }
-        }
+        whole_room(self.members_end(p, ms, is_union(kind)))
     }
 
     // The members of a struct or union, by their names and with their offsets.

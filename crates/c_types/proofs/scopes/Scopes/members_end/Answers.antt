@@ -4,7 +4,7 @@ use Rattle.c_tree.specs.declared.typed.Member.{Member}
 use Rattle.c_tree.specs.Layout.{size_limit}
 use Rattle.cap_layout.proofs.Steps.{walk_none, walk_large, walk_past, walk_on, walk_end, walk_over, walk_at, item}
 use Rattle.cap_layout.proofs.Steps.{fault_at}
-use Rattle.c_types.specs.Sizes.{numbered_extent}
+use Rattle.c_type_sizes.specs.Sizes.{numbered_extent}
 use Rattle.c_types.proofs.scopes.Scopes.members_end.Goals as goal
 use Rattle.c_types.proofs.scopes.Scopes.members_end.Goals.{in-Err-TooLarge, in-Ok+then-not-large, in-Ok+else-not-large}
 

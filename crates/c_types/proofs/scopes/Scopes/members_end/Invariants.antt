@@ -3,7 +3,7 @@ use Rattle.c_tree.specs.Layout.{size_limit}
 use Rattle.c_tree.specs.Scopes.{State}
 use Rattle.cap_layout.specs.Answers.{greatest_align}
 use Rattle.cap_layout.specs.Walks.{Walk, placing}
-use Rattle.c_types.specs.Sizes.{numbered_extent}
+use Rattle.c_type_sizes.specs.Sizes.{numbered_extent}
 use Rattle.c_types.specs.Stands.{Stands}
 use Rattle.c_types.proofs.scopes.Scopes.members_end.Given as goal
 

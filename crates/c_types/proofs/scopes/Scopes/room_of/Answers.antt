@@ -1,6 +1,6 @@
 use Rattle.std.proofs.Common.{◌∙◌, ap}
 use Rattle.std.specs.Prelude.{option_map}
-use Rattle.c_types.specs.Sizes.{room_extent}
+use Rattle.c_type_sizes.specs.Sizes.{room_extent}
 use Rattle.c_types.proofs.Looking.{there_at, kept_extent}
 use Rattle.c_types.proofs.scopes.Scopes.room_of.Goals as goal
 

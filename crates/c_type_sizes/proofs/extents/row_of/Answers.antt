@@ -1,8 +1,8 @@
 use Rattle.std.proofs.Common.{List, [], arith}
 use Rattle.c_tree.specs.Scopes.{TagState}
-use Rattle.c_types.specs.Sizes.{numbered_extent}
+use Rattle.c_type_sizes.specs.Sizes.{numbered_extent}
 use Rattle.cap_layout.proofs.Rows.{row_start, row_more}
-use Rattle.c_types.proofs.extents.row_of.Goals as goal
+use Rattle.c_type_sizes.proofs.extents.row_of.Goals as goal
 
 pub loop-base-init : goal.loop-base-init
 loop-base-init c = record {

@@ -1,6 +1,6 @@
 use Rattle.c_tree.specs.Scopes.{type_extent}
-use Rattle.c_types.proofs.Sizing.{none_of, part_past, part_below}
-use Rattle.c_types.proofs.extents.part.Goals as goal
+use Rattle.c_type_sizes.proofs.Levels.{none_of, part_past, part_below}
+use Rattle.c_type_sizes.proofs.extents.part.Goals as goal
 
 pub returns-then-count-eq0-clause-is : goal.returns-then-count-eq0-clause-is
 returns-then-count-eq0-clause-is c tags types seen h =

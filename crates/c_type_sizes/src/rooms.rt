@@ -8,16 +8,17 @@ use cap_layout::Layout;
 
 /// The size and the alignment of a complete struct or union.
 #[derive(Clone, Copy)]
-pub(crate) struct Room {
-    pub(crate) size: u64,
-    pub(crate) align: u64,
+pub struct Room {
+    pub size: u64,
+    pub align: u64,
     ghost small: { size ≤ size_limit },
     ghost positive: { 0 < align },
     ghost fine: { align ≤ greatest_align },
 }
 
 impl Room {
-    pub(crate) fn layout(self) -> Layout
+    /// The same as a layout.
+    pub fn layout(self) -> Layout
         ensures size { result.size ≡ self.size }
         ensures align { result.align ≡ self.align }
         ensures small { result.size ≤ size_limit }

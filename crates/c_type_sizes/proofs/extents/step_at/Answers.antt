@@ -3,8 +3,8 @@ use Rattle.std.proofs.lemmas.Bool.{ltb-false}
 use Rattle.c_tree.specs.Scopes.{type_extent}
 use Rattle.cap_layout.proofs.Places.{there}
 use Rattle.c_interner.proofs.Growing.{type_at-past}
-use Rattle.c_types.proofs.Sizing.{level_extent}
-use Rattle.c_types.proofs.extents.step_at.Goals as goal
+use Rattle.c_type_sizes.proofs.Levels.{level_extent}
+use Rattle.c_type_sizes.proofs.extents.step_at.Goals as goal
 
 pub returns-in-None-clause-is : goal.returns-in-None-clause-is
 returns-in-None-clause-is c tags =

@@ -1,8 +1,8 @@
 use Rattle.std.proofs.Common.{◌<◌, ◌≤◌, List}
 use Rattle.c_tree.specs.Scopes.{TagState}
 use Rattle.cap_layout.specs.Walks.{IsRow}
-use Rattle.c_types.specs.Sizes.{numbered_extent}
-use Rattle.c_types.proofs.extents.row_of.Given as goal
+use Rattle.c_type_sizes.specs.Sizes.{numbered_extent}
+use Rattle.c_type_sizes.proofs.extents.row_of.Given as goal
 
 abbrev pub invariant-loop-base : goal.invariant-loop-base
 invariant-loop-base l = record {

@@ -11,7 +11,8 @@ ghost use Rattle.c_tree.specs.declared.typed.CType.{CType};
 ghost use Rattle.c_tree.specs.Types.{Ty};
 ghost use Rattle.c_interner.specs.Heads.{built};
 ghost use Rattle.c_interner.specs.Numbers.{SeesBefore};
-ghost use Rattle.c_types.specs.Sizes.{step_extent, base_extent, IsSmallStep, IsSmallBase, HasSmallerPart, IsModest};
+ghost use Rattle.c_type_sizes.specs.Sizes.{step_extent, base_extent, IsSmallStep, IsSmallBase, HasSmallerPart};
+ghost use Rattle.c_type_sizes.specs.Sizes.{IsModest};
 
 use c_interner::{Head, head_of};
 use c_tree::CType;
@@ -20,7 +21,7 @@ use ck_int::IntKind;
 
 /// A type that is no array and not const.
 #[derive(Clone, Copy)]
-pub(crate) enum Base {
+pub enum Base {
     /// It is never complete.
     Missing,
     /// The bytes of a scalar.
@@ -39,10 +40,11 @@ enum Step {
 
 /// A type as a row of elements that are no arrays and not const.
 #[derive(Clone, Copy)]
-pub(crate) struct Row {
-    pub(crate) base: Base,
+pub struct Row {
+    /// What its elements are.
+    pub base: Base,
     /// How many elements there are; all numbers over the limit of a size are alike.
-    pub(crate) count: u64,
+    pub count: u64,
 }
 
 fn bytes_of(kind: IntKind) -> u64
@@ -115,8 +117,9 @@ fn product(m: u64, n: u64) -> u64
     }
 }
 
-/// A type without its arrays and the words `const` around it.
-pub(crate) fn row_of(types: &[CType], t: u32) -> Row
+/// A type without its arrays and the words `const` around it (C11 6.2.5p20, p26). An array of no elements
+/// is one whose length is not known, and has no size.
+pub fn row_of(types: &[CType], t: u32) -> Row
     ensures is { (tags : List TagState) →
         IsRow (type_extent tags (type_at (types_of types.now) t)) (base_extent tags result.base) result.count }
     ensures base { IsSmallBase result.base }
@@ -135,8 +138,8 @@ pub(crate) fn row_of(types: &[CType], t: u32) -> Row
     }
 }
 
-/// Elements in a row.
-pub(crate) fn repeated(l: Layout, count: u64) -> Result<Layout, LayoutFault>
+/// The layout of elements in a row (C11 6.2.5p20), or TooLarge exactly for more than 67,108,864 bytes.
+pub fn repeated(l: Layout, count: u64) -> Result<Layout, LayoutFault>
     requires size { l.size ≤ 67239936 }
     requires positive { 0 < l.align }
     requires align { l.align ≤ greatest_align }
@@ -167,8 +170,8 @@ fn rounded(n: u64, align: u64) -> u64
     (n + (align - 1)) / align * align
 }
 
-/// Where a member of a struct begins, behind the end of those before it.
-pub(crate) fn start_of(m: Layout, end: Layout) -> u64
+/// Where a member of a struct begins, behind the end of those before it (C11 6.7.2.1p15).
+pub fn start_of(m: Layout, end: Layout) -> u64
     requires m_size { m.size ≤ size_limit }
     requires m_positive { 0 < m.align }
     requires m_align { m.align ≤ greatest_align }
@@ -178,8 +181,9 @@ pub(crate) fn start_of(m: Layout, end: Layout) -> u64
     rounded(end.size, m.align.max(owned(m.size).align))
 }
 
-/// The end of the members with one more, which shares the others' bytes or stands behind them.
-pub(crate) fn placed(m: Layout, end: Layout, shared: bool) -> Layout
+/// The end of the members with one more, which shares the others' bytes, as in a union, or stands behind them, as in a
+/// struct (C11 6.7.2.1p15, p16).
+pub fn placed(m: Layout, end: Layout, shared: bool) -> Layout
     requires m_size { m.size ≤ size_limit }
     requires m_positive { 0 < m.align }
     requires m_align { m.align ≤ greatest_align }

@@ -1,5 +1,5 @@
 use Rattle.cap_layout.proofs.Rows.{row_fits}
-use Rattle.c_types.proofs.extents.repeated.Goals as goal
+use Rattle.c_type_sizes.proofs.extents.repeated.Goals as goal
 
 pub returns-else-size-gt-LIMIT-clause-is : goal.returns-else-size-gt-LIMIT-clause-is
 returns-else-size-gt-LIMIT-clause-is c k p e =
