@@ -21,9 +21,9 @@ use Rattle.c_interner.specs.Numbers.{AddsTypes, IsNumberOf}
 use Rattle.c_types.specs.Stands.{Stands}
 use Rattle.c_types.specs.declared.scopes.Scopes.{Scopes}
 use Rattle.c_tree.specs.Scopes.{State}
-use Rattle.c_expressions.specs.declared.facts.Fact.{Fact}
+use Rattle.c_node_facts.specs.declared.facts.Fact.{Fact}
 use Rattle.c_expressions.specs.declared.nodes.Nodes.{Nodes}
-use Rattle.c_expressions.specs.Facts.{fact_of}
+use Rattle.c_node_facts.specs.Facts.{fact_of}
 use Rattle.c_expressions.specs.Nodes.{IsWhole, IsTyped, KindIsTyped, Keeps, HasType, HasTerm, type_in, term_in}
 use Rattle.c_expressions.specs.Nodes.{type_count}
 

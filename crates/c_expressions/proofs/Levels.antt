@@ -17,11 +17,12 @@ use Rattle.c_tree.specs.Terms.{Term, type_of, pos_of}
 use Rattle.c_tree.specs.Views.{grow, type_from, types_of, tys, kind_term, expr_from, terms_of, no_term}
 use Rattle.c_tree.proofs.Forest.{forest_reads}
 use Rattle.c_interner.proofs.Growing.{grow-front}
-use Rattle.c_expressions.specs.declared.classes.Class.{Class}
-use Rattle.c_expressions.specs.declared.facts.Fact.{Fact}
+use Rattle.c_node_facts.specs.declared.classes.Class.{Class}
+use Rattle.c_node_facts.specs.declared.facts.Fact.{Fact}
 use Rattle.c_expressions.specs.declared.nodes.Nodes.{Nodes}
-use Rattle.c_expressions.specs.Classes.{class_type, params_of, PartIsThere}
-use Rattle.c_expressions.specs.Facts.{fact_of}
+use Rattle.c_node_facts.specs.Classes.{class_type, params_of}
+use Rattle.c_expressions.specs.Classes.{PartIsThere}
+use Rattle.c_node_facts.specs.Facts.{fact_of}
 use Rattle.c_expressions.specs.Nodes.{IsWhole, IsClass, IsType, Sees, type_in, term_in, type_count, term_count}
 use Rattle.c_expressions.proofs.Growth.{length-terms_of}
 

@@ -11,13 +11,14 @@ use Rattle.c_tree.specs.Views.{types_of, type_at, terms_of, term_at, operands}
 use Rattle.c_tree.specs.Scopes.{State}
 use Rattle.c_tree.specs.Conversions as meant
 use Rattle.c_types.specs.Stands.{Stands}
-use Rattle.c_expressions.specs.declared.classes.Class.{Class}
+use Rattle.c_node_facts.specs.declared.classes.Class.{Class}
 use Rattle.c_expressions.specs.declared.nodes.Nodes.{Nodes}
 use Rattle.c_expressions.specs.declared.nodes.Operand.{Operand}
-use Rattle.c_expressions.specs.Classes.{class_type, PartIsThere}
-use Rattle.c_expressions.specs.declared.facts.Join.{Join}
-use Rattle.c_expressions.specs.declared.facts.Join.TheVariants as joins
-use Rattle.c_expressions.specs.Facts.{fact_of}
+use Rattle.c_node_facts.specs.Classes.{class_type}
+use Rattle.c_expressions.specs.Classes.{PartIsThere}
+use Rattle.c_node_facts.specs.declared.facts.Join.{Join}
+use Rattle.c_node_facts.specs.declared.facts.Join.TheVariants as joins
+use Rattle.c_node_facts.specs.Facts.{fact_of}
 
 -- the type and the expression that a number names
 abbrev pub type_in : Nodes → ℕ → Ty

@@ -7,9 +7,9 @@ ghost use Rattle.c_interner.specs.Agreement.{lengths_of};
 ghost use Rattle.c_expressions.specs.Agreement.{AreBelow};
 ghost use Rattle.c_expressions.specs.Nodes.{IsWhole, HasType, Sees, Tells, type_in, type_count};
 
-use crate::classes::params_of;
 use crate::nodes::Nodes;
 use c_interner::{Lengths, agree};
+use c_node_facts::params_of;
 use ck_base::NoMemory;
 
 impl Nodes<'_> {

@@ -12,9 +12,8 @@ ghost use Rattle.c_expressions.specs.Values.{loaded};
 ghost use Rattle.c_expressions.specs.Nodes.{IsWhole, HasTerm, IsTerm, Tells, operand_in, type_in, term_in, type_count};
 ghost use Rattle.c_expressions.specs.Nodes.{term_count};
 
-use crate::classes::Class;
-use crate::facts::Step;
 use crate::nodes::{Nodes, Operand};
+use c_node_facts::{Class, Step};
 use ck_base::{NoMemory, Refusal};
 
 impl Nodes<'_> {

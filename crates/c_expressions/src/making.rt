@@ -3,12 +3,12 @@
 ghost use Rattle.std.specs.Prelude.{◌≡◌, ◌<◌, false, IfOk};
 ghost use Rattle.c_tree.specs.Types.{Ty, Pointer, is_array, qualified, bare_elements, promoted, common};
 ghost use Rattle.c_tree.specs.Types as types;
-ghost use Rattle.c_expressions.specs.Classes.{integer_type};
+ghost use Rattle.c_node_facts.specs.Classes.{integer_type};
 ghost use Rattle.c_expressions.specs.Rows.{rows_type, IsRows};
 ghost use Rattle.c_expressions.specs.Nodes.{IsWhole, HasType, type_in, type_count};
 
-use crate::classes::{Class, Integer};
 use crate::nodes::Nodes;
+use c_node_facts::{Class, Integer};
 use c_tree::CType;
 use ck_base::NoMemory;
 use ck_int::IntKind;

@@ -7,14 +7,14 @@ ghost use Rattle.c_tree.specs.Views.{type_from, expr_from, types_of};
 ghost use Rattle.c_tree.specs.Scopes.{State};
 ghost use Rattle.c_interner.specs.Numbers.{IsPlain, AddsTypes};
 ghost use Rattle.c_types.specs.Stands.{Stands};
-ghost use Rattle.c_expressions.specs.Classes.{class_type, PartIsThere};
-ghost use Rattle.c_expressions.specs.Facts.{fact_of};
+ghost use Rattle.c_node_facts.specs.Classes.{class_type};
+ghost use Rattle.c_node_facts.specs.Facts.{fact_of};
+ghost use Rattle.c_expressions.specs.Classes.{PartIsThere};
 ghost use Rattle.c_expressions.specs.Nodes.{IsWhole, IsTyped, IsClass, IsType, IsTerm, HasType, HasTerm, Sees, type_in};
 ghost use Rattle.c_expressions.specs.Nodes.{term_in, type_count, term_count};
 
-use crate::classes::{Class, class_of};
-use crate::facts::Fact;
 use c_interner::{append, next_number};
+use c_node_facts::{Class, Fact, class_of};
 use c_tree::{CType, Expr, Typed};
 use c_types::Scopes;
 use ck_base::{NoMemory, Pos};

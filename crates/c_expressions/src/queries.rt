@@ -5,12 +5,11 @@ ghost use Rattle.c_tree.specs.Types.{bare, is_const, is_integer, is_pointer, is_
 ghost use Rattle.c_tree.specs.Types.{is_function, is_tagged, is_capability, target_of};
 ghost use Rattle.c_tree.specs.Constants.{is_pointer_to_void};
 ghost use Rattle.c_tree.specs.Expressions.{moves, points_to_function, is_void_pointer};
-ghost use Rattle.c_expressions.specs.Facts.{evaluation_of, IsConversion};
+ghost use Rattle.c_node_facts.specs.Facts.{evaluation_of, IsConversion};
 ghost use Rattle.c_expressions.specs.Nodes.{IsWhole, IsType, type_in, type_count};
 
-use crate::classes::Class;
-use crate::facts::{Conversion, Evaluation};
 use crate::nodes::Nodes;
+use c_node_facts::{Class, Conversion, Evaluation};
 
 impl Nodes<'_> {
     /// Whether it is an integer type, unqualified (C11 6.2.5p17).

@@ -6,14 +6,14 @@ ghost use Rattle.c_tree.specs.Types.{Ty};
 ghost use Rattle.c_tree.specs.Terms as tree;
 ghost use Rattle.c_tree.specs.Terms.{Term, leaf, step, join, join_three, term, terms, with_term};
 ghost use Rattle.c_tree.specs.Views.{kind_term, type_at};
-ghost use Rattle.c_expressions.specs.Facts.{leaf_shape, step_shape, join_shape};
+ghost use Rattle.c_node_facts.specs.Facts.{leaf_shape, step_shape, join_shape};
 ghost use Rattle.c_expressions.specs.Nodes.{IsWhole, HasTerm, KindIsTyped, JoinIsTyped, OperandsBefore, type_in};
 ghost use Rattle.c_expressions.specs.Nodes.{term_in, type_count, term_count};
 
-use crate::facts::{
+use crate::nodes::Nodes;
+use c_node_facts::{
     Join, Leaf, Step, call_fact, choice_fact, conversion_fact, join_fact, leaf_fact, step_fact,
 };
-use crate::nodes::Nodes;
 use c_tree::{Expr, ExprKind};
 use ck_base::{NoMemory, Pos, Sequence};
 

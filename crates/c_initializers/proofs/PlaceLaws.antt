@@ -15,8 +15,8 @@ use Rattle.c_tree.specs.Initializers.{with_count}
 use Rattle.c_tree.specs.Statics as statics
 use Rattle.c_tree.specs.Statics.{offset_in, record_offset, tag_offset}
 use Rattle.c_types.specs.Stands.{starts_in}
-use Rattle.c_expressions.specs.declared.classes.Class.{Class}
-use Rattle.c_expressions.specs.declared.classes.Class.TheVariants as classes
+use Rattle.c_node_facts.specs.declared.classes.Class.{Class}
+use Rattle.c_node_facts.specs.declared.classes.Class.TheVariants as classes
 use Rattle.c_expressions.specs.Classes.{class_type}
 use Rattle.c_elaborator.specs.declared.work.Work.{Work}
 use Rattle.c_object_parts.specs.declared.members.Place.{Place}

@@ -11,8 +11,8 @@ use Rattle.c_tree.specs.Types.{Ty, Tys, Array}
 use Rattle.c_tree.specs.Scopes.{State, size}
 use Rattle.c_tree.specs.Initializers.{repeat, scalars_of, all_scalars, tag_scalars, scalars}
 use Rattle.c_expressions.specs.Nodes.{type_in}
-use Rattle.c_expressions.specs.declared.classes.Class.{Class}
-use Rattle.c_expressions.specs.declared.classes.Class.TheVariants as classes
+use Rattle.c_node_facts.specs.declared.classes.Class.{Class}
+use Rattle.c_node_facts.specs.declared.classes.Class.TheVariants as classes
 use Rattle.c_expressions.specs.Classes.{class_type}
 use Rattle.c_elaborator.specs.declared.work.Work.{Work}
 use Rattle.c_elaborator.specs.Work.{Shows}

@@ -1,5 +1,5 @@
-use Rattle.c_expressions.proofs.Known.{leaf_known, global_known, var_known, fun_known, constant_known}
-use Rattle.c_expressions.proofs.facts.leaf_fact.Goals as goal
+use Rattle.c_node_facts.proofs.Known.{leaf_known, global_known, var_known, fun_known, constant_known}
+use Rattle.c_node_facts.proofs.facts.leaf_fact.Goals as goal
 
 pub returns-in-Constant : goal.returns-in-Constant
 returns-in-Constant c = λ t p h. rw c.in-Constant.is (constant_known _ t p _ _ h c.is_null.ensures)

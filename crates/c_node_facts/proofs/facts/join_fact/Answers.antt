@@ -1,9 +1,9 @@
 use Rattle.std.proofs.Common.{ap}
 use Rattle.c_tree.specs.Types.{bare}
 use Rattle.c_tree.specs.Terms.{type_of}
-use Rattle.c_expressions.specs.declared.facts.Evaluation.{Evaluation}
-use Rattle.c_expressions.proofs.Known.{join_known}
-use Rattle.c_expressions.proofs.facts.join_fact.Goals as goal
+use Rattle.c_node_facts.specs.declared.facts.Evaluation.{Evaluation}
+use Rattle.c_node_facts.proofs.Known.{join_known}
+use Rattle.c_node_facts.proofs.facts.join_fact.Goals as goal
 
 pub returns : goal.returns
 returns c = λ go x y t p fx fy ft fl.

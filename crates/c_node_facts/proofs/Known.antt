@@ -11,14 +11,14 @@ use Rattle.c_tree.specs.Constants.{constant_of, is_null_constant, is_zero}
 use Rattle.c_tree.specs.Conversions.{is_place, is_member}
 use Rattle.c_tree.specs.Expressions.{from_plain, plain_source}
 use Rattle.ck_int.specs.Kinds.{converted}
-use Rattle.c_expressions.specs.declared.facts.Fact.{Fact}
-use Rattle.c_expressions.specs.declared.facts.Evaluation.{Evaluation}
-use Rattle.c_expressions.specs.declared.facts.Conversion.{Conversion}
-use Rattle.c_expressions.specs.declared.facts.Step.{Step}
-use Rattle.c_expressions.specs.declared.facts.Step.TheVariants as steps
-use Rattle.c_expressions.specs.declared.facts.Join.{Join}
-use Rattle.c_expressions.specs.declared.facts.Join.TheVariants as joins
-use Rattle.c_expressions.specs.Facts.{fact_of, evaluation_of, step_shape, join_shape, is_plain, is_cap, IsConversion}
+use Rattle.c_node_facts.specs.declared.facts.Fact.{Fact}
+use Rattle.c_node_facts.specs.declared.facts.Evaluation.{Evaluation}
+use Rattle.c_node_facts.specs.declared.facts.Conversion.{Conversion}
+use Rattle.c_node_facts.specs.declared.facts.Step.{Step}
+use Rattle.c_node_facts.specs.declared.facts.Step.TheVariants as steps
+use Rattle.c_node_facts.specs.declared.facts.Join.{Join}
+use Rattle.c_node_facts.specs.declared.facts.Join.TheVariants as joins
+use Rattle.c_node_facts.specs.Facts.{fact_of, evaluation_of, step_shape, join_shape, is_plain, is_cap, IsConversion}
 
 -- a constant, by its value and its type
 abbrev null_at : Bool → Bool → Option ℕ → Bool

@@ -1,5 +1,5 @@
-use Rattle.c_expressions.proofs.Known.{choice_known}
-use Rattle.c_expressions.proofs.facts.choice_fact.Goals as goal
+use Rattle.c_node_facts.proofs.Known.{choice_known}
+use Rattle.c_node_facts.proofs.facts.choice_fact.Goals as goal
 
 pub returns : goal.returns
 returns c = λ x y z t p fx fy fz ft.

@@ -1,7 +1,7 @@
 use Rattle.std.proofs.Common.{ap}
-use Rattle.c_expressions.specs.declared.facts.Fact.{Fact}
-use Rattle.c_expressions.proofs.Known.{conversion_known, plain_known}
-use Rattle.c_expressions.proofs.facts.conversion_fact.Goals as goal
+use Rattle.c_node_facts.specs.declared.facts.Fact.{Fact}
+use Rattle.c_node_facts.proofs.Known.{conversion_known, plain_known}
+use Rattle.c_node_facts.proofs.facts.conversion_fact.Goals as goal
 
 pub returns : goal.returns
 returns c = λ x t p fx h.

@@ -7,8 +7,8 @@ ghost use Rattle.c_tree.specs.Types.{same_kind, same_truth, same, without_sign, 
 ghost use Rattle.ck_int.specs.Kinds.{form_of, is_signed, width_of};
 ghost use Rattle.c_tree.specs.Constants.{kind_of};
 ghost use Rattle.c_tree.specs.Views.{type_from, tys};
-ghost use Rattle.c_expressions.specs.Facts.{is_plain, is_cap};
-ghost use Rattle.c_expressions.specs.Classes.{class_type, params_of, integer_type};
+ghost use Rattle.c_node_facts.specs.Facts.{is_plain, is_cap};
+ghost use Rattle.c_node_facts.specs.Classes.{class_type, params_of, integer_type};
 
 use c_tree::CType;
 use ck_int::IntKind;

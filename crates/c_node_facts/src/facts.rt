@@ -12,7 +12,7 @@ ghost use Rattle.c_tree.specs.Expressions.{from_plain};
 ghost use Rattle.ck_int.specs.Kinds.{converted};
 ghost use Rattle.ck_int.specs.Arithmetic.{compare_of};
 ghost use Rattle.c_tree.specs.Terms as tree;
-ghost use Rattle.c_expressions.specs.Facts.{fact_of, evaluation_of, leaf_shape, step_shape, join_shape, IsConversion};
+ghost use Rattle.c_node_facts.specs.Facts.{fact_of, evaluation_of, leaf_shape, step_shape, join_shape, IsConversion};
 
 use c_tree::UnaryOp;
 use ck_int::{CmpOp, IntKind, IntOp, binary, compare, convert, wrap};

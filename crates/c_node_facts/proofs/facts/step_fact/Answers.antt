@@ -1,10 +1,10 @@
 use Rattle.std.proofs.Common.{ap}
 use Rattle.c_tree.specs.Types.{bare}
 use Rattle.c_tree.specs.Terms.{type_of}
-use Rattle.c_expressions.specs.declared.facts.Evaluation.{Evaluation}
-use Rattle.c_expressions.specs.declared.facts.Fact.{Fact}
-use Rattle.c_expressions.proofs.Known.{step_known}
-use Rattle.c_expressions.proofs.facts.step_fact.Goals as goal
+use Rattle.c_node_facts.specs.declared.facts.Evaluation.{Evaluation}
+use Rattle.c_node_facts.specs.declared.facts.Fact.{Fact}
+use Rattle.c_node_facts.proofs.Known.{step_known}
+use Rattle.c_node_facts.proofs.facts.step_fact.Goals as goal
 
 pub returns : goal.returns
 returns c = λ x t p fx ft.
