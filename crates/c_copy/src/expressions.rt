@@ -4,8 +4,9 @@ ghost use Rattle.std.specs.Prelude.{◌≡◌, ℕ, ◌<◌, ◌≤◌, ◌++◌
 ghost use Rattle.c_copy.specs.Copying.{AllBelow, Extends, IsCopy, AreCopies};
 ghost use Rattle.c_copy.specs.Standing.{StandsIn, NamesThere};
 
-use crate::kinds::{kind_with, operands};
+use crate::kinds::kind_with;
 use crate::numbers::Numbers;
+use c_expression_operands::operands;
 use c_tree::{Expr, Stmt};
 use ck_base::NoMemory;
 use std::alloc::Global;

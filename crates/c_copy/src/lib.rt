@@ -2,19 +2,18 @@
 //! functions.
 //!
 //! Promise: a copy has the term of its original.
-//! Definitions (`specs/`): `Copying`, `Standing`, `Order`. Main lemmas (`proofs/`): `Copies`.
+//! Definitions (`specs/`): `Operands` of `c_expression_operands`; here `Copying`, `Standing`, `Order`.
+//! Main lemmas (`proofs/`): `Copies`.
 #![tactic(auto)]
 
 mod expressions;
 mod kinds;
-mod lists;
 mod numbers;
 mod statements;
 mod stmt_kinds;
 
+pub use c_expression_operands::{inner_with, listed, operands, two};
 pub use expressions::Source;
-pub use kinds::{inner_with, operands};
-pub use lists::{listed, two};
 pub use numbers::Numbers;
 pub use statements::{Copied, statement};
 pub use stmt_kinds::{parts, stmt_with, values};

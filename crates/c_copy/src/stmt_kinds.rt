@@ -5,7 +5,7 @@ ghost use Rattle.c_tree.specs.declared.typed.StmtKind.TheVariants as StmtKinds;
 ghost use Rattle.c_tree.specs.Views.{values, parts, listed, same_number};
 ghost use Rattle.c_copy.specs.Copying.{IsStmtWith, AreMaybes};
 
-use crate::lists::{list_of_one, list_of_two, list_to, listed, one, two};
+use c_expression_operands::{list_of_one, list_of_two, listed, one, two};
 use c_tree::{StmtKind, SwitchLabel};
 use ck_base::{NoMemory, Sequence};
 use std::alloc::Global;
@@ -20,6 +20,15 @@ fn maybe_two(alloc: Global, a: Option<u32>, b: Option<u32>) -> Result<Vec<u32>, 
         (None, Some(b)) => list_of_one(alloc, b),
         (None, None) => Ok(Vec::new(alloc)),
     }
+}
+
+// Numbers and then another.
+fn list_to(alloc: Global, xs: &[u32], a: u32) -> Result<Vec<u32>, NoMemory>
+    ensures { IfOk result (λ v. v.items ≡ xs.now ++ a ∷ []) }
+{
+    let mut v = listed(alloc, xs)?;
+    v.push(a)?;
+    Ok(v)
 }
 
 /// The expressions that a statement names.

@@ -1,6 +1,6 @@
 //! Short lists of numbers.
 
-ghost use Rattle.std.specs.Prelude.{◌≡◌, ◌++◌, ◌∷◌, [], IfOk, length};
+ghost use Rattle.std.specs.Prelude.{◌≡◌, ◌∷◌, [], IfOk, length};
 
 use ck_base::NoMemory;
 use std::alloc::Global;
@@ -13,7 +13,8 @@ pub fn listed(alloc: Global, xs: &[u32]) -> Result<Vec<u32>, NoMemory>
     Ok(v)
 }
 
-pub(crate) fn list_of_one(alloc: Global, a: u32) -> Result<Vec<u32>, NoMemory>
+/// A list of one number.
+pub fn list_of_one(alloc: Global, a: u32) -> Result<Vec<u32>, NoMemory>
     ensures { IfOk result (λ v. v.items ≡ a ∷ []) }
 {
     let mut v = Vec::new(alloc);
@@ -21,7 +22,8 @@ pub(crate) fn list_of_one(alloc: Global, a: u32) -> Result<Vec<u32>, NoMemory>
     Ok(v)
 }
 
-pub(crate) fn list_of_two(alloc: Global, a: u32, b: u32) -> Result<Vec<u32>, NoMemory>
+/// A list of two numbers.
+pub fn list_of_two(alloc: Global, a: u32, b: u32) -> Result<Vec<u32>, NoMemory>
     ensures { IfOk result (λ v. v.items ≡ a ∷ b ∷ []) }
 {
     let mut v = list_of_one(alloc, a)?;
@@ -29,6 +31,7 @@ pub(crate) fn list_of_two(alloc: Global, a: u32, b: u32) -> Result<Vec<u32>, NoM
     Ok(v)
 }
 
+// A list of three numbers.
 pub(crate) fn list_of_three(alloc: Global, a: u32, b: u32, c: u32) -> Result<Vec<u32>, NoMemory>
     ensures { IfOk result (λ v. v.items ≡ a ∷ b ∷ c ∷ []) }
 {
@@ -46,17 +49,8 @@ pub(crate) fn list_from(alloc: Global, a: u32, xs: &[u32]) -> Result<Vec<u32>, N
     Ok(v)
 }
 
-// Numbers and then another.
-pub(crate) fn list_to(alloc: Global, xs: &[u32], a: u32) -> Result<Vec<u32>, NoMemory>
-    ensures { IfOk result (λ v. v.items ≡ xs.now ++ a ∷ []) }
-{
-    let mut v = listed(alloc, xs)?;
-    v.push(a)?;
-    Ok(v)
-}
-
-// The number of a list of one.
-pub(crate) fn one(xs: &[u32]) -> u32
+/// The number of a list of one.
+pub fn one(xs: &[u32]) -> u32
     requires { length xs.now ≡ 1 }
     ensures { xs.now ≡ result ∷ [] }
 {
@@ -77,6 +71,7 @@ pub fn two(xs: &[u32]) -> (u32, u32)
     }
 }
 
+// The numbers of a list of three.
 pub(crate) fn three(xs: &[u32]) -> (u32, u32, u32)
     requires { length xs.now ≡ 3 }
     ensures { xs.now ≡ result.0 ∷ result.1 ∷ result.2 ∷ [] }
