@@ -12,7 +12,7 @@ pub mod Productions
 pub mod Specifying
 pub mod Climbing
 pub mod Answered
-pub mod Declarators
+pub mod Declaring
 pub mod Followed
 pub mod Leaving
 pub mod Paying

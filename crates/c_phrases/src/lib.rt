@@ -8,6 +8,9 @@
 
 mod counts;
 mod cursor;
+mod declaration_specifiers;
+mod declarators;
+mod expressions;
 mod items;
 mod names;
 mod phrases;
@@ -17,8 +20,9 @@ mod stream;
 mod tables;
 
 pub use cursor::{Cursor, Mark, Part, Parts, Root, Stop, is_marked};
+pub use declaration_specifiers::specifiers;
 pub use items::{Item, Place};
 pub use names::{Naming, TypeNames};
-pub use phrases::{read, specifiers};
+pub use phrases::read;
 pub use steps::{Phrase, Specified};
 pub use stream::Stream;

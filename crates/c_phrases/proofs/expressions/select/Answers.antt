@@ -8,7 +8,7 @@ use Rattle.c_phrases.proofs.Made.{fails_memory, holds_more, holds_on, grows_on}
 use Rattle.c_phrases.proofs.Climbing.{grows_from}
 use Rattle.c_phrases.proofs.Specifying.{select_low, select_not, select_is}
 use Rattle.c_phrases.proofs.Paying.{took, noded, then_owed, owed_owed, owes}
-use Rattle.c_phrases.proofs.phrases.select.Goals as goal
+use Rattle.c_phrases.proofs.expressions.select.Goals as goal
 
 pub returns-then-below-eq0-clause-tree : goal.returns-then-below-eq0-clause-tree
 returns-then-below-eq0-clause-tree c =

@@ -24,17 +24,17 @@ use Rattle.c_phrases.proofs.Productions.{size_is, cast_is, parenthesized_is, pre
 use Rattle.c_phrases.proofs.Climbing.{climbs_step, climbs_fail, climbs_end, level_kept, shut_le, means_at, holds_at}
 use Rattle.c_phrases.proofs.Climbing.{grows_from, separated_fails, past_shorter, lists_begin, lists_fail, lists_step}
 use Rattle.c_phrases.proofs.Followed.{parts_same, followed, type_name_is, listed_none, listed_some}
-use Rattle.c_phrases.proofs.Declarators.{next_got, next_array, next_function, next_none, suffixes_begin, suffixes_more}
-use Rattle.c_phrases.proofs.Declarators.{suffixes_fail, suffixes_end, paid_more, option_at, made_as, made_got}
-use Rattle.c_phrases.proofs.Declarators.{bracketed_is, bracketed_fails, begins_open, begins_array, begins_function}
-use Rattle.c_phrases.proofs.Declarators.{array_high, array_open, array_is, array_fails, function_high, function_is}
-use Rattle.c_phrases.proofs.Declarators.{function_unlisted, function_unclosed, core_none, paid_behind, core_empty}
-use Rattle.c_phrases.proofs.Declarators.{core_name, core_unnamed, core_enclosed, core_nameless, core_missing}
-use Rattle.c_phrases.proofs.Declarators.{enclosed_is}
-use Rattle.c_phrases.proofs.Declarators.{enclosed_fails, declarator_empty, declarator_direct, declarator_fails}
-use Rattle.c_phrases.proofs.Declarators.{declarator_pointer, pointer_is, pointer_fails, optional_is, optional_fails}
-use Rattle.c_phrases.proofs.Declarators.{optional_none, optional_missing, specifying_root, specified_is}
-use Rattle.c_phrases.proofs.Declarators.{initializer_plain, initializer_braces, braces_empty, braces_is, braces_fail}
+use Rattle.c_phrases.proofs.Declaring.{next_got, next_array, next_function, next_none, suffixes_begin, suffixes_more}
+use Rattle.c_phrases.proofs.Declaring.{suffixes_fail, suffixes_end, paid_more, option_at, made_as, made_got}
+use Rattle.c_phrases.proofs.Declaring.{bracketed_is, bracketed_fails, begins_open, begins_array, begins_function}
+use Rattle.c_phrases.proofs.Declaring.{array_high, array_open, array_is, array_fails, function_high, function_is}
+use Rattle.c_phrases.proofs.Declaring.{function_unlisted, function_unclosed, core_none, paid_behind, core_empty}
+use Rattle.c_phrases.proofs.Declaring.{core_name, core_unnamed, core_enclosed, core_nameless, core_missing}
+use Rattle.c_phrases.proofs.Declaring.{enclosed_is}
+use Rattle.c_phrases.proofs.Declaring.{enclosed_fails, declarator_empty, declarator_direct, declarator_fails}
+use Rattle.c_phrases.proofs.Declaring.{declarator_pointer, pointer_is, pointer_fails, optional_is, optional_fails}
+use Rattle.c_phrases.proofs.Declaring.{optional_none, optional_missing, specifying_root, specified_is}
+use Rattle.c_phrases.proofs.Declaring.{initializer_plain, initializer_braces, braces_empty, braces_is, braces_fail}
 use Rattle.c_phrases.proofs.Answered.{got_same, got_on, got_from, got_grown, fails_grown, reads_lower, read_none}
 use Rattle.c_phrases.proofs.Answered.{and_ok}
 use Rattle.c_phrases.proofs.Answered.{operand_at, operand_none}
@@ -49,10 +49,10 @@ use Rattle.c_phrases.proofs.Specifying.{specifiers_none, specifiers_apart, speci
 use Rattle.c_phrases.proofs.Specifying.{enumerator_not, enumerator_bare, enumerator_value, too_high}
 use Rattle.c_phrases.proofs.Paying.{took, took_past, took_maybe, stayed, passed, noded, then_paid, then_owed, owed_paid}
 use Rattle.c_phrases.proofs.Paying.{owed_owed, owes, pays, roomy_paid, room_paid, height_some, weight_low}
-use Rattle.c_phrases.proofs.phrases.+phrases.Goals as goal
+use Rattle.c_phrases.proofs.+phrases.Goals as goal
 
-pub array-returns-in_err-parts : goal.array-returns-in_err-parts
-array-returns-in_err-parts t c =
+pub declarators::array-returns-in_err-parts : goal.declarators::array-returns-in_err-parts
+declarators::array-returns-in_err-parts t c =
     let p = err_from_is_err_and c.from_residual.result c.from_residual.ensures.1 in
     rw (p.1, p.2) (record {
       size = tt;
@@ -64,8 +64,8 @@ array-returns-in_err-parts t c =
           (c.in_err-parts.ensures.tree x (option_at c.takes.ensures.nodes m)));
     })
 
-pub array-returns-in_err-parts-2 : goal.array-returns-in_err-parts-2
-array-returns-in_err-parts-2 t c =
+pub declarators::array-returns-in_err-parts-2 : goal.declarators::array-returns-in_err-parts-2
+declarators::array-returns-in_err-parts-2 t c =
     let p = err_from_is_err_and c.from_residual-in_err-parts-2.result c.from_residual-in_err-parts-2.ensures.1 in
     rw (p.1, p.2) (record {
       size = tt;
@@ -77,8 +77,8 @@ array-returns-in_err-parts-2 t c =
           (c.in_err-parts-2.ensures.tree x (option_at c.takes.ensures.nodes m)));
     })
 
-pub array-returns-then-takes : goal.array-returns-then-takes
-array-returns-then-takes t c = record {
+pub declarators::array-returns-then-takes : goal.declarators::array-returns-then-takes
+declarators::array-returns-then-takes t c = record {
   size = IfOk-weaker c.make.result _ _
       (λ p e. owes (then_owed {m = 0} (took c.args.cursor.now c.takes.new.self c.takes.ensures.nodes
       (c.takes.ensures.shorter c.if-takes.true))
@@ -100,8 +100,8 @@ array-returns-then-takes t c = record {
       (λ e f. fails_memory e _ f));
 }
 
-pub array-returns-in_err-length : goal.array-returns-in_err-length
-array-returns-in_err-length t c =
+pub declarators::array-returns-in_err-length : goal.declarators::array-returns-in_err-length
+declarators::array-returns-in_err-length t c =
     let p = err_from_is_err_and c.from_residual-in_err-length.result c.from_residual-in_err-length.ensures.1 in
     rw (p.1, p.2) (record {
       size = tt;
@@ -115,8 +115,8 @@ array-returns-in_err-length t c =
           (sym (c.takes.ensures.left c.if-takes.false))) c.in_err-length.ensures.tree)));
     })
 
-pub array-returns-in_err-expect : goal.array-returns-in_err-expect
-array-returns-in_err-expect t c =
+pub declarators::array-returns-in_err-expect : goal.declarators::array-returns-in_err-expect
+declarators::array-returns-in_err-expect t c =
     let p = err_from_is_err_and c.from_residual-in_err-expect.result c.from_residual-in_err-expect.ensures.1 in
     rw (p.1, p.2) (record {
       size = tt;
@@ -132,8 +132,8 @@ array-returns-in_err-expect t c =
           c.in_err-expect.ensures.found));
     })
 
-pub array-returns : goal.array-returns
-array-returns t c = record {
+pub declarators::array-returns : goal.declarators::array-returns
+declarators::array-returns t c = record {
   size = IfOk-weaker c.make-2.result _ _
       (λ p e. owes (then_owed {m = 0} (then_paid
       (owed_paid {m = 4} (stayed c.args.cursor.now c.takes.new.self c.takes.ensures.nodes
@@ -174,8 +174,8 @@ array-returns t c = record {
       (λ e f. fails_memory e _ f));
 }
 
-pub braced-returns-in_err-parts : goal.braced-returns-in_err-parts
-braced-returns-in_err-parts t c =
+pub phrases::braced-returns-in_err-parts : goal.phrases::braced-returns-in_err-parts
+phrases::braced-returns-in_err-parts t c =
     let p = err_from_is_err_and c.from_residual.result c.from_residual.ensures.1 in
     rw (p.1, p.2) (record {
       size = tt;
@@ -185,8 +185,8 @@ braced-returns-in_err-parts t c =
           (in_force c.args.types.now) ys _ (rest_of c.args.cursor.now) (c.in_err-parts.ensures.tree ys m));
     })
 
-pub braced-returns-in_err-expect : goal.braced-returns-in_err-expect
-braced-returns-in_err-expect t c =
+pub phrases::braced-returns-in_err-expect : goal.phrases::braced-returns-in_err-expect
+phrases::braced-returns-in_err-expect t c =
     let p = err_from_is_err_and c.from_residual-in_err-expect.result c.from_residual-in_err-expect.ensures.1 in
     rw (p.1, p.2) (record {
       size = tt;
@@ -198,8 +198,8 @@ braced-returns-in_err-expect t c =
           c.takes.ensures.left) c.in_err-expect.ensures.found);
     })
 
-pub braced-returns : goal.braced-returns
-braced-returns t c = record {
+pub phrases::braced-returns : goal.phrases::braced-returns
+phrases::braced-returns t c = record {
   size = pays (then_paid (then_owed {m = 4} c.in_ok-parts.ensures.size (took_maybe c.separated.new.cursor
       c.takes.new.self c.takes.result c.takes.ensures.nodes c.takes.ensures.shorter c.takes.ensures.left) refl)
       (took c.takes.new.self c.expect.new.self c.expect.ensures.nodes c.in_ok-expect.ensures.size)) refl;
@@ -211,8 +211,8 @@ braced-returns t c = record {
       c.in_ok-expect.ensures.found (c.in_ok-expect.ensures.nodes ∙ c.takes.ensures.nodes));
 }
 
-pub climb-loop-item-init : goal.climb-loop-item-init
-climb-loop-item-init t c =
+pub expressions::climb-loop-item-init : goal.expressions::climb-loop-item-init
+expressions::climb-loop-item-init t c =
     record {
       size = record { room = omega arith; shorter = omega arith; grows = omega arith };
       low = c.requires.start;
@@ -226,8 +226,8 @@ climb-loop-item-init t c =
       };
     }
 
-pub climb-returns-in_err-part : goal.climb-returns-in_err-part
-climb-returns-in_err-part t c =
+pub expressions::climb-returns-in_err-part : goal.expressions::climb-returns-in_err-part
+expressions::climb-returns-in_err-part t c =
     let p = err_from_is_err_and c.from_residual.result c.from_residual.ensures.1 in
     rw (p.1, p.2) (record {
       size = tt;
@@ -241,8 +241,8 @@ climb-returns-in_err-part t c =
           (c.in_err-part.ensures.tree at.tree (means_at c.in-Some.ensures.nodes at.means)));
     })
 
-pub climb-loop-item-preserved : goal.climb-loop-item-preserved
-climb-loop-item-preserved t c = let s = c.loop-item.invariant.size in
+pub expressions::climb-loop-item-preserved : goal.expressions::climb-loop-item-preserved
+expressions::climb-loop-item-preserved t c = let s = c.loop-item.invariant.size in
     let room = s.room in let shorter = s.shorter in let grows = s.grows in let low = c.loop-item.invariant.low in
     let q = c.in_ok-part.ensures.size in let room' = q.room in let shorter' = q.shorter in let grows' = q.grows in
     let taken = c.in-Some.ensures.size in let before = ap length c.in-Some.ensures.nodes in
@@ -256,8 +256,8 @@ climb-loop-item-preserved t c = let s = c.loop-item.invariant.size in
           (c.in_ok-part.ensures.tree at.tree (means_at c.in-Some.ensures.nodes at.means));
     }
 
-pub climb-returns : goal.climb-returns
-climb-returns t c = record {
+pub expressions::climb-returns : goal.expressions::climb-returns
+expressions::climb-returns t c = record {
   size = owed_owed c.loop-item.invariant.size
       (stayed c.loop-item.cursor c.take_tail.new.cursor c.take_tail.ensures.nodes
       c.in_default.ensures.left);
@@ -269,8 +269,8 @@ climb-returns t c = record {
       (omega arith));
 }
 
-pub core-returns-in_default : goal.core-returns-in_default
-core-returns-in_default t c = record {
+pub declarators::core-returns-in_default : goal.declarators::core-returns-in_default
+declarators::core-returns-in_default t c = record {
   size = tt;
   none = tt;
   low = tt;
@@ -278,8 +278,8 @@ core-returns-in_default t c = record {
       (in_force c.args.types.now) c.in_default.ensures;
 }
 
-pub core-returns-then-not-is_declared_by : goal.core-returns-then-not-is_declared_by
-core-returns-then-not-is_declared_by t c = record {
+pub declarators::core-returns-then-not-is_declared_by : goal.declarators::core-returns-then-not-is_declared_by
+declarators::core-returns-then-not-is_declared_by t c = record {
   size = tt;
   none = tt;
   low = tt;
@@ -288,8 +288,8 @@ core-returns-then-not-is_declared_by t c = record {
       (sym c.is_declared_by.ensures ∙ c.if-not-is_declared_by.true);
 }
 
-pub core-returns-then-takes : goal.core-returns-then-takes
-core-returns-then-takes t c = record {
+pub declarators::core-returns-then-takes : goal.declarators::core-returns-then-takes
+declarators::core-returns-then-takes t c = record {
   size = then_owed (took c.args.cursor.now c.takes.new.self c.takes.ensures.nodes
       (c.takes.ensures.shorter c.if-takes.true))
       (noded c.takes.new.self c.make.new.self c.in_ok-part.ensures.size.0 c.make.ensures.rest) refl;
@@ -313,8 +313,8 @@ core-returns-then-takes t c = record {
   };
 }
 
-pub core-returns-in_err-inner : goal.core-returns-in_err-inner
-core-returns-in_err-inner t c =
+pub declarators::core-returns-in_err-inner : goal.declarators::core-returns-in_err-inner
+declarators::core-returns-in_err-inner t c =
     let p = err_from_is_err_and c.from_residual-in_err-inner.result c.from_residual-in_err-inner.ensures.1 in
     rw (p.1, p.2) (record {
       size = tt;
@@ -334,8 +334,8 @@ core-returns-in_err-inner t c =
           c.in_err-inner.ensures.tree)))));
     })
 
-pub core-returns-in_err-expect : goal.core-returns-in_err-expect
-core-returns-in_err-expect t c =
+pub declarators::core-returns-in_err-expect : goal.declarators::core-returns-in_err-expect
+declarators::core-returns-in_err-expect t c =
     let p = err_from_is_err_and c.from_residual-in_err-expect.result c.from_residual-in_err-expect.ensures.1 in
     rw (p.1, p.2) (record {
       size = tt;
@@ -356,8 +356,8 @@ core-returns-in_err-expect t c =
           ∙ c.in_ok-inner.ensures.tree.reads) c.in_err-expect.ensures.found))));
     })
 
-pub core-returns-then-is_enclosed : goal.core-returns-then-is_enclosed
-core-returns-then-is_enclosed t c = record {
+pub declarators::core-returns-then-is_enclosed : goal.declarators::core-returns-then-is_enclosed
+declarators::core-returns-then-is_enclosed t c = record {
   size = then_owed (then_paid (owed_paid {m = 8} (stayed c.args.cursor.now c.takes.new.self c.takes.ensures.nodes
       (c.takes.ensures.left c.if-takes.false))
       (took_past c.takes.new.self c.advance.new.self
@@ -399,8 +399,8 @@ core-returns-then-is_enclosed t c = record {
       });
 }
 
-pub core-returns-then-may_be_nameless : goal.core-returns-then-may_be_nameless
-core-returns-then-may_be_nameless t c = record {
+pub declarators::core-returns-then-may_be_nameless : goal.declarators::core-returns-then-may_be_nameless
+declarators::core-returns-then-may_be_nameless t c = record {
   size = tt;
   none = (c.takes.ensures.left c.if-takes.false, c.takes.ensures.nodes);
   low = tt;
@@ -412,8 +412,8 @@ core-returns-then-may_be_nameless t c = record {
       ∙ c.if-is_enclosed.false) (sym c.may_be_nameless.ensures ∙ c.if-may_be_nameless.true));
 }
 
-pub core-returns-else-may_be_nameless : goal.core-returns-else-may_be_nameless
-core-returns-else-may_be_nameless t c = record {
+pub declarators::core-returns-else-may_be_nameless : goal.declarators::core-returns-else-may_be_nameless
+declarators::core-returns-else-may_be_nameless t c = record {
   size = tt;
   none = tt;
   low = tt;
@@ -424,16 +424,16 @@ core-returns-else-may_be_nameless t c = record {
       ∙ c.if-is_enclosed.false) (sym c.may_be_nameless.ensures ∙ c.if-may_be_nameless.false);
 }
 
-pub declarator-returns-in_default : goal.declarator-returns-in_default
-declarator-returns-in_default t c = record {
+pub declarators::declarator-returns-in_default : goal.declarators::declarator-returns-in_default
+declarators::declarator-returns-in_default t c = record {
   size = tt;
   low = tt;
   tree = declarator_empty (Reading.read c.args.below) (suc c.args.below) (naming_of c.args.naming)
       (in_force c.args.types.now) c.in_default.ensures;
 }
 
-pub declarator-returns-in_err-core : goal.declarator-returns-in_err-core
-declarator-returns-in_err-core t c =
+pub declarators::declarator-returns-in_err-core : goal.declarators::declarator-returns-in_err-core
+declarators::declarator-returns-in_err-core t c =
     let p = err_from_is_err_and c.from_residual.result c.from_residual.ensures.1 in
     rw (p.1, p.2) (record {
       size = tt;
@@ -445,8 +445,8 @@ declarator-returns-in_err-core t c =
           (in_force c.args.types.now) v) (sym (c.takes.ensures.left c.if-not-takes.true))) c.in_err-core.ensures.tree));
     })
 
-pub declarator-returns-then-not-takes : goal.declarator-returns-then-not-takes
-declarator-returns-then-not-takes t c = record {
+pub declarators::declarator-returns-then-not-takes : goal.declarators::declarator-returns-then-not-takes
+declarators::declarator-returns-then-not-takes t c = record {
   size = paid_behind c.args.cursor.now c.takes.new.self c.core.new.cursor c.suffixes.new.cursor c.in_ok-core.core
       c.suffixes.result (c.takes.ensures.left c.if-not-takes.true) c.takes.ensures.nodes c.in_ok-core.ensures.size
       c.in_ok-core.ensures.none c.suffixes.ensures.size c.suffixes.ensures.some;
@@ -460,8 +460,8 @@ declarator-returns-then-not-takes t c = record {
       (λ y g. got_same same (got_on (grows_from c.takes.ensures.nodes at.grows) g)) (λ e f. fails_same e same f));
 }
 
-pub declarator-returns-in_err-inner : goal.declarator-returns-in_err-inner
-declarator-returns-in_err-inner t c =
+pub declarators::declarator-returns-in_err-inner : goal.declarators::declarator-returns-in_err-inner
+declarators::declarator-returns-in_err-inner t c =
     let p = err_from_is_err_and c.from_residual-in_err-inner.result c.from_residual-in_err-inner.ensures.1 in
     rw (p.1, p.2) (record {
       size = tt;
@@ -476,8 +476,8 @@ declarator-returns-in_err-inner t c =
           ∙ c.in_ok-qualifiers.ensures.tree.reads) c.in_err-inner.ensures.tree));
     })
 
-pub declarator-returns-in_err-parts : goal.declarator-returns-in_err-parts
-declarator-returns-in_err-parts t c =
+pub declarators::declarator-returns-in_err-parts : goal.declarators::declarator-returns-in_err-parts
+declarators::declarator-returns-in_err-parts t c =
     let p = err_from_is_err_and c.from_residual-in_err-parts.result c.from_residual-in_err-parts.ensures.1 in
     rw (p.1, p.2) (record {
       size = tt;
@@ -486,8 +486,8 @@ declarator-returns-in_err-parts t c =
           (fails_memory _ _ c.in_err-parts.ensures.tree);
     })
 
-pub declarator-returns : goal.declarator-returns
-declarator-returns t c = record {
+pub declarators::declarator-returns : goal.declarators::declarator-returns
+declarators::declarator-returns t c = record {
   size = IfOk-weaker c.make.result _ _
       (λ p e. then_owed (took c.args.cursor.now c.takes.new.self c.takes.ensures.nodes
       (c.takes.ensures.shorter c.if-not-takes.false))
@@ -524,8 +524,9 @@ declarator-returns t c = record {
       (λ e f. fails_memory e _ f));
 }
 
-pub enum_specifier-returns-then-not-takes : goal.enum_specifier-returns-then-not-takes
-enum_specifier-returns-then-not-takes t c = record {
+pub declaration_specifiers::enum_specifier-returns-then-not-takes :
+    goal.declaration_specifiers::enum_specifier-returns-then-not-takes
+declaration_specifiers::enum_specifier-returns-then-not-takes t c = record {
   size = IfOk-weaker c.tag_alone.result _ _
       (λ p e. owed_owed (owed_owed c.in_ok-start.ensures.size
       (stayed c.tag.new.cursor c.takes.new.self c.takes.ensures.nodes (c.takes.ensures.left c.if-not-takes.true)))
@@ -543,8 +544,9 @@ enum_specifier-returns-then-not-takes t c = record {
       (λ e f. fails_same e same f));
 }
 
-pub enum_specifier-returns-in_err-parts : goal.enum_specifier-returns-in_err-parts
-enum_specifier-returns-in_err-parts t c =
+pub declaration_specifiers::enum_specifier-returns-in_err-parts :
+    goal.declaration_specifiers::enum_specifier-returns-in_err-parts
+declaration_specifiers::enum_specifier-returns-in_err-parts t c =
     let p = err_from_is_err_and c.from_residual-in_err-parts.result c.from_residual-in_err-parts.ensures.1 in
     rw (p.1, p.2) (record {
       size = tt;
@@ -560,8 +562,8 @@ enum_specifier-returns-in_err-parts t c =
           (c.in_err-parts.ensures.tree got.trees (holds_at c.takes.ensures.nodes got.holds))));
     })
 
-pub enum_specifier-returns : goal.enum_specifier-returns
-enum_specifier-returns t c = record {
+pub declaration_specifiers::enum_specifier-returns : goal.declaration_specifiers::enum_specifier-returns
+declaration_specifiers::enum_specifier-returns t c = record {
   size = IfOk-weaker c.join.result _ _
       (λ p e. owes (then_owed {m = 0} (then_paid
       (owed_paid {m = 8} c.in_ok-start.ensures.size
@@ -585,16 +587,16 @@ enum_specifier-returns t c = record {
       (λ e same. fails_memory e _ same));
 }
 
-pub enumerator-returns-in_default : goal.enumerator-returns-in_default
-enumerator-returns-in_default t c = record {
+pub phrases::enumerator-returns-in_default : goal.phrases::enumerator-returns-in_default
+phrases::enumerator-returns-in_default t c = record {
   size = tt;
   low = tt;
   tree = enumerator_end (Reading.read c.args.below) (suc c.args.below)
       (in_force c.args.types.now) c.in_default.ensures.rest;
 }
 
-pub enumerator-returns-then-not-is_declared_by : goal.enumerator-returns-then-not-is_declared_by
-enumerator-returns-then-not-is_declared_by t c = record {
+pub phrases::enumerator-returns-then-not-is_declared_by : goal.phrases::enumerator-returns-then-not-is_declared_by
+phrases::enumerator-returns-then-not-is_declared_by t c = record {
   size = tt;
   low = tt;
   tree = enumerator_not (Reading.read c.args.below) (suc c.args.below)
@@ -602,8 +604,8 @@ enumerator-returns-then-not-is_declared_by t c = record {
       (sym c.is_declared_by.ensures ∙ c.if-not-is_declared_by.true);
 }
 
-pub enumerator-returns-then-not-takes : goal.enumerator-returns-then-not-takes
-enumerator-returns-then-not-takes t c = record {
+pub phrases::enumerator-returns-then-not-takes : goal.phrases::enumerator-returns-then-not-takes
+phrases::enumerator-returns-then-not-takes t c = record {
   size = IfOk-weaker c.leaf.result _ _
       (λ p e. then_owed (then_owed {m = 8} (took c.args.cursor.now c.take.new.self c.take.ensures.nodes
       c.in-Some.ensures.size)
@@ -622,8 +624,8 @@ enumerator-returns-then-not-takes t c = record {
       (λ e same. fails_memory e _ same));
 }
 
-pub enumerator-returns : goal.enumerator-returns
-enumerator-returns t c = record {
+pub phrases::enumerator-returns : goal.phrases::enumerator-returns
+phrases::enumerator-returns t c = record {
   size = IfOk-weaker c.node.result _ _
       (λ p q. then_owed (then_paid (took c.args.cursor.now c.take.new.self c.take.ensures.nodes c.in-Some.ensures.size)
       (took c.take.new.self c.takes.new.self c.takes.ensures.nodes
@@ -641,9 +643,9 @@ enumerator-returns t c = record {
       (λ e f. fails_same e same f));
 }
 
-pub expression-returns-in_err-part : goal.expression-returns-in_err-part
+pub expressions::expression-returns-in_err-part : goal.expressions::expression-returns-in_err-part
 unfolding Reading.expression
-expression-returns-in_err-part t c =
+expressions::expression-returns-in_err-part t c =
     let p = err_from_is_err_and c.from_residual.result c.from_residual.ensures.1 in
     rw (p.1, p.2) (record {
       size = tt;
@@ -652,9 +654,9 @@ expression-returns-in_err-part t c =
           (fails_bind _ _ _ c.in_err-part.ensures.tree);
     })
 
-pub expression-returns-then-level_of-level : goal.expression-returns-then-level_of-level
+pub expressions::expression-returns-then-level_of-level : goal.expressions::expression-returns-then-level_of-level
 unfolding Reading.expression
-expression-returns-then-level_of-level t c = record {
+expressions::expression-returns-then-level_of-level t c = record {
   size = tt;
   low = tt;
   tree = (let at = c.in_ok-part.ensures.tree in
@@ -662,9 +664,9 @@ expression-returns-then-level_of-level t c = record {
       (let a = level_kept at.means in let b = c.level_of.ensures in let l = c.if-level_of-level.true in omega arith)));
 }
 
-pub expression-returns : goal.expression-returns
+pub expressions::expression-returns : goal.expressions::expression-returns
 unfolding Reading.expression
-expression-returns t c = record {
+expressions::expression-returns t c = record {
   size = IfOk-weaker c.climb.result _ _
       (λ p q. then_owed c.in_ok-part.ensures.size q refl) c.climb.ensures.size;
   low = c.climb.ensures.low;
@@ -676,8 +678,8 @@ expression-returns t c = record {
       (λ e f. fails_same e same f));
 }
 
-pub follow-returns-in_err-part-in-TypeName : goal.follow-returns-in_err-part-in-TypeName
-follow-returns-in_err-part-in-TypeName t c =
+pub expressions::follow-returns-in_err-part-in-TypeName : goal.expressions::follow-returns-in_err-part-in-TypeName
+expressions::follow-returns-in_err-part-in-TypeName t c =
     let p = err_from_is_err_and c.from_residual-in_err-part-in-TypeName.result
     c.from_residual-in_err-part-in-TypeName.ensures.1 in
     rw (p.1, p.2) (record {
@@ -691,8 +693,8 @@ follow-returns-in_err-part-in-TypeName t c =
           (rest_of c.args.cursor.now))) (fails_bind _ _ _ c.in_err-part-in-TypeName.ensures.tree)));
     })
 
-pub follow-returns-in_ok-part-in-Read : goal.follow-returns-in_ok-part-in-Read
-follow-returns-in_ok-part-in-Read t c = record {
+pub expressions::follow-returns-in_ok-part-in-Read : goal.expressions::follow-returns-in_ok-part-in-Read
+expressions::follow-returns-in_ok-part-in-Read t c = record {
   size = IfOk-weaker c.with.result _ _
       (λ p e. owes c.in_ok-part-in-Read.ensures.size) c.with.ensures.size;
   low = IfOk-weaker c.with.result _ _
@@ -704,8 +706,8 @@ follow-returns-in_ok-part-in-Read t c = record {
       c.in_ok-part-in-Read.ensures.tree h c.with.ensures.kids c.with.ensures.size c.with.ensures.full);
 }
 
-pub follow-returns-in_ok-part-in-TypeName : goal.follow-returns-in_ok-part-in-TypeName
-follow-returns-in_ok-part-in-TypeName t c = record {
+pub expressions::follow-returns-in_ok-part-in-TypeName : goal.expressions::follow-returns-in_ok-part-in-TypeName
+expressions::follow-returns-in_ok-part-in-TypeName t c = record {
   size = IfOk-weaker c.with-in-TypeName.result _ _
       (λ p e. owes c.in_ok-part-in-TypeName.ensures.size) c.with-in-TypeName.ensures.size;
   low = IfOk-weaker c.with-in-TypeName.result _ _
@@ -719,8 +721,8 @@ follow-returns-in_ok-part-in-TypeName t c = record {
       c.with-in-TypeName.ensures.size c.with-in-TypeName.ensures.full);
 }
 
-pub follow-returns-then-starts-clause-tree : goal.follow-returns-then-starts-clause-tree
-follow-returns-then-starts-clause-tree t c = λ ys h. record {
+pub expressions::follow-returns-then-starts-clause-tree : goal.expressions::follow-returns-then-starts-clause-tree
+expressions::follow-returns-then-starts-clause-tree t c = λ ys h. record {
   trees = ys;
   holds = h;
   reads = ap (λ v. after ys v) (ap (λ v. follow_from (Reading.read c.args.below) v (in_force c.args.types.now)
@@ -731,8 +733,8 @@ follow-returns-then-starts-clause-tree t c = λ ys h. record {
   grows = grows_same;
 }
 
-pub follow-returns-else-starts : goal.follow-returns-else-starts
-follow-returns-else-starts t c = record {
+pub expressions::follow-returns-else-starts : goal.expressions::follow-returns-else-starts
+expressions::follow-returns-else-starts t c = record {
   size = IfOk-weaker c.separated.result _ _
       (λ p q. owes q) c.separated.ensures.size;
   low = c.separated.ensures.low;
@@ -748,8 +750,9 @@ follow-returns-else-starts t c = record {
       (λ e f. fails_same e same f));
 }
 
-pub follow-returns-in_ok-expect-in-Expect-clause-tree : goal.follow-returns-in_ok-expect-in-Expect-clause-tree
-follow-returns-in_ok-expect-in-Expect-clause-tree t c = λ ys h. record {
+pub expressions::follow-returns-in_ok-expect-in-Expect-clause-tree :
+    goal.expressions::follow-returns-in_ok-expect-in-Expect-clause-tree
+expressions::follow-returns-in_ok-expect-in-Expect-clause-tree t c = λ ys h. record {
   trees = ys;
   holds = holds_at c.expect.ensures.nodes h;
   reads = ap (λ v. after ys v) (ap (λ v. follow_from (Reading.read c.args.below) v (in_force c.args.types.now)
@@ -759,8 +762,8 @@ follow-returns-in_ok-expect-in-Expect-clause-tree t c = λ ys h. record {
   grows = grows_to grows_same (sym c.expect.ensures.nodes);
 }
 
-pub function-returns-in_err-parts : goal.function-returns-in_err-parts
-function-returns-in_err-parts t c =
+pub declarators::function-returns-in_err-parts : goal.declarators::function-returns-in_err-parts
+declarators::function-returns-in_err-parts t c =
     let p = err_from_is_err_and c.from_residual.result c.from_residual.ensures.1 in
     rw (p.1, p.2) (record {
       size = tt;
@@ -771,8 +774,8 @@ function-returns-in_err-parts t c =
           (in_force c.args.types.now) (rest_of c.args.cursor.now) _ (c.in_err-parts.ensures.tree x m));
     })
 
-pub function-returns-in_err-listed : goal.function-returns-in_err-listed
-function-returns-in_err-listed t c =
+pub declarators::function-returns-in_err-listed : goal.declarators::function-returns-in_err-listed
+declarators::function-returns-in_err-listed t c =
     let p = err_from_is_err_and c.from_residual-in_err-listed.result c.from_residual-in_err-listed.ensures.1 in
     rw (p.1, p.2) (record {
       size = tt;
@@ -784,8 +787,8 @@ function-returns-in_err-listed t c =
           (c.in_err-listed.ensures.tree nil c.no_parts-none.ensures.none));
     })
 
-pub function-returns-in_err-expect : goal.function-returns-in_err-expect
-function-returns-in_err-expect t c =
+pub declarators::function-returns-in_err-expect : goal.declarators::function-returns-in_err-expect
+declarators::function-returns-in_err-expect t c =
     let p = err_from_is_err_and c.from_residual-in_err-expect.result c.from_residual-in_err-expect.ensures.1 in
     rw (p.1, p.2) (record {
       size = tt;
@@ -797,8 +800,8 @@ function-returns-in_err-expect t c =
           (rest_of c.args.cursor.now) _ listed.reads c.in_err-expect.ensures.found);
     })
 
-pub function-returns : goal.function-returns
-function-returns t c = record {
+pub declarators::function-returns : goal.declarators::function-returns
+declarators::function-returns t c = record {
   size = IfOk-weaker c.make.result _ _
       (λ p e. owes (then_owed {m = 6} (then_owed {m = 7} (owed_paid {m = 8} c.in_ok-listed.ensures.size
       (took c.follow.new.cursor c.expect.new.self c.expect.ensures.nodes c.in_ok-expect.ensures.size) refl)
@@ -844,8 +847,8 @@ function-returns t c = record {
       (λ e f. fails_memory e _ f));
 }
 
-pub initializer-returns-in_default-clause-tree : goal.initializer-returns-in_default-clause-tree
-initializer-returns-in_default-clause-tree t c =
+pub phrases::initializer-returns-in_default-clause-tree : goal.phrases::initializer-returns-in_default-clause-tree
+phrases::initializer-returns-in_default-clause-tree t c =
     let same = initializer_plain (Reading.read c.args.below) (suc c.args.below) (in_force c.args.types.now)
     (rest_of c.args.cursor.now) c.in_default.ensures.other
     ∙ ap (λ v. Reading.expression (Reading.read c.args.below) (suc c.args.below) 1
@@ -853,8 +856,8 @@ initializer-returns-in_default-clause-tree t c =
     MatchResult-weaker c.expression.result c.expression.ensures.tree
     (λ y g. got_same same (got_from c.in_default.ensures.nodes g)) (λ e f. fails_same e same f)
 
-pub initializer-returns-then-takes : goal.initializer-returns-then-takes
-initializer-returns-then-takes t c = record {
+pub phrases::initializer-returns-then-takes : goal.phrases::initializer-returns-then-takes
+phrases::initializer-returns-then-takes t c = record {
   size = IfOk-weaker c.leaf.result _ _
       (λ p e. then_owed (then_paid (took c.args.cursor.now c.take_if.new.self c.take_if.ensures.nodes
       c.in-Some.ensures.size)
@@ -878,8 +881,8 @@ initializer-returns-then-takes t c = record {
       (λ e f. fails_memory e _ f);
 }
 
-pub initializer-returns-in_err-parts : goal.initializer-returns-in_err-parts
-initializer-returns-in_err-parts t c =
+pub phrases::initializer-returns-in_err-parts : goal.phrases::initializer-returns-in_err-parts
+phrases::initializer-returns-in_err-parts t c =
     let p = err_from_is_err_and c.from_residual.result c.from_residual.ensures.1 in
     rw (p.1, p.2) (record {
       size = tt;
@@ -894,8 +897,8 @@ initializer-returns-in_err-parts t c =
           (c.in_err-parts.ensures.tree nil c.no_parts-none.ensures.none))));
     })
 
-pub initializer-returns : goal.initializer-returns
-initializer-returns t c = record {
+pub phrases::initializer-returns : goal.phrases::initializer-returns
+phrases::initializer-returns t c = record {
   size = IfOk-weaker c.join.result _ _
       (λ p e. then_owed (then_paid (then_owed {m = 8}
       (took c.args.cursor.now c.take_if.new.self c.take_if.ensures.nodes c.in-Some.ensures.size)
@@ -921,8 +924,8 @@ initializer-returns t c = record {
       (λ e f. fails_memory e _ f));
 }
 
-pub longer-returns-then-left-below : goal.longer-returns-then-left-below
-longer-returns-then-left-below t c = record {
+pub expressions::longer-returns-then-left-below : goal.expressions::longer-returns-then-left-below
+expressions::longer-returns-then-left-below t c = record {
   size = tt;
   low = tt;
   taller = tt;
@@ -931,8 +934,8 @@ longer-returns-then-left-below t c = record {
       (rest_of c.args.cursor.now));
 }
 
-pub longer-returns-in-Indexes : goal.longer-returns-in-Indexes
-longer-returns-in-Indexes t c = record {
+pub expressions::longer-returns-in-Indexes : goal.expressions::longer-returns-in-Indexes
+expressions::longer-returns-in-Indexes t c = record {
   size = c.node.ensures.size;
   low = c.node.ensures.low;
   taller = IfOk-weaker c.node.result _ _
@@ -950,8 +953,8 @@ longer-returns-in-Indexes t c = record {
       (λ e f. fails_grown _ (suc c.args.below) e same f));
 }
 
-pub longer-returns-in-Calls : goal.longer-returns-in-Calls
-longer-returns-in-Calls t c = record {
+pub expressions::longer-returns-in-Calls : goal.expressions::longer-returns-in-Calls
+expressions::longer-returns-in-Calls t c = record {
   size = c.node-in-Calls.ensures.size;
   low = c.node-in-Calls.ensures.low;
   taller = IfOk-weaker c.node-in-Calls.result _ _
@@ -969,8 +972,8 @@ longer-returns-in-Calls t c = record {
       (λ e f. fails_grown _ (suc c.args.below) e same f));
 }
 
-pub longer-returns-in-Selects : goal.longer-returns-in-Selects
-longer-returns-in-Selects t c = record {
+pub expressions::longer-returns-in-Selects : goal.expressions::longer-returns-in-Selects
+expressions::longer-returns-in-Selects t c = record {
   size = c.select.ensures.size;
   low = c.select.ensures.low;
   taller = IfOk-weaker c.select.result _ _
@@ -983,8 +986,8 @@ longer-returns-in-Selects t c = record {
       (λ y g. got_same same g) (λ e f. fails_same e same f));
 }
 
-pub longer-returns-in-Joins : goal.longer-returns-in-Joins
-longer-returns-in-Joins t c = record {
+pub expressions::longer-returns-in-Joins : goal.expressions::longer-returns-in-Joins
+expressions::longer-returns-in-Joins t c = record {
   size = c.node-in-Joins.ensures.size;
   low = c.node-in-Joins.ensures.low;
   taller = IfOk-weaker c.node-in-Joins.result _ _
@@ -1002,8 +1005,8 @@ longer-returns-in-Joins t c = record {
       (λ e f. fails_grown _ (suc c.args.below) e same f));
 }
 
-pub longer-returns-in-Asks : goal.longer-returns-in-Asks
-longer-returns-in-Asks t c = record {
+pub expressions::longer-returns-in-Asks : goal.expressions::longer-returns-in-Asks
+expressions::longer-returns-in-Asks t c = record {
   size = c.node-in-Asks.ensures.size;
   low = c.node-in-Asks.ensures.low;
   taller = IfOk-weaker c.node-in-Asks.result _ _
@@ -1021,8 +1024,8 @@ longer-returns-in-Asks t c = record {
       (λ e f. fails_grown _ (suc c.args.below) e same f));
 }
 
-pub longer-returns-in-Assigns : goal.longer-returns-in-Assigns
-longer-returns-in-Assigns t c = record {
+pub expressions::longer-returns-in-Assigns : goal.expressions::longer-returns-in-Assigns
+expressions::longer-returns-in-Assigns t c = record {
   size = c.node-in-Assigns.ensures.size;
   low = c.node-in-Assigns.ensures.low;
   taller = IfOk-weaker c.node-in-Assigns.result _ _
@@ -1040,9 +1043,9 @@ longer-returns-in-Assigns t c = record {
       (λ e f. fails_grown _ (suc c.args.below) e same f));
 }
 
-pub measure-returns-then-opens_type : goal.measure-returns-then-opens_type
+pub expressions::measure-returns-then-opens_type : goal.expressions::measure-returns-then-opens_type
 unfolding Reading.measure_from
-measure-returns-then-opens_type t c = record {
+expressions::measure-returns-then-opens_type t c = record {
   size = IfOk-weaker c.node.result _ _ (λ p q. owed_owed (passed c.args.cursor.now c.advance.new.self
       c.advance.ensures.nodes c.advance.ensures.rest) q) c.node.ensures.size;
   low = c.node.ensures.low;
@@ -1058,9 +1061,9 @@ measure-returns-then-opens_type t c = record {
       (λ e f. fails_same e same f));
 }
 
-pub measure-returns-else-opens_type : goal.measure-returns-else-opens_type
+pub expressions::measure-returns-else-opens_type : goal.expressions::measure-returns-else-opens_type
 unfolding Reading.measure_from
-measure-returns-else-opens_type t c = record {
+expressions::measure-returns-else-opens_type t c = record {
   size = c.node-else-opens_type.ensures.size;
   low = c.node-else-opens_type.ensures.low;
   tree = (let same = else_is _ (ap (opens_type (in_force c.args.types.now)) (sym c.rest.ensures)
@@ -1073,9 +1076,9 @@ measure-returns-else-opens_type t c = record {
       (λ e f. fails_same e same f));
 }
 
-pub member-returns-in_err-specifiers : goal.member-returns-in_err-specifiers
+pub phrases::member-returns-in_err-specifiers : goal.phrases::member-returns-in_err-specifiers
 unfolding Reading.member
-member-returns-in_err-specifiers t c =
+phrases::member-returns-in_err-specifiers t c =
     let p = err_from_is_err_and c.from_residual.result c.from_residual.ensures.1 in
     rw (p.1, p.2) (record {
       size = tt;
@@ -1084,8 +1087,8 @@ member-returns-in_err-specifiers t c =
           (fails_bind _ _ _ c.in_err-specifiers.ensures.tree);
     })
 
-pub member-returns-in_err-parts-2 : goal.member-returns-in_err-parts-2
-member-returns-in_err-parts-2 t c =
+pub phrases::member-returns-in_err-parts-2 : goal.phrases::member-returns-in_err-parts-2
+phrases::member-returns-in_err-parts-2 t c =
     let p = err_from_is_err_and c.from_residual-in_err-parts-2.result c.from_residual-in_err-parts-2.ensures.1 in
     rw (p.1, p.2) (record {
       size = tt;
@@ -1098,8 +1101,8 @@ member-returns-in_err-parts-2 t c =
           (c.in_ok-parts.ensures.one got.tree got.means))));
     })
 
-pub member-returns-in_err-expect : goal.member-returns-in_err-expect
-member-returns-in_err-expect t c =
+pub phrases::member-returns-in_err-expect : goal.phrases::member-returns-in_err-expect
+phrases::member-returns-in_err-expect t c =
     let p = err_from_is_err_and c.from_residual-in_err-expect.result c.from_residual-in_err-expect.ensures.1 in
     rw (p.1, p.2) (record {
       size = tt;
@@ -1112,8 +1115,8 @@ member-returns-in_err-expect t c =
           (fails_bind _ _ _ c.in_err-expect.ensures.found));
     })
 
-pub member-returns : goal.member-returns
-member-returns t c = record {
+pub phrases::member-returns : goal.phrases::member-returns
+phrases::member-returns t c = record {
   size = IfOk-weaker c.make.result _ _
       (λ p e. then_owed (then_paid (then_paid c.in_ok-specifiers.ensures.size c.in_ok-parts-2.ensures.size)
       (took c.separated.new.cursor c.expect.new.self c.expect.ensures.nodes c.in_ok-expect.ensures.size))
@@ -1137,8 +1140,8 @@ member-returns t c = record {
       (λ e same. fails_memory e _ same));
 }
 
-pub members-returns-in_err-part : goal.members-returns-in_err-part
-members-returns-in_err-part t c =
+pub declaration_specifiers::members-returns-in_err-part : goal.declaration_specifiers::members-returns-in_err-part
+declaration_specifiers::members-returns-in_err-part t c =
     let p = err_from_is_err_and c.from_residual.result c.from_residual.ensures.1 in
     rw (p.1, p.2) (record {
       size = tt;
@@ -1148,8 +1151,8 @@ members-returns-in_err-part t c =
           (in_force c.args.types.now) ys _ turns much c.in_err-part.ensures.tree);
     })
 
-pub members-returns-in_err-part-2 : goal.members-returns-in_err-part-2
-members-returns-in_err-part-2 t c =
+pub declaration_specifiers::members-returns-in_err-part-2 : goal.declaration_specifiers::members-returns-in_err-part-2
+declaration_specifiers::members-returns-in_err-part-2 t c =
     let p = err_from_is_err_and c.from_residual-in_err-part-2.result c.from_residual-in_err-part-2.ensures.1 in
     rw (p.1, p.2) (record {
       size = tt;
@@ -1160,8 +1163,8 @@ members-returns-in_err-part-2 t c =
           c.in_err-part-2.ensures.tree);
     })
 
-pub members-returns : goal.members-returns
-members-returns t c = record {
+pub declaration_specifiers::members-returns : goal.declaration_specifiers::members-returns
+declaration_specifiers::members-returns t c = record {
   size = pays (then_paid c.list.invariant.size
       (took c.list.cursor c.expect.new.self c.expect.ensures.nodes c.in_ok-expect.ensures.size)) refl;
   low = c.list.invariant.low;
@@ -1170,8 +1173,9 @@ members-returns t c = record {
       c.in_ok-expect.ensures.found c.in_ok-expect.ensures.nodes);
 }
 
-pub members-list-init : goal.members-list-init
-members-list-init t c = let q = c.in_ok-part.ensures.size in let low = c.in_ok-part.ensures.low in
+pub declaration_specifiers::members-list-init : goal.declaration_specifiers::members-list-init
+declaration_specifiers::members-list-init t c =
+    let q = c.in_ok-part.ensures.size in let low = c.in_ok-part.ensures.low in
     let tall = c.in_ok-push.ensures.size in let begun = c.requires.start in
     record {
       size = q;
@@ -1180,8 +1184,8 @@ members-list-init t c = let q = c.in_ok-part.ensures.size in let low = c.in_ok-p
           c.in_ok-push.ensures.kids c.in_ok-push.ensures.size;
     }
 
-pub members-list-preserved : goal.members-list-preserved
-members-list-preserved t c = let s = c.list.invariant.size in let low = c.list.invariant.low in
+pub declaration_specifiers::members-list-preserved : goal.declaration_specifiers::members-list-preserved
+declaration_specifiers::members-list-preserved t c = let s = c.list.invariant.size in let low = c.list.invariant.low in
     let room = s.room in let shorter = s.shorter in let grows = s.grows in
     let q = c.in_ok-part-2.ensures.size in let room' = q.room in let shorter' = q.shorter in let grows' = q.grows in
     let low' = c.in_ok-part-2.ensures.low in let tall = c.in_ok-push-2.ensures.size in
@@ -1193,8 +1197,8 @@ members-list-preserved t c = let s = c.list.invariant.size in let low = c.list.i
           c.in_ok-part-2.ensures.tree q.shorter c.in_ok-push-2.ensures.kids c.in_ok-push-2.ensures.size;
     }
 
-pub next_suffix-returns-in_default : goal.next_suffix-returns-in_default
-next_suffix-returns-in_default t c = record {
+pub declarators::next_suffix-returns-in_default : goal.declarators::next_suffix-returns-in_default
+declarators::next_suffix-returns-in_default t c = record {
   size = tt;
   none = (refl, refl);
   low = tt;
@@ -1203,8 +1207,8 @@ next_suffix-returns-in_default t c = record {
       (in_force c.args.types.now) v) c.in_default.ensures ∙ ap (λ v. Some (None, v)) (sym c.in_default.ensures)));
 }
 
-pub next_suffix-returns-then-takes : goal.next_suffix-returns-then-takes
-next_suffix-returns-then-takes t c = record {
+pub declarators::next_suffix-returns-then-takes : goal.declarators::next_suffix-returns-then-takes
+declarators::next_suffix-returns-then-takes t c = record {
   size = then_owed (took c.args.cursor.now c.takes.new.self c.takes.ensures.nodes
       (c.takes.ensures.shorter c.if-takes.true)) c.in_ok-part.ensures.size refl;
   none = tt;
@@ -1218,8 +1222,8 @@ next_suffix-returns-then-takes t c = record {
       (c.in_ok-part.ensures.tree x (option_at c.takes.ensures.nodes m)));
 }
 
-pub next_suffix-returns-then-takes-2 : goal.next_suffix-returns-then-takes-2
-next_suffix-returns-then-takes-2 t c = record {
+pub declarators::next_suffix-returns-then-takes-2 : goal.declarators::next_suffix-returns-then-takes-2
+declarators::next_suffix-returns-then-takes-2 t c = record {
   size = then_owed (took c.args.cursor.now c.takes-2.new.self (c.takes-2.ensures.nodes ∙ c.takes.ensures.nodes)
       (ap length (sym (c.takes.ensures.left c.if-takes.false))
       ∙ c.takes-2.ensures.shorter c.if-takes-2.true)) c.in_ok-part-2.ensures.size refl;
@@ -1237,8 +1241,8 @@ next_suffix-returns-then-takes-2 t c = record {
       (c.in_ok-part-2.ensures.tree x (option_at (c.takes-2.ensures.nodes ∙ c.takes.ensures.nodes) m)));
 }
 
-pub next_suffix-returns : goal.next_suffix-returns
-next_suffix-returns t c = record {
+pub declarators::next_suffix-returns : goal.declarators::next_suffix-returns
+declarators::next_suffix-returns t c = record {
   size = tt;
   none = (
     c.takes-2.ensures.left c.if-takes-2.false ∙ c.takes.ensures.left c.if-takes.false,
@@ -1255,8 +1259,8 @@ next_suffix-returns t c = record {
       ∙ sym c.takes-2.ensures.found ∙ c.if-takes-2.false)));
 }
 
-pub node-returns : goal.node-returns
-node-returns t c = record {
+pub expressions::node-returns : goal.expressions::node-returns
+expressions::node-returns t c = record {
   size = IfOk-weaker c.join.result _ _
       (λ p e. owed_owed c.in_ok-parts.ensures.size
       (noded c.production.new.cursor c.join.new.self e c.join.ensures.rest))
@@ -1283,15 +1287,15 @@ node-returns t c = record {
       (λ e same. fails_memory e _ same));
 }
 
-pub operand-returns-in_default : goal.operand-returns-in_default
-operand-returns-in_default t c = record {
+pub expressions::operand-returns-in_default : goal.expressions::operand-returns-in_default
+expressions::operand-returns-in_default t c = record {
   size = tt;
   low = tt;
   tree = operand_none c.args.below (in_force c.args.types.now) (rest_of c.args.cursor.now) c.in_default.ensures.rest;
 }
 
-pub operand-returns-then-has : goal.operand-returns-then-has
-operand-returns-then-has t c = record {
+pub expressions::operand-returns-then-has : goal.expressions::operand-returns-then-has
+expressions::operand-returns-then-has t c = record {
   size = tt;
   low = tt;
   tree = operand_at c.args.below (in_force c.args.types.now) (rest_of c.args.cursor.now)
@@ -1300,8 +1304,8 @@ operand-returns-then-has t c = record {
       ∙ then_is _ (sym c.has.ensures ∙ c.if-has.true);
 }
 
-pub operand-returns-else-has : goal.operand-returns-else-has
-operand-returns-else-has t c = record {
+pub expressions::operand-returns-else-has : goal.expressions::operand-returns-else-has
+expressions::operand-returns-else-has t c = record {
   size = IfOk-weaker c.leaf.result _ _
       (λ p e. then_owed (took c.args.cursor.now c.take.new.self c.take.ensures.nodes c.in-Some.ensures.size)
       (noded c.take.new.self c.leaf.new.self e c.leaf.ensures.rest) refl) c.leaf.ensures.size;
@@ -1316,8 +1320,8 @@ operand-returns-else-has t c = record {
       (λ e same. fails_memory e _ same));
 }
 
-pub operand-returns-in-Number : goal.operand-returns-in-Number
-operand-returns-in-Number t c = record {
+pub expressions::operand-returns-in-Number : goal.expressions::operand-returns-in-Number
+expressions::operand-returns-in-Number t c = record {
   size = IfOk-weaker c.leaf-in-Number.result _ _
       (λ p e. then_owed (took c.args.cursor.now c.take.new.self c.take.ensures.nodes c.in-Some.ensures.size)
       (noded c.take.new.self c.leaf-in-Number.new.self e c.leaf-in-Number.ensures.rest) refl)
@@ -1333,8 +1337,8 @@ operand-returns-in-Number t c = record {
       (λ e same. fails_memory e _ same));
 }
 
-pub operand-returns-in-Character : goal.operand-returns-in-Character
-operand-returns-in-Character t c = record {
+pub expressions::operand-returns-in-Character : goal.expressions::operand-returns-in-Character
+expressions::operand-returns-in-Character t c = record {
   size = IfOk-weaker c.leaf-in-Character.result _ _
       (λ p e. then_owed (took c.args.cursor.now c.take.new.self c.take.ensures.nodes c.in-Some.ensures.size)
       (noded c.take.new.self c.leaf-in-Character.new.self e c.leaf-in-Character.ensures.rest) refl)
@@ -1350,8 +1354,8 @@ operand-returns-in-Character t c = record {
       (λ e same. fails_memory e _ same));
 }
 
-pub operand-returns-in-Text : goal.operand-returns-in-Text
-operand-returns-in-Text t c = record {
+pub expressions::operand-returns-in-Text : goal.expressions::operand-returns-in-Text
+expressions::operand-returns-in-Text t c = record {
   size = IfOk-weaker c.text.result _ _
       (λ p q. then_owed (took c.args.cursor.now c.take.new.self c.take.ensures.nodes c.in-Some.ensures.size) q refl)
       c.text.ensures.size;
@@ -1363,8 +1367,8 @@ operand-returns-in-Text t c = record {
       (λ e f. fails_same e same f));
 }
 
-pub operand-returns-then-start : goal.operand-returns-then-start
-operand-returns-then-start t c = record {
+pub expressions::operand-returns-then-start : goal.expressions::operand-returns-then-start
+expressions::operand-returns-then-start t c = record {
   size = IfOk-weaker c.node.result _ _
       (λ p q. then_owed (took c.args.cursor.now c.take.new.self c.take.ensures.nodes c.in-Some.ensures.size) q refl)
       c.node.ensures.size;
@@ -1381,8 +1385,8 @@ operand-returns-then-start t c = record {
       (λ e f. fails_same e same f));
 }
 
-pub operand-returns-else-start : goal.operand-returns-else-start
-operand-returns-else-start t c = record {
+pub expressions::operand-returns-else-start : goal.expressions::operand-returns-else-start
+expressions::operand-returns-else-start t c = record {
   size = IfOk-weaker c.node-else-start.result _ _
       (λ p q. then_owed (took c.args.cursor.now c.take.new.self c.take.ensures.nodes c.in-Some.ensures.size) q refl)
       c.node-else-start.ensures.size;
@@ -1399,8 +1403,8 @@ operand-returns-else-start t c = record {
       (λ y g. got_same same (got_from c.take.ensures.nodes g)) (λ e f. fails_same e same f));
 }
 
-pub operand-returns-in-Prefixes : goal.operand-returns-in-Prefixes
-operand-returns-in-Prefixes t c = record {
+pub expressions::operand-returns-in-Prefixes : goal.expressions::operand-returns-in-Prefixes
+expressions::operand-returns-in-Prefixes t c = record {
   size = IfOk-weaker c.node-in-Prefixes.result _ _
       (λ p q. then_owed (took c.args.cursor.now c.take.new.self c.take.ensures.nodes c.in-Some.ensures.size) q refl)
       c.node-in-Prefixes.ensures.size;
@@ -1416,8 +1420,8 @@ operand-returns-in-Prefixes t c = record {
       (λ y g. got_same same (got_from c.take.ensures.nodes g)) (λ e f. fails_same e same f));
 }
 
-pub operand-returns-in-Measures : goal.operand-returns-in-Measures
-operand-returns-in-Measures t c = record {
+pub expressions::operand-returns-in-Measures : goal.expressions::operand-returns-in-Measures
+expressions::operand-returns-in-Measures t c = record {
   size = IfOk-weaker c.measure.result _ _
       (λ p q. then_owed (took c.args.cursor.now c.take.new.self c.take.ensures.nodes c.in-Some.ensures.size) q refl)
       c.measure.ensures.size;
@@ -1430,8 +1434,8 @@ operand-returns-in-Measures t c = record {
       (λ e f. fails_same e same f));
 }
 
-pub operand-returns-in-NoHead : goal.operand-returns-in-NoHead
-operand-returns-in-NoHead t c = record {
+pub expressions::operand-returns-in-NoHead : goal.expressions::operand-returns-in-NoHead
+expressions::operand-returns-in-NoHead t c = record {
   size = tt;
   low = tt;
   tree = operand_at c.args.below (in_force c.args.types.now) (rest_of c.args.cursor.now)
@@ -1439,8 +1443,8 @@ operand-returns-in-NoHead t c = record {
       (ap head_of (sym c.symbol.ensures) ∙ sym c.head_of.ensures ∙ c.in-NoHead.is);
 }
 
-pub optional_declarator-returns-in_err-part : goal.optional_declarator-returns-in_err-part
-optional_declarator-returns-in_err-part t c =
+pub declarators::optional_declarator-returns-in_err-part : goal.declarators::optional_declarator-returns-in_err-part
+declarators::optional_declarator-returns-in_err-part t c =
     let p = err_from_is_err_and c.from_residual.result c.from_residual.ensures.1 in
     rw (p.1, p.2) (record {
       size = tt;
@@ -1451,8 +1455,9 @@ optional_declarator-returns-in_err-part t c =
           ∙ sym c.begins_declarator.ensures ∙ c.if-begins_declarator.true) c.in_err-part.ensures.tree);
     })
 
-pub optional_declarator-returns-then-begins_declarator : goal.optional_declarator-returns-then-begins_declarator
-optional_declarator-returns-then-begins_declarator t c = record {
+pub declarators::optional_declarator-returns-then-begins_declarator :
+    goal.declarators::optional_declarator-returns-then-begins_declarator
+declarators::optional_declarator-returns-then-begins_declarator t c = record {
   size = owes c.in_ok-part.ensures.size;
   low = c.in_ok-part.ensures.low;
   tree = (let at = c.in_ok-part.ensures.tree in
@@ -1466,9 +1471,9 @@ optional_declarator-returns-then-begins_declarator t c = record {
       });
 }
 
-pub optional_declarator-returns-then-may_be_nameless-clause-tree :
-    goal.optional_declarator-returns-then-may_be_nameless-clause-tree
-optional_declarator-returns-then-may_be_nameless-clause-tree t c =
+pub declarators::optional_declarator-returns-then-may_be_nameless-clause-tree :
+    goal.declarators::optional_declarator-returns-then-may_be_nameless-clause-tree
+declarators::optional_declarator-returns-then-may_be_nameless-clause-tree t c =
     record {
       tree = None;
       means = missing;
@@ -1479,8 +1484,9 @@ optional_declarator-returns-then-may_be_nameless-clause-tree t c =
       grows = grows_same;
     }
 
-pub optional_declarator-returns-else-may_be_nameless : goal.optional_declarator-returns-else-may_be_nameless
-optional_declarator-returns-else-may_be_nameless t c = record {
+pub declarators::optional_declarator-returns-else-may_be_nameless :
+    goal.declarators::optional_declarator-returns-else-may_be_nameless
+declarators::optional_declarator-returns-else-may_be_nameless t c = record {
   size = tt;
   low = tt;
   tree = optional_missing (Reading.read c.args.below) (naming_of c.args.naming) (in_force c.args.types.now)
@@ -1489,9 +1495,9 @@ optional_declarator-returns-else-may_be_nameless t c = record {
       (sym c.may_be_nameless.ensures ∙ c.if-may_be_nameless.false);
 }
 
-pub parameter_or_type_name-returns-in_err-parts :
-    goal.parameter_or_type_name-returns-in_err-parts
-parameter_or_type_name-returns-in_err-parts t c =
+pub phrases::parameter_or_type_name-returns-in_err-parts :
+    goal.phrases::parameter_or_type_name-returns-in_err-parts
+phrases::parameter_or_type_name-returns-in_err-parts t c =
     let p = err_from_is_err_and c.from_residual-in_err-parts.result c.from_residual-in_err-parts.ensures.1 in
     rw (p.1, p.2) (record {
       size = tt;
@@ -1500,8 +1506,8 @@ parameter_or_type_name-returns-in_err-parts t c =
           (fails_memory _ _ c.in_err-parts.ensures.tree);
     })
 
-pub parameter_or_type_name-returns : goal.parameter_or_type_name-returns
-parameter_or_type_name-returns t c = record {
+pub phrases::parameter_or_type_name-returns : goal.phrases::parameter_or_type_name-returns
+phrases::parameter_or_type_name-returns t c = record {
   size = IfOk-weaker c.make.result _ _
       (λ p e. then_owed (then_owed {m = 5} c.in_ok-specifiers.ensures.size c.in_ok-declarator.ensures.size refl)
       (noded c.optional_declarator.new.cursor c.make.new.self e.0 c.make.ensures.rest) refl) c.make.ensures.size;
@@ -1527,15 +1533,15 @@ parameter_or_type_name-returns t c = record {
       (λ e f. fails_memory e _ f));
 }
 
-pub read-returns-then-budget-eq0 : goal.read-returns-then-budget-eq0
-read-returns-then-budget-eq0 t c = record {
+pub phrases::read-returns-then-budget-eq0 : goal.phrases::read-returns-then-budget-eq0
+phrases::read-returns-then-budget-eq0 t c = record {
   size = tt;
   low = tt;
   tree = read_none _ _ _ _ c.if-budget-eq0.true;
 }
 
-pub read-returns-in-Expression : goal.read-returns-in-Expression
-read-returns-in-Expression t c = record {
+pub phrases::read-returns-in-Expression : goal.phrases::read-returns-in-Expression
+phrases::read-returns-in-Expression t c = record {
   size = c.expression.ensures.size;
   low = IfOk-weaker c.expression.result _ _
       (λ p e. omega (arith, e, c.if-budget-eq0.false)) c.expression.ensures.low;
@@ -1544,8 +1550,8 @@ read-returns-in-Expression t c = record {
       (ap goal_of c.in-Expression.is) (let n = c.if-budget-eq0.false in omega arith) c.expression.ensures.tree;
 }
 
-pub read-returns-in-Declarator : goal.read-returns-in-Declarator
-read-returns-in-Declarator t c = record {
+pub phrases::read-returns-in-Declarator : goal.phrases::read-returns-in-Declarator
+phrases::read-returns-in-Declarator t c = record {
   size = c.declarator.ensures.size;
   low = IfOk-weaker c.declarator.result _ _
       (λ p e. omega (arith, e, c.if-budget-eq0.false)) c.declarator.ensures.low;
@@ -1555,9 +1561,9 @@ read-returns-in-Declarator t c = record {
       (ap goal_of c.in-Declarator.is) (let n = c.if-budget-eq0.false in omega arith) c.declarator.ensures.tree;
 }
 
-pub read-returns-in-Parameter : goal.read-returns-in-Parameter
+pub phrases::read-returns-in-Parameter : goal.phrases::read-returns-in-Parameter
 unfolding Reading.parameter
-read-returns-in-Parameter t c = record {
+phrases::read-returns-in-Parameter t c = record {
   size = c.parameter_or_type_name.ensures.size;
   low = IfOk-weaker c.parameter_or_type_name.result _ _
       (λ p e. omega (arith, e, c.if-budget-eq0.false)) c.parameter_or_type_name.ensures.low;
@@ -1567,8 +1573,8 @@ read-returns-in-Parameter t c = record {
       c.parameter_or_type_name.ensures.tree;
 }
 
-pub read-returns-in-Member : goal.read-returns-in-Member
-read-returns-in-Member t c = record {
+pub phrases::read-returns-in-Member : goal.phrases::read-returns-in-Member
+phrases::read-returns-in-Member t c = record {
   size = c.member.ensures.size;
   low = IfOk-weaker c.member.result _ _
       (λ p e. omega (arith, e, c.if-budget-eq0.false)) c.member.ensures.low;
@@ -1577,8 +1583,8 @@ read-returns-in-Member t c = record {
       (ap goal_of c.in-Member.is) (let n = c.if-budget-eq0.false in omega arith) c.member.ensures.tree;
 }
 
-pub read-returns-in-Enumerator : goal.read-returns-in-Enumerator
-read-returns-in-Enumerator t c = record {
+pub phrases::read-returns-in-Enumerator : goal.phrases::read-returns-in-Enumerator
+phrases::read-returns-in-Enumerator t c = record {
   size = c.enumerator.ensures.size;
   low = IfOk-weaker c.enumerator.result _ _
       (λ p e. omega (arith, e, c.if-budget-eq0.false)) c.enumerator.ensures.low;
@@ -1587,8 +1593,8 @@ read-returns-in-Enumerator t c = record {
       (ap goal_of c.in-Enumerator.is) (let n = c.if-budget-eq0.false in omega arith) c.enumerator.ensures.tree;
 }
 
-pub read-returns-in-Initializer : goal.read-returns-in-Initializer
-read-returns-in-Initializer t c = record {
+pub phrases::read-returns-in-Initializer : goal.phrases::read-returns-in-Initializer
+phrases::read-returns-in-Initializer t c = record {
   size = c.initializer.ensures.size;
   low = IfOk-weaker c.initializer.result _ _
       (λ p e. omega (arith, e, c.if-budget-eq0.false)) c.initializer.ensures.low;
@@ -1597,8 +1603,9 @@ read-returns-in-Initializer t c = record {
       (ap goal_of c.in-Initializer.is) (let n = c.if-budget-eq0.false in omega arith) c.initializer.ensures.tree;
 }
 
-pub record_specifier-returns-then-not-takes : goal.record_specifier-returns-then-not-takes
-record_specifier-returns-then-not-takes t c = record {
+pub declaration_specifiers::record_specifier-returns-then-not-takes :
+    goal.declaration_specifiers::record_specifier-returns-then-not-takes
+declaration_specifiers::record_specifier-returns-then-not-takes t c = record {
   size = IfOk-weaker c.tag_alone.result _ _
       (λ p e. owed_owed (owed_owed c.in_ok-start.ensures.size
       (stayed c.tag.new.cursor c.takes.new.self c.takes.ensures.nodes (c.takes.ensures.left c.if-not-takes.true)))
@@ -1616,8 +1623,9 @@ record_specifier-returns-then-not-takes t c = record {
       (λ e f. fails_same e same f));
 }
 
-pub record_specifier-returns-in_err-parts : goal.record_specifier-returns-in_err-parts
-record_specifier-returns-in_err-parts t c =
+pub declaration_specifiers::record_specifier-returns-in_err-parts :
+    goal.declaration_specifiers::record_specifier-returns-in_err-parts
+declaration_specifiers::record_specifier-returns-in_err-parts t c =
     let p = err_from_is_err_and c.from_residual-in_err-parts.result c.from_residual-in_err-parts.ensures.1 in
     rw (p.1, p.2) (record {
       size = tt;
@@ -1637,8 +1645,8 @@ record_specifier-returns-in_err-parts t c =
           (holds_at c.takes.ensures.nodes got.holds))));
     })
 
-pub record_specifier-returns : goal.record_specifier-returns
-record_specifier-returns t c = record {
+pub declaration_specifiers::record_specifier-returns : goal.declaration_specifiers::record_specifier-returns
+declaration_specifiers::record_specifier-returns t c = record {
   size = IfOk-weaker c.join.result _ _
       (λ p e. owes (then_owed {m = 0} (then_paid
       (owed_paid {m = 8} c.in_ok-start.ensures.size
@@ -1665,8 +1673,8 @@ record_specifier-returns t c = record {
       (λ e same. fails_memory e _ same));
 }
 
-pub separated-returns-in_err-part : goal.separated-returns-in_err-part
-separated-returns-in_err-part t c =
+pub phrases::separated-returns-in_err-part : goal.phrases::separated-returns-in_err-part
+phrases::separated-returns-in_err-part t c =
     let p = err_from_is_err_and c.from_residual.result c.from_residual.ensures.1 in
     rw (p.1, p.2) (record {
       size = tt;
@@ -1677,8 +1685,8 @@ separated-returns-in_err-part t c =
           (goal_of c.args.what) (in_force c.args.types.now) ys (rest_of c.args.cursor.now) c.in_err-part.ensures.tree);
     })
 
-pub separated-list-init : goal.separated-list-init
-separated-list-init t c =
+pub phrases::separated-list-init : goal.phrases::separated-list-init
+phrases::separated-list-init t c =
     let q = c.in_ok-part.ensures.size in let low = c.in_ok-part.ensures.low in let tall = c.in_ok-push.ensures.size in
     let begun = c.requires.start in
     record {
@@ -1689,8 +1697,8 @@ separated-list-init t c =
           c.in_ok-push.ensures.size;
     }
 
-pub separated-returns-in_err-part-2 : goal.separated-returns-in_err-part-2
-separated-returns-in_err-part-2 t c =
+pub phrases::separated-returns-in_err-part-2 : goal.phrases::separated-returns-in_err-part-2
+phrases::separated-returns-in_err-part-2 t c =
     let p = err_from_is_err_and c.from_residual-in_err-part-2.result c.from_residual-in_err-part-2.ensures.1 in
     rw (p.1, p.2) (record {
       size = tt;
@@ -1702,8 +1710,8 @@ separated-returns-in_err-part-2 t c =
           c.advance.ensures.rest c.in_err-part-2.ensures.tree);
     })
 
-pub separated-list-preserved : goal.separated-list-preserved
-separated-list-preserved t c =
+pub phrases::separated-list-preserved : goal.phrases::separated-list-preserved
+phrases::separated-list-preserved t c =
     let s = c.list.invariant.size in let low = c.list.invariant.low in let keeps = c.list.invariant.keeps in
     let room = s.room in let shorter = s.shorter in let grows = s.grows in
     let q = c.in_ok-part-2.ensures.size in let room' = q.room in let shorter' = q.shorter in let grows' = q.grows in
@@ -1719,8 +1727,9 @@ separated-list-preserved t c =
           c.in_ok-part-2.ensures.tree q.shorter c.in_ok-push-2.ensures.kids c.in_ok-push-2.ensures.size;
     }
 
-pub specifier_list-returns-in_err-part : goal.specifier_list-returns-in_err-part
-specifier_list-returns-in_err-part t c =
+pub declaration_specifiers::specifier_list-returns-in_err-part :
+    goal.declaration_specifiers::specifier_list-returns-in_err-part
+declaration_specifiers::specifier_list-returns-in_err-part t c =
     let p = err_from_is_err_and c.from_residual.result c.from_residual.ensures.1 in
     rw (p.1, p.2) (record {
       size = tt;
@@ -1730,13 +1739,14 @@ specifier_list-returns-in_err-part t c =
           c.in-Some.ensures.found c.in_err-part.ensures.tree);
     })
 
-pub specifier_list-returns-clause-tree : goal.specifier_list-returns-clause-tree
-specifier_list-returns-clause-tree t c =
+pub declaration_specifiers::specifier_list-returns-clause-tree :
+    goal.declaration_specifiers::specifier_list-returns-clause-tree
+declaration_specifiers::specifier_list-returns-clause-tree t c =
     gathers_end c.loop-item.invariant.gathers c.in_default.ensures.other c.in_default.ensures.nodes
     c.in_default.ensures.left
 
-pub specifier_list-loop-item-init : goal.specifier_list-loop-item-init
-specifier_list-loop-item-init t c =
+pub declaration_specifiers::specifier_list-loop-item-init : goal.declaration_specifiers::specifier_list-loop-item-init
+declaration_specifiers::specifier_list-loop-item-init t c =
     let none = ap length (no_kids c.no_parts.ensures.none) in let flat = c.no_parts.ensures.size in
     record {
       size = record { room = omega arith; shorter = omega arith; grows = omega arith };
@@ -1744,8 +1754,10 @@ specifier_list-loop-item-init t c =
       gathers = gathers_begin c.no_parts.ensures.none refl refl refl;
     }
 
-pub specifier_list-loop-item-preserved : goal.specifier_list-loop-item-preserved
-specifier_list-loop-item-preserved t c = let s = c.loop-item.invariant.size in let low = c.loop-item.invariant.low in
+pub declaration_specifiers::specifier_list-loop-item-preserved :
+    goal.declaration_specifiers::specifier_list-loop-item-preserved
+declaration_specifiers::specifier_list-loop-item-preserved t c =
+    let s = c.loop-item.invariant.size in let low = c.loop-item.invariant.low in
     let room = s.room in let shorter = s.shorter in let grows = s.grows in
     let q = c.in_ok-part.ensures.size in let room' = q.room in let shorter' = q.shorter in let grows' = q.grows in
     let low' = c.in_ok-part.ensures.low in let tall = c.in_ok-gathered.ensures.size in
@@ -1760,16 +1772,17 @@ specifier_list-loop-item-preserved t c = let s = c.loop-item.invariant.size in l
           c.in_ok-gathered.ensures.size c.in_ok-gathered.ensures.gathered;
     }
 
-pub specifiers-returns-in_default : goal.specifiers-returns-in_default
-specifiers-returns-in_default t c = record {
+pub declaration_specifiers::specifiers-returns-in_default : goal.declaration_specifiers::specifiers-returns-in_default
+declaration_specifiers::specifiers-returns-in_default t c = record {
   size = tt;
   low = tt;
   tree = specifiers_end (Reading.read c.args.below) (in_force c.args.types.now) c.in_default.ensures;
 }
 
-pub specifiers-returns-in_err-gathered : goal.specifiers-returns-in_err-gathered
+pub declaration_specifiers::specifiers-returns-in_err-gathered :
+    goal.declaration_specifiers::specifiers-returns-in_err-gathered
 unfolding Reading.specifiers
-specifiers-returns-in_err-gathered t c =
+declaration_specifiers::specifiers-returns-in_err-gathered t c =
     let p = err_from_is_err_and c.from_residual.result c.from_residual.ensures.1 in
     rw (p.1, p.2) (record {
       size = tt;
@@ -1778,8 +1791,9 @@ specifiers-returns-in_err-gathered t c =
           (fails_bind _ _ _ c.in_err-gathered.ensures.tree);
     })
 
-pub specifiers-returns-then-is_empty : goal.specifiers-returns-then-is_empty
-specifiers-returns-then-is_empty t c = record {
+pub declaration_specifiers::specifiers-returns-then-is_empty :
+    goal.declaration_specifiers::specifiers-returns-then-is_empty
+declaration_specifiers::specifiers-returns-then-is_empty t c = record {
   size = tt;
   low = tt;
   tree = (let at = c.in_ok-gathered.ensures.tree in
@@ -1789,8 +1803,8 @@ specifiers-returns-then-is_empty t c = record {
       (rest_of c.args.cursor.now) _ _ at.parts.reads (holds_none at.parts.holds (no_items _ (omega arith))));
 }
 
-pub specifiers-returns : goal.specifiers-returns
-specifiers-returns t c = record {
+pub declaration_specifiers::specifiers-returns : goal.declaration_specifiers::specifiers-returns
+declaration_specifiers::specifiers-returns t c = record {
   size = (let s = c.in_ok-gathered.ensures.size in let room = s.room in let shorter = s.shorter in
       let grows = s.grows in
       let more = c.in_ok-part.ensures.size in let left = ap length c.in_ok-part.ensures.rest in
@@ -1819,8 +1833,9 @@ specifiers-returns t c = record {
       });
 }
 
-pub specifiers-returns-then-not-is_agreed : goal.specifiers-returns-then-not-is_agreed
-specifiers-returns-then-not-is_agreed t c = record {
+pub declaration_specifiers::specifiers-returns-then-not-is_agreed :
+    goal.declaration_specifiers::specifiers-returns-then-not-is_agreed
+declaration_specifiers::specifiers-returns-then-not-is_agreed t c = record {
   size = tt;
   low = tt;
   tree = (let at = c.in_ok-gathered.ensures.tree in
@@ -1829,19 +1844,19 @@ specifiers-returns-then-not-is_agreed t c = record {
       (sym (c.is_agreed.ensures at.parts.trees at.gathered) ∙ c.if-not-is_agreed.true));
 }
 
-pub suffixes-loop-part-init : goal.suffixes-loop-part-init
-suffixes-loop-part-init t c =
+pub declarators::suffixes-loop-part-init : goal.declarators::suffixes-loop-part-init
+declarators::suffixes-loop-part-init t c =
     record { size = unmoved refl refl refl; low = c.requires.start; suffixes = λ x m. suffixes_begin m }
 
-pub suffixes-returns-in_err-part-clause-tree : goal.suffixes-returns-in_err-part-clause-tree
-suffixes-returns-in_err-part-clause-tree t c =
+pub declarators::suffixes-returns-in_err-part-clause-tree : goal.declarators::suffixes-returns-in_err-part-clause-tree
+declarators::suffixes-returns-in_err-part-clause-tree t c =
     let p = err_from_is_err_and c.from_residual.result c.from_residual.ensures.1 in
     λ x m. rw (p.1, p.2) (let at = c.loop-part.invariant.suffixes x m in
     suffixes_fail _ at (let low = c.loop-part.invariant.low in omega arith)
     (c.in_err-part.ensures.tree at.tree at.means))
 
-pub suffixes-loop-part-preserved : goal.suffixes-loop-part-preserved
-suffixes-loop-part-preserved t c = record {
+pub declarators::suffixes-loop-part-preserved : goal.declarators::suffixes-loop-part-preserved
+declarators::suffixes-loop-part-preserved t c = record {
   size = paid_more c.loop-part.invariant.size
       (subst (λ v. IfSome v (λ _. Paid c.loop-part.cursor c.next_suffix.new.cursor 4)) c.in-Some.is
       c.in_ok-part.ensures.size);
@@ -1854,16 +1869,16 @@ suffixes-loop-part-preserved t c = record {
       (rest_of c.loop-part.cursor)) v) c.in-Some.is (c.in_ok-part.ensures.tree at.tree at.means));
 }
 
-pub suffixes-returns-clause-tree : goal.suffixes-returns-clause-tree
-suffixes-returns-clause-tree t c = λ x m. let at = c.loop-part.invariant.suffixes x m in
+pub declarators::suffixes-returns-clause-tree : goal.declarators::suffixes-returns-clause-tree
+declarators::suffixes-returns-clause-tree t c = λ x m. let at = c.loop-part.invariant.suffixes x m in
     suffixes_end at c.ok_or.result (let low = c.loop-part.invariant.low in omega arith)
     (subst (λ v. GotCore c.loop-part.cursor c.next_suffix.new.cursor
     (next_from (Reading.read c.args.below) (suc c.args.below) at.tree (in_force c.args.types.now)
     (rest_of c.loop-part.cursor)) v) c.in_default.is (c.in_ok-part.ensures.tree at.tree at.means))
     c.ok_or.ensures.value
 
-pub core-make-requires-then-is_enclosed : goal.core-make-requires-then-is_enclosed
-core-make-requires-then-is_enclosed t c = record {
+pub declarators::core-make-requires-then-is_enclosed : goal.declarators::core-make-requires-then-is_enclosed
+declarators::core-make-requires-then-is_enclosed t c = record {
   room = room_paid (then_paid (owed_paid {m = 8} (stayed c.args.cursor.now c.takes.new.self c.takes.ensures.nodes
       (c.takes.ensures.left c.if-takes.false))
       (took_past c.takes.new.self c.advance.new.self
@@ -1873,15 +1888,15 @@ core-make-requires-then-is_enclosed t c = record {
   height = omega (arith, c.in_ok-parts.ensures.size, c.in_ok-inner.ensures.low, c.requires.height);
 }
 
-pub core-make-requires : goal.core-make-requires
-core-make-requires t c = record {
+pub declarators::core-make-requires : goal.declarators::core-make-requires
+declarators::core-make-requires t c = record {
   room = room_paid (took c.args.cursor.now c.takes.new.self c.takes.ensures.nodes
       (c.takes.ensures.shorter c.if-takes.true)) c.requires.room;
   height = omega (arith, c.no_parts-parts.ensures.size);
 }
 
-pub declarator-make-requires : goal.declarator-make-requires
-declarator-make-requires t c = record {
+pub declarators::declarator-make-requires : goal.declarators::declarator-make-requires
+declarators::declarator-make-requires t c = record {
   room = room_paid (then_owed {m = 0} (took c.args.cursor.now c.takes.new.self c.takes.ensures.nodes
       (c.takes.ensures.shorter c.if-not-takes.false))
       (owed_owed c.in_ok-qualifiers.ensures.size c.in_ok-inner.ensures.size) refl) c.requires.room;
@@ -1894,14 +1909,14 @@ declarator-make-requires t c = record {
   );
 }
 
-pub declarator-qualifiers-requires : goal.declarator-qualifiers-requires
-declarator-qualifiers-requires t c = record {
+pub declarators::declarator-qualifiers-requires : goal.declarators::declarator-qualifiers-requires
+declarators::declarator-qualifiers-requires t c = record {
   room = roomy_paid (took c.args.cursor.now c.takes.new.self c.takes.ensures.nodes
       (c.takes.ensures.shorter c.if-not-takes.false)) c.requires.room;
 }
 
-pub parameter_or_type_name-make-requires : goal.parameter_or_type_name-make-requires
-parameter_or_type_name-make-requires t c = record {
+pub phrases::parameter_or_type_name-make-requires : goal.phrases::parameter_or_type_name-make-requires
+phrases::parameter_or_type_name-make-requires t c = record {
   room = room_paid (then_owed {m = 5} c.in_ok-specifiers.ensures.size c.in_ok-declarator.ensures.size refl)
       c.requires.room;
   height = omega (
@@ -1913,8 +1928,8 @@ parameter_or_type_name-make-requires t c = record {
   );
 }
 
-pub function-make-requires : goal.function-make-requires
-function-make-requires t c = record {
+pub declarators::function-make-requires : goal.declarators::function-make-requires
+declarators::function-make-requires t c = record {
   room = room_paid (then_owed {m = 7} (owed_paid {m = 8} c.in_ok-listed.ensures.size
       (took c.follow.new.cursor c.expect.new.self c.expect.ensures.nodes c.in_ok-expect.ensures.size) refl)
       (noded c.expect.new.self c.join.new.self c.in_ok-parameters.ensures.size c.join.ensures.rest) refl)
@@ -1929,16 +1944,16 @@ function-make-requires t c = record {
   );
 }
 
-pub function-join-requires : goal.function-join-requires
-function-join-requires t c = record {
+pub declarators::function-join-requires : goal.declarators::function-join-requires
+declarators::function-join-requires t c = record {
   room = room_paid (owed_paid {m = 8} c.in_ok-listed.ensures.size
       (took c.follow.new.cursor c.expect.new.self c.expect.ensures.nodes c.in_ok-expect.ensures.size) refl)
       c.requires.room;
   height = omega (arith, c.in_ok-listed.ensures.low, c.requires.height);
 }
 
-pub array-make-requires-2 : goal.array-make-requires-2
-array-make-requires-2 t c = record {
+pub declarators::array-make-requires-2 : goal.declarators::array-make-requires-2
+declarators::array-make-requires-2 t c = record {
   room = room_paid (then_paid (owed_paid {m = 4} (stayed c.args.cursor.now c.takes.new.self c.takes.ensures.nodes
       (c.takes.ensures.left c.if-takes.false)) c.in_ok-length.ensures.size refl)
       (took c.read.new.cursor c.expect.new.self c.expect.ensures.nodes c.in_ok-expect.ensures.size)) c.requires.room;
@@ -1951,72 +1966,72 @@ array-make-requires-2 t c = record {
   );
 }
 
-pub array-make-requires : goal.array-make-requires
-array-make-requires t c = record {
+pub declarators::array-make-requires : goal.declarators::array-make-requires
+declarators::array-make-requires t c = record {
   room = room_paid (took c.args.cursor.now c.takes.new.self c.takes.ensures.nodes
       (c.takes.ensures.shorter c.if-takes.true)) c.requires.room;
   height = omega (arith, c.in_ok-parts.ensures.low, c.requires.height);
 }
 
-pub member-make-requires : goal.member-make-requires
-member-make-requires t c = record {
+pub phrases::member-make-requires : goal.phrases::member-make-requires
+phrases::member-make-requires t c = record {
   room = room_paid (then_paid (then_paid c.in_ok-specifiers.ensures.size c.in_ok-parts-2.ensures.size)
       (took c.separated.new.cursor c.expect.new.self c.expect.ensures.nodes c.in_ok-expect.ensures.size))
       c.requires.room;
   height = omega (arith, c.in_ok-parts-2.ensures.low, c.requires.height);
 }
 
-pub separated-returns-clause-low : goal.separated-returns-clause-low
-separated-returns-clause-low t c = c.list.invariant.low
+pub phrases::separated-returns-clause-low : goal.phrases::separated-returns-clause-low
+phrases::separated-returns-clause-low t c = c.list.invariant.low
 
-pub separated-returns-clause-keeps : goal.separated-returns-clause-keeps
-separated-returns-clause-keeps t c = c.list.invariant.keeps
+pub phrases::separated-returns-clause-keeps : goal.phrases::separated-returns-clause-keeps
+phrases::separated-returns-clause-keeps t c = c.list.invariant.keeps
 
-pub separated-returns-clause-size : goal.separated-returns-clause-size
-separated-returns-clause-size t c = c.list.invariant.size
+pub phrases::separated-returns-clause-size : goal.phrases::separated-returns-clause-size
+phrases::separated-returns-clause-size t c = c.list.invariant.size
 
-pub operand-leaf-requires : goal.operand-leaf-requires
-operand-leaf-requires t c =
+pub expressions::operand-leaf-requires : goal.expressions::operand-leaf-requires
+expressions::operand-leaf-requires t c =
     record {
       room = room_paid (took c.args.cursor.now c.take.new.self c.take.ensures.nodes c.in-Some.ensures.size)
           c.requires.room;
     }
 
-pub operand-leaf-requires-in-Character : goal.operand-leaf-requires-in-Character
-operand-leaf-requires-in-Character t c =
+pub expressions::operand-leaf-requires-in-Character : goal.expressions::operand-leaf-requires-in-Character
+expressions::operand-leaf-requires-in-Character t c =
     record {
       room = room_paid (took c.args.cursor.now c.take.new.self c.take.ensures.nodes c.in-Some.ensures.size)
           c.requires.room;
     }
 
-pub operand-leaf-requires-in-Number : goal.operand-leaf-requires-in-Number
-operand-leaf-requires-in-Number t c =
+pub expressions::operand-leaf-requires-in-Number : goal.expressions::operand-leaf-requires-in-Number
+expressions::operand-leaf-requires-in-Number t c =
     record {
       room = room_paid (took c.args.cursor.now c.take.new.self c.take.ensures.nodes c.in-Some.ensures.size)
           c.requires.room;
     }
 
-pub operand-text-requires : goal.operand-text-requires
-operand-text-requires t c = record {
+pub expressions::operand-text-requires : goal.expressions::operand-text-requires
+expressions::operand-text-requires t c = record {
   room = roomy_paid (took c.args.cursor.now c.take.new.self c.take.ensures.nodes c.in-Some.ensures.size)
       c.requires.room;
   height = c.requires.height;
 }
 
-pub longer-returns-in-Steps-clause-size : goal.longer-returns-in-Steps-clause-size
-longer-returns-in-Steps-clause-size t c = IfOk-weaker c.join.result _ _
+pub expressions::longer-returns-in-Steps-clause-size : goal.expressions::longer-returns-in-Steps-clause-size
+expressions::longer-returns-in-Steps-clause-size t c = IfOk-weaker c.join.result _ _
     (λ p e. noded c.args.cursor.now c.join.new.self e c.join.ensures.rest) c.join.ensures.size
 
-pub longer-returns-in-Steps-clause-low : goal.longer-returns-in-Steps-clause-low
-longer-returns-in-Steps-clause-low t c = IfOk-weaker c.join.result _ _
+pub expressions::longer-returns-in-Steps-clause-low : goal.expressions::longer-returns-in-Steps-clause-low
+expressions::longer-returns-in-Steps-clause-low t c = IfOk-weaker c.join.result _ _
     (λ p e. omega (arith, e, c.in_ok-start.ensures.size, c.if-left-below.false)) c.join.ensures.low
 
-pub longer-returns-in-Steps-clause-taller : goal.longer-returns-in-Steps-clause-taller
-longer-returns-in-Steps-clause-taller t c = IfOk-weaker c.join.result _ _
+pub expressions::longer-returns-in-Steps-clause-taller : goal.expressions::longer-returns-in-Steps-clause-taller
+expressions::longer-returns-in-Steps-clause-taller t c = IfOk-weaker c.join.result _ _
     (λ p e. omega (arith, e, c.in_ok-start.ensures.size)) c.join.ensures.low
 
-pub initializer-join-requires : goal.initializer-join-requires
-initializer-join-requires t c = record {
+pub phrases::initializer-join-requires : goal.phrases::initializer-join-requires
+phrases::initializer-join-requires t c = record {
   room = room_paid (then_paid (then_owed {m = 8} (took c.args.cursor.now c.take_if.new.self c.take_if.ensures.nodes
       c.in-Some.ensures.size)
       (stayed c.take_if.new.self c.takes.new.self c.takes.ensures.nodes
@@ -2024,15 +2039,15 @@ initializer-join-requires t c = record {
   height = omega (arith, c.in_ok-parts.ensures.low, c.requires.height);
 }
 
-pub initializer-leaf-requires : goal.initializer-leaf-requires
-initializer-leaf-requires t c = record {
+pub phrases::initializer-leaf-requires : goal.phrases::initializer-leaf-requires
+phrases::initializer-leaf-requires t c = record {
   room = room_paid (then_paid (took c.args.cursor.now c.take_if.new.self c.take_if.ensures.nodes c.in-Some.ensures.size)
       (took c.take_if.new.self c.takes.new.self c.takes.ensures.nodes
       (c.takes.ensures.shorter c.if-takes.true))) c.requires.room;
 }
 
-pub enum_specifier-join-requires : goal.enum_specifier-join-requires
-enum_specifier-join-requires t c = record {
+pub declaration_specifiers::enum_specifier-join-requires : goal.declaration_specifiers::enum_specifier-join-requires
+declaration_specifiers::enum_specifier-join-requires t c = record {
   room = room_paid (then_paid (owed_paid {m = 8} c.in_ok-start.ensures.size
       (took c.tag.new.cursor c.takes.new.self c.takes.ensures.nodes
       (c.takes.ensures.shorter c.if-not-takes.false)) refl)
@@ -2040,8 +2055,8 @@ enum_specifier-join-requires t c = record {
   height = omega (arith, c.in_ok-parts.ensures.low, c.requires.height);
 }
 
-pub record_specifier-join-requires : goal.record_specifier-join-requires
-record_specifier-join-requires t c = record {
+pub declaration_specifiers::record_specifier-join-requires : goal.declaration_specifiers::record_specifier-join-requires
+declaration_specifiers::record_specifier-join-requires t c = record {
   room = room_paid (then_paid (owed_paid {m = 8} c.in_ok-start.ensures.size
       (took c.tag.new.cursor c.takes.new.self c.takes.ensures.nodes
       (c.takes.ensures.shorter c.if-not-takes.false)) refl)
@@ -2049,30 +2064,37 @@ record_specifier-join-requires t c = record {
   height = omega (arith, c.in_ok-parts.ensures.low, c.requires.height);
 }
 
-pub specifier_list-returns-clause-low : goal.specifier_list-returns-clause-low
-specifier_list-returns-clause-low t c = c.loop-item.invariant.low
+pub declaration_specifiers::specifier_list-returns-clause-low :
+    goal.declaration_specifiers::specifier_list-returns-clause-low
+declaration_specifiers::specifier_list-returns-clause-low t c = c.loop-item.invariant.low
 
-pub specifiers-join-requires-clause-height : goal.specifiers-join-requires-clause-height
-specifiers-join-requires-clause-height t c = omega (arith, c.in_ok-gathered.ensures.low, c.requires.height)
+pub declaration_specifiers::specifiers-join-requires-clause-height :
+    goal.declaration_specifiers::specifiers-join-requires-clause-height
+declaration_specifiers::specifiers-join-requires-clause-height t c =
+    omega (arith, c.in_ok-gathered.ensures.low, c.requires.height)
 
-pub specifier-returns-in-Specifier-clause-size : goal.specifier-returns-in-Specifier-clause-size
-specifier-returns-in-Specifier-clause-size t c = IfOk-weaker c.leaf.result _ _
+pub declaration_specifiers::specifier-returns-in-Specifier-clause-size :
+    goal.declaration_specifiers::specifier-returns-in-Specifier-clause-size
+declaration_specifiers::specifier-returns-in-Specifier-clause-size t c = IfOk-weaker c.leaf.result _ _
     (λ p e. noded c.args.cursor.now c.leaf.new.self e c.leaf.ensures.rest) c.leaf.ensures.size
 
-pub specifier-returns-in-Word-clause-size : goal.specifier-returns-in-Word-clause-size
-specifier-returns-in-Word-clause-size t c = IfOk-weaker c.leaf-in-Word.result _ _
+pub declaration_specifiers::specifier-returns-in-Word-clause-size :
+    goal.declaration_specifiers::specifier-returns-in-Word-clause-size
+declaration_specifiers::specifier-returns-in-Word-clause-size t c = IfOk-weaker c.leaf-in-Word.result _ _
     (λ p e. noded c.args.cursor.now c.leaf-in-Word.new.self e c.leaf-in-Word.ensures.rest) c.leaf-in-Word.ensures.size
 
-pub specifier-returns-in-Specifier-clause-low : goal.specifier-returns-in-Specifier-clause-low
-specifier-returns-in-Specifier-clause-low t c = IfOk-weaker c.leaf.result _ _
+pub declaration_specifiers::specifier-returns-in-Specifier-clause-low :
+    goal.declaration_specifiers::specifier-returns-in-Specifier-clause-low
+declaration_specifiers::specifier-returns-in-Specifier-clause-low t c = IfOk-weaker c.leaf.result _ _
     (λ p e. omega (arith, e)) c.leaf.ensures.low
 
-pub specifier-returns-in-Word-clause-low : goal.specifier-returns-in-Word-clause-low
-specifier-returns-in-Word-clause-low t c = IfOk-weaker c.leaf-in-Word.result _ _
+pub declaration_specifiers::specifier-returns-in-Word-clause-low :
+    goal.declaration_specifiers::specifier-returns-in-Word-clause-low
+declaration_specifiers::specifier-returns-in-Word-clause-low t c = IfOk-weaker c.leaf-in-Word.result _ _
     (λ p e. omega (arith, e)) c.leaf-in-Word.ensures.low
 
-pub function-returns-in_err-push : goal.function-returns-in_err-push
-function-returns-in_err-push t c =
+pub declarators::function-returns-in_err-push : goal.declarators::function-returns-in_err-push
+declarators::function-returns-in_err-push t c =
     let p = err_from_is_err_and c.from_residual-in_err-push.result c.from_residual-in_err-push.ensures.1 in
     rw (p.1, p.2) (record {
       size = tt;
@@ -2081,8 +2103,8 @@ function-returns-in_err-push t c =
       tree = λ x m. fails_memory _ _ c.in_err-push.ensures.full;
     })
 
-pub function-returns-in_err-parameters : goal.function-returns-in_err-parameters
-function-returns-in_err-parameters t c =
+pub declarators::function-returns-in_err-parameters : goal.declarators::function-returns-in_err-parameters
+declarators::function-returns-in_err-parameters t c =
     let p = err_from_is_err_and c.from_residual-in_err-parameters.result c.from_residual-in_err-parameters.ensures.1 in
     rw (p.1, p.2) (record {
       size = tt;
@@ -2091,8 +2113,8 @@ function-returns-in_err-parameters t c =
       tree = λ x m. fails_memory _ _ c.in_err-parameters.ensures.tree;
     })
 
-pub array-returns-in_err-push : goal.array-returns-in_err-push
-array-returns-in_err-push t c =
+pub declarators::array-returns-in_err-push : goal.declarators::array-returns-in_err-push
+declarators::array-returns-in_err-push t c =
     let p = err_from_is_err_and c.from_residual-in_err-push.result c.from_residual-in_err-push.ensures.1 in
     rw (p.1, p.2) (record {
       size = tt;
@@ -2101,23 +2123,23 @@ array-returns-in_err-push t c =
       tree = λ x m. fails_memory _ _ c.in_err-push.ensures.full;
     })
 
-pub core-returns-in_err-part : goal.core-returns-in_err-part
-core-returns-in_err-part t c =
+pub declarators::core-returns-in_err-part : goal.declarators::core-returns-in_err-part
+declarators::core-returns-in_err-part t c =
     let p = err_from_is_err_and c.from_residual.result c.from_residual.ensures.1 in
     rw (p.1, p.2) (record { size = tt; none = tt; low = tt; tree = fails_memory _ _ c.in_err-part.ensures.tree })
 
-pub core-returns-in_err-part-2 : goal.core-returns-in_err-part-2
-core-returns-in_err-part-2 t c =
+pub declarators::core-returns-in_err-part-2 : goal.declarators::core-returns-in_err-part-2
+declarators::core-returns-in_err-part-2 t c =
     let p = err_from_is_err_and c.from_residual-in_err-part-2.result c.from_residual-in_err-part-2.ensures.1 in
     rw (p.1, p.2) (record { size = tt; none = tt; low = tt; tree = fails_memory _ _ c.in_err-part-2.ensures.tree })
 
-pub core-returns-in_err-parts : goal.core-returns-in_err-parts
-core-returns-in_err-parts t c =
+pub declarators::core-returns-in_err-parts : goal.declarators::core-returns-in_err-parts
+declarators::core-returns-in_err-parts t c =
     let p = err_from_is_err_and c.from_residual-in_err-parts.result c.from_residual-in_err-parts.ensures.1 in
     rw (p.1, p.2) (record { size = tt; none = tt; low = tt; tree = fails_memory _ _ c.in_err-parts.ensures.one })
 
-pub members-returns-in_err-push : goal.members-returns-in_err-push
-members-returns-in_err-push t c =
+pub declaration_specifiers::members-returns-in_err-push : goal.declaration_specifiers::members-returns-in_err-push
+declaration_specifiers::members-returns-in_err-push t c =
     let p = err_from_is_err_and c.from_residual-in_err-push.result c.from_residual-in_err-push.ensures.1 in
     rw (p.1, p.2) (record {
       size = tt;
@@ -2125,8 +2147,8 @@ members-returns-in_err-push t c =
       tree = λ ys turns much m. fails_memory _ _ c.in_err-push.ensures.full;
     })
 
-pub separated-returns-in_err-push : goal.separated-returns-in_err-push
-separated-returns-in_err-push t c =
+pub phrases::separated-returns-in_err-push : goal.phrases::separated-returns-in_err-push
+phrases::separated-returns-in_err-push t c =
     let p = err_from_is_err_and c.from_residual-in_err-push.result c.from_residual-in_err-push.ensures.1 in
     rw (p.1, p.2) (record {
       size = tt;
@@ -2135,8 +2157,8 @@ separated-returns-in_err-push t c =
       tree = λ ys m. fails_memory _ _ c.in_err-push.ensures.full;
     })
 
-pub members-returns-in_err-push-2 : goal.members-returns-in_err-push-2
-members-returns-in_err-push-2 t c =
+pub declaration_specifiers::members-returns-in_err-push-2 : goal.declaration_specifiers::members-returns-in_err-push-2
+declaration_specifiers::members-returns-in_err-push-2 t c =
     let p = err_from_is_err_and c.from_residual-in_err-push-2.result c.from_residual-in_err-push-2.ensures.1 in
     rw (p.1, p.2) (record {
       size = tt;
@@ -2144,8 +2166,8 @@ members-returns-in_err-push-2 t c =
       tree = λ ys turns much m. fails_memory _ _ c.in_err-push-2.ensures.full;
     })
 
-pub separated-returns-in_err-push-2 : goal.separated-returns-in_err-push-2
-separated-returns-in_err-push-2 t c =
+pub phrases::separated-returns-in_err-push-2 : goal.phrases::separated-returns-in_err-push-2
+phrases::separated-returns-in_err-push-2 t c =
     let p = err_from_is_err_and c.from_residual-in_err-push-2.result c.from_residual-in_err-push-2.ensures.1 in
     rw (p.1, p.2) (record {
       size = tt;
@@ -2154,13 +2176,13 @@ separated-returns-in_err-push-2 t c =
       tree = λ ys m. fails_memory _ _ c.in_err-push-2.ensures.full;
     })
 
-pub specifiers-returns-in_err-part : goal.specifiers-returns-in_err-part
-specifiers-returns-in_err-part t c =
+pub declaration_specifiers::specifiers-returns-in_err-part : goal.declaration_specifiers::specifiers-returns-in_err-part
+declaration_specifiers::specifiers-returns-in_err-part t c =
     let p = err_from_is_err_and c.from_residual-in_err-part.result c.from_residual-in_err-part.ensures.1 in
     rw (p.1, p.2) (record { size = tt; low = tt; tree = fails_memory _ _ c.in_err-part.ensures.tree })
 
-pub longer-returns-in_err-start : goal.longer-returns-in_err-start
-longer-returns-in_err-start t c =
+pub expressions::longer-returns-in_err-start : goal.expressions::longer-returns-in_err-start
+expressions::longer-returns-in_err-start t c =
     let p = err_from_is_err_and c.from_residual.result c.from_residual.ensures.1 in
     rw (p.1, p.2) (record {
       size = tt;
@@ -2169,8 +2191,8 @@ longer-returns-in_err-start t c =
       tree = λ x m. fails_memory _ _ c.in_err-start.ensures.one;
     })
 
-pub node-returns-in_err-parts : goal.node-returns-in_err-parts
-node-returns-in_err-parts t c =
+pub expressions::node-returns-in_err-parts : goal.expressions::node-returns-in_err-parts
+expressions::node-returns-in_err-parts t c =
     let p = err_from_is_err_and c.from_residual.result c.from_residual.ensures.1 in
     rw (p.1, p.2) (record {
       size = tt;
@@ -2179,32 +2201,35 @@ node-returns-in_err-parts t c =
       tree = λ ys first named h. fails_bind _ _ _ (c.in_err-parts.ensures.tree ys h);
     })
 
-pub member-returns-in_err-parts : goal.member-returns-in_err-parts
-member-returns-in_err-parts t c =
+pub phrases::member-returns-in_err-parts : goal.phrases::member-returns-in_err-parts
+phrases::member-returns-in_err-parts t c =
     let p = err_from_is_err_and c.from_residual-in_err-parts.result c.from_residual-in_err-parts.ensures.1 in
     rw (p.1, p.2) (record { size = tt; low = tt; tree = fails_memory _ _ c.in_err-parts.ensures.one })
 
-pub specifier_list-returns-in_err-gathered : goal.specifier_list-returns-in_err-gathered
-specifier_list-returns-in_err-gathered t c =
+pub declaration_specifiers::specifier_list-returns-in_err-gathered :
+    goal.declaration_specifiers::specifier_list-returns-in_err-gathered
+declaration_specifiers::specifier_list-returns-in_err-gathered t c =
     let p = err_from_is_err_and c.from_residual-in_err-gathered.result c.from_residual-in_err-gathered.ensures.1 in
     rw (p.1, p.2) (record { size = tt; low = tt; tree = fails_memory _ _ c.in_err-gathered.ensures.full })
 
-pub members-list-smaller : goal.members-list-smaller
-members-list-smaller t c = c.in_ok-part-2.ensures.size.shorter
+pub declaration_specifiers::members-list-smaller : goal.declaration_specifiers::members-list-smaller
+declaration_specifiers::members-list-smaller t c = c.in_ok-part-2.ensures.size.shorter
 
-pub separated-list-smaller : goal.separated-list-smaller
-separated-list-smaller t c =
+pub phrases::separated-list-smaller : goal.phrases::separated-list-smaller
+phrases::separated-list-smaller t c =
     let on = ap goes_on_listing (sym c.rest.ensures) ∙ sym c.goes_on_listing.ensures ∙ c.list-test.true in
     let taken = past_shorter (rest_of c.list.cursor) on in let left = ap length c.advance.ensures.rest in
     omega (arith, taken, left, c.in_ok-part-2.ensures.size.shorter)
 
-pub suffixes-loop-part-smaller : goal.suffixes-loop-part-smaller
-suffixes-loop-part-smaller t c =
+pub declarators::suffixes-loop-part-smaller : goal.declarators::suffixes-loop-part-smaller
+declarators::suffixes-loop-part-smaller t c =
     (subst (λ v. IfSome v (λ _. Paid c.loop-part.cursor c.next_suffix.new.cursor 4)) c.in-Some.is
     c.in_ok-part.ensures.size).shorter
 
-pub specifier_list-loop-item-smaller : goal.specifier_list-loop-item-smaller
-specifier_list-loop-item-smaller t c = omega (arith, c.in-Some.ensures.size, c.in_ok-part.ensures.size.shorter)
+pub declaration_specifiers::specifier_list-loop-item-smaller :
+    goal.declaration_specifiers::specifier_list-loop-item-smaller
+declaration_specifiers::specifier_list-loop-item-smaller t c =
+    omega (arith, c.in-Some.ensures.size, c.in_ok-part.ensures.size.shorter)
 
-pub climb-loop-item-smaller : goal.climb-loop-item-smaller
-climb-loop-item-smaller t c = omega (arith, c.in-Some.ensures.size, c.in_ok-part.ensures.size.shorter)
+pub expressions::climb-loop-item-smaller : goal.expressions::climb-loop-item-smaller
+expressions::climb-loop-item-smaller t c = omega (arith, c.in-Some.ensures.size, c.in_ok-part.ensures.size.shorter)

@@ -5,7 +5,7 @@ use Rattle.c_tree.specs.Syntax.{node}
 use Rattle.c_phrases.specs.Got.{IsPlaceOf, rest_of}
 use Rattle.c_phrases.proofs.Made.{fails_memory}
 use Rattle.c_phrases.proofs.Specifying.{no_items, holds_none, holds_some, with_parts_none, with_parts_some}
-use Rattle.c_phrases.proofs.phrases.tag_alone.Goals as goal
+use Rattle.c_phrases.proofs.declaration_specifiers.tag_alone.Goals as goal
 
 pub returns-then-is_empty-clause-tree : goal.returns-then-is_empty-clause-tree
 returns-then-is_empty-clause-tree c = λ ys first names h.

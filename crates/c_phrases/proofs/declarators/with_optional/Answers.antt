@@ -1,5 +1,5 @@
-use Rattle.c_phrases.proofs.Declarators.{with_there}
-use Rattle.c_phrases.proofs.phrases.with_optional.Goals as goal
+use Rattle.c_phrases.proofs.Declaring.{with_there}
+use Rattle.c_phrases.proofs.declarators.with_optional.Goals as goal
 
 pub returns-in-Some-clause-tree : goal.returns-in-Some-clause-tree
 returns-in-Some-clause-tree c =

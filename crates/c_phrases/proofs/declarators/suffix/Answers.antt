@@ -1,8 +1,8 @@
 use Rattle.std.proofs.Common.{refl, sym, subst}
 use Rattle.c_phrases.specs.Reading.{parts_of}
 use Rattle.c_phrases.specs.Got.{Holds}
-use Rattle.c_phrases.proofs.Declarators.{there_at, begins_there}
-use Rattle.c_phrases.proofs.phrases.suffix.Goals as goal
+use Rattle.c_phrases.proofs.Declaring.{there_at, begins_there}
+use Rattle.c_phrases.proofs.declarators.suffix.Goals as goal
 
 pub returns-in_ok-only-in-Some-2-clause-tree : goal.returns-in_ok-only-in-Some-2-clause-tree
 returns-in_ok-only-in-Some-2-clause-tree c = λ x m.

@@ -1,5 +1,0 @@
-use Rattle.c_phrases.proofs.Declarators.{names_there}
-use Rattle.c_phrases.proofs.phrases.optional_name.Goals as goal
-
-pub returns-in-Some : goal.returns-in-Some
-returns-in-Some c = λ nodes x m. names_there m c.in-Some.is
