@@ -47,30 +47,13 @@ fn form_from(kind: &ExprKind) -> Form
         ExprKind::Global(k) => Form::Whole(Target::Global(*k)),
         ExprKind::Fun(k) => Form::Entry(*k),
         ExprKind::Member(a, k) => Form::Member(*a, *k),
-        ExprKind::Address(a) => Form::Pointed(*a),
-        ExprKind::Decay(a) => Form::Pointed(*a),
+        ExprKind::Address(a) | ExprKind::Decay(a) => Form::Pointed(*a),
         ExprKind::Deref(a) => Form::Same(*a),
         ExprKind::Convert(a) => Form::Converted(*a),
         ExprKind::Plus(a, b, minus) => Form::Plus(*a, *b, *minus),
         ExprKind::Capability(IntOp::Add, a, b, right) => Form::Derived(*a, *b, false, *right),
         ExprKind::Capability(IntOp::Sub, a, b, right) => Form::Derived(*a, *b, true, *right),
-        ExprKind::Capability(_, _, _, _)
-        | ExprKind::Constant(_)
-        | ExprKind::Var(_)
-        | ExprKind::Load(_)
-        | ExprKind::Unary(_, _)
-        | ExprKind::Int(_, _, _)
-        | ExprKind::Difference(_, _)
-        | ExprKind::Compare(_, _, _)
-        | ExprKind::And(_, _)
-        | ExprKind::Or(_, _)
-        | ExprKind::Conditional(_, _, _)
-        | ExprKind::Comma(_, _)
-        | ExprKind::Assign(_, _)
-        | ExprKind::Compound(_, _, _, _)
-        | ExprKind::Step(_, _, _)
-        | ExprKind::Call(_, _)
-        | ExprKind::Library(_, _) => Form::Other,
+        _ => Form::Other,
     }
 }
 
@@ -90,31 +73,7 @@ fn is_load(kind: &ExprKind) -> bool
 {
     match kind {
         ExprKind::Load(_) => true,
-        ExprKind::Constant(_)
-        | ExprKind::Literal(_)
-        | ExprKind::Var(_)
-        | ExprKind::Global(_)
-        | ExprKind::Fun(_)
-        | ExprKind::Decay(_)
-        | ExprKind::Deref(_)
-        | ExprKind::Member(_, _)
-        | ExprKind::Address(_)
-        | ExprKind::Convert(_)
-        | ExprKind::Unary(_, _)
-        | ExprKind::Int(_, _, _)
-        | ExprKind::Capability(_, _, _, _)
-        | ExprKind::Plus(_, _, _)
-        | ExprKind::Difference(_, _)
-        | ExprKind::Compare(_, _, _)
-        | ExprKind::And(_, _)
-        | ExprKind::Or(_, _)
-        | ExprKind::Conditional(_, _, _)
-        | ExprKind::Comma(_, _)
-        | ExprKind::Assign(_, _)
-        | ExprKind::Compound(_, _, _, _)
-        | ExprKind::Step(_, _, _)
-        | ExprKind::Call(_, _)
-        | ExprKind::Library(_, _) => false,
+        _ => false,
     }
 }
 

@@ -120,7 +120,7 @@ pub(crate) fn move_by(work: &Work, by: i128, x: Known) -> Result<Option<Known>, 
 {
     match x.value {
         Value::There(p) => moved_to(work, p.target, p.bounds, p.offset + by, x.asks),
-        Value::Number(_) | Value::Entry(_) => Ok(None),
+        _ => Ok(None),
     }
 }
 
@@ -199,7 +199,7 @@ fn narrowed(work: &Work, n: u64, x: Known) -> Result<Option<Known>, NoMemory>
                 Ok(None)
             }
         }
-        Value::Number(_) | Value::Entry(_) => Ok(None),
+        _ => Ok(None),
     }
 }
 

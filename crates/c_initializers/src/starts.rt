@@ -109,7 +109,7 @@ fn is_signed(kind: IntKind) -> bool
 {
     match kind {
         IntKind::I8 | IntKind::I16 | IntKind::I32 | IntKind::I64 => true,
-        IntKind::Bool | IntKind::U8 | IntKind::U16 | IntKind::U32 | IntKind::U64 => false,
+        _ => false,
     }
 }
 

@@ -127,11 +127,9 @@ fn ask_for(work: &mut Work, x: Slot, v: &Known) -> Result<(), NoMemory>
     match v.value {
         Value::There(p) => match p.target {
             Target::Global(object) => ask(&mut work.waiting, x.first, object, v.asks.as_slice()),
-            Target::Literal(_) => Ok(()),
-            Target::Fun(_) => Ok(()),
+            _ => Ok(()),
         },
-        Value::Number(_) => Ok(()),
-        Value::Entry(_) => Ok(()),
+        _ => Ok(()),
     }
 }
 

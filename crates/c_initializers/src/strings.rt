@@ -21,14 +21,7 @@ fn is_character(nodes: &Nodes, of: u32) -> bool
 {
     match nodes.class(of) {
         Class::Int(IntKind::U8 | IntKind::I8, _) => true,
-        Class::Int(_, _)
-        | Class::Void
-        | Class::Cap(_)
-        | Class::Pointer(_)
-        | Class::Array(_, _)
-        | Class::Tagged(_)
-        | Class::Function(_)
-        | Class::Const(_) => false,
+        _ => false,
     }
 }
 
@@ -40,13 +33,7 @@ pub fn takes_string(work: &Work, of: u32) -> bool
 {
     match work.nodes.class(of) {
         Class::Array(element, _) => is_character(&work.nodes, work.nodes.bare(element)),
-        Class::Void
-        | Class::Int(_, _)
-        | Class::Cap(_)
-        | Class::Pointer(_)
-        | Class::Tagged(_)
-        | Class::Function(_)
-        | Class::Const(_) => false,
+        _ => false,
     }
 }
 
@@ -148,13 +135,7 @@ fn row_of(nodes: &Nodes, of: u32) -> (u32, u64)
 {
     match nodes.class(of) {
         Class::Array(element, count) => (nodes.bare(element), count),
-        Class::Void
-        | Class::Int(_, _)
-        | Class::Cap(_)
-        | Class::Pointer(_)
-        | Class::Tagged(_)
-        | Class::Function(_)
-        | Class::Const(_) => (of, 0),
+        _ => (of, 0),
     }
 }
 
