@@ -16,15 +16,7 @@ fn gives_of(c: &CType) -> Option<u32>
 {
     match c {
         CType::Function(t, _) => Some(*t),
-        CType::Void
-        | CType::Int(_, _)
-        | CType::Cap(_)
-        | CType::Pointer(_)
-        | CType::Array(_, _)
-        | CType::Struct(_, _)
-        | CType::Union(_, _)
-        | CType::Const(_)
-        | CType::Incomplete(_) => None,
+        _ => None,
     }
 }
 
