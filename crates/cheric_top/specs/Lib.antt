@@ -1,4 +1,1 @@
-pub mod Answers
-pub mod Audit
-pub mod Shown
 pub mod Command

@@ -1,25 +1,19 @@
 //! The call that does all that the program does.
-ghost use Rattle.std.specs.Prelude.{◌≡◌, ◌<◌, ◌-◌, ◌^◌, true, IfOk, MatchResult, map, string_bytes};
+ghost use Rattle.std.specs.Prelude.{◌≡◌, ◌<◌, ◌-◌, ◌^◌, IfOk, MatchResult, map, string_bytes};
 ghost use Rattle.bounds_place.specs.declared.sizes.Sizes.{Sizes as SizesOf};
-ghost use Rattle.bounds_place.specs.Sizes.{in_range};
 ghost use Rattle.ck_base.specs.Calls.{seen};
 ghost use Rattle.command_line.specs.Lines.{Build};
 ghost use Rattle.command_line.specs.Asked.{mode_of, IsInRange};
 ghost use Rattle.command_line.specs.declared.line.Mode.TheVariants as modes;
-ghost use Rattle.cheric_top.specs.Command.{files_seen, around, HasRead, NotRead, BuildSays, ModeSays, FileSays, Says};
-ghost use Rattle.cheric_top.specs.Command.{IsDone};
+ghost use Rattle.command_modes.specs.Modes.{files_seen};
+ghost use Rattle.cheric_top.specs.Command.{around, HasRead, NotRead, ModeSays, FileSays, Says, IsDone};
 
-use crate::answer::Answer;
-use crate::auditing::audit_file;
-use crate::generating::show_generated;
-use crate::meaning::mean_file;
-use crate::message::say;
-use crate::running::{exec_file, not_built, run_file};
-use crate::showing::{show_listing, show_map};
-use bounds_place::Sizes;
-use cheric_build::build_sized;
-use ck_base::{FileError, Files, NoMemory, PutError, Sink, Source};
+use ck_base::{FileError, Files, NoMemory, Sink, Source};
 use command_line::{Line, Mode, line_of};
+use command_modes::{
+    Answer, audit_file, build_file, exec_file, mean_file, run_file, say, show_generated,
+    show_listing, show_map,
+};
 use std::alloc::Global;
 
 /// The bytes of the file of this name, or the answer where it is not read.
@@ -51,30 +45,6 @@ fn elf_name(alloc: Global, name: &str, elf: Option<&str>) -> Result<String, NoMe
     let mut elf = String::from_str(alloc, name)?;
     elf.push_str(".elf")?;
     Ok(elf)
-}
-
-/// Builds a C file for a heap and a stack of these sizes, and puts the bytes that were built under a name.
-fn build_file<F: Files>(
-    alloc: Global,
-    file: &[u8],
-    elf: &str,
-    sizes: Sizes,
-    files: &mut F,
-) -> Answer
-    requires files_room { F.faults files.old < 2 ^ 64 - 1 }
-    requires sizes { in_range sizes ≡ true }
-    ensures { BuildSays (files_seen (F.told files.old) (F.faults files.old))
-        (files_seen (F.told files.new) (F.faults files.new)) file.now elf.now sizes result }
-{
-    let built = match build_sized(alloc, file, sizes) {
-        Ok(built) => built,
-        Err(refusal) => return not_built(refusal),
-    };
-    match files.put(alloc, elf, &built.elf) {
-        Ok(()) => Answer::Built(built.elf.len() as u64),
-        Err(PutError::NoMemory) => Answer::Memory,
-        Err(PutError::Failed) => Answer::File,
-    }
 }
 
 /// Does what a mode does with a file that was read.

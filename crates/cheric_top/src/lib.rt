@@ -2,20 +2,12 @@
 //!
 //! Promise: `cheric` does what its words ask for, says how it ended, and blames the outside only where it failed in
 //! this call.
-//! Definitions (`specs/`): `Command`, `Shown`, `Answers`, `Audit`; `Lines` of `command_line`.
-//! Main lemmas (`proofs/`): `Said`.
+//! Definitions (`specs/`): `Command`; `Answers`, `Modes` of `command_modes`; `Lines` of `command_line`.
+//! Main lemmas (`proofs/`): none.
 #![tactic(auto)]
 
-mod answer;
-mod auditing;
 mod command;
-mod generating;
-mod meaning;
-mod message;
-mod running;
-mod showing;
 
-pub use answer::Answer;
 pub use command::cheric;
+pub use command_modes::{Answer, status_of};
 pub use generator::generate;
-pub use message::status_of;

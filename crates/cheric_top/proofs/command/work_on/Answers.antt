@@ -4,7 +4,8 @@ use Rattle.ck_base.specs.Calls.{seen}
 use Rattle.command_line.specs.Asked.{mode_of}
 use Rattle.command_line.specs.Lines as lines
 use Rattle.command_line.specs.declared.line.Mode.{Mode}
-use Rattle.cheric_top.specs.Command.{files_seen, around, BuildSays, ModeSays}
+use Rattle.command_modes.specs.Modes.{files_seen, BuildSays}
+use Rattle.cheric_top.specs.Command.{around, ModeSays}
 use Rattle.cheric_top.proofs.command.work_on.Goals as goal
 
 pub returns-in-Run : goal.returns-in-Run

@@ -1,0 +1,4 @@
+pub mod Answers
+pub mod Audit
+pub mod Shown
+pub mod Modes
