@@ -1,6 +1,6 @@
 //! The types that declarators make (C11 6.7.6).
 
-ghost use Rattle.std.specs.Prelude.{◌≡◌, ℕ, ◌<◌, ◌||◌, All, MatchOption, IfOk};
+ghost use Rattle.std.specs.Prelude.{◌≡◌, ℕ, ◌<◌, All, MatchOption, IfOk};
 ghost use Rattle.c_tree.specs.Types.{Pointer, adjusted, in_signature};
 ghost use Rattle.c_tree.specs.Scopes.{State, is_complete};
 ghost use Rattle.c_tree.specs.Readings.{Point, Row};
@@ -15,15 +15,9 @@ ghost use Rattle.c_declarators.specs.Forming.{signature_types, gives_on, made_on
 use crate::parts::{Formed, Param, Wrap};
 use c_expressions::{Class, Nodes};
 use c_tree::CType;
-use c_types::Faults;
+use c_types::{Faults, either};
 use cap_layout::LayoutFault;
 use ck_base::{NoMemory, Sequence};
-
-pub(crate) fn either(a: bool, b: bool) -> bool
-    ensures { result ≡ (a || b) }
-{
-    if a { true } else { b }
-}
 
 // What a parameter of this type points to, if its type is adjusted.
 fn pointed(nodes: &Nodes<'_>, t: u32) -> Option<u32>

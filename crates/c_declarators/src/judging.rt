@@ -3,8 +3,7 @@
 ghost use Rattle.c_tree.specs.Declarators.{Formed, judge};
 ghost use Rattle.c_declarators.specs.Parts.{HasFaults, IsJudged};
 
-use crate::forming::either;
-use c_types::Faults;
+use c_types::{Faults, either};
 use ck_base::{Pos, Refusal};
 
 /// The rules on the type itself, and others on what is declared, at one place, the lowest code first: 132, 133, 140.

@@ -14,12 +14,13 @@ ghost use Rattle.c_declarators.specs.Parts.{SpecifiedThere, IsSpecified, Derived
 ghost use Rattle.c_declarators.specs.Parts.{AreMembers, AllMembersThere, AreAllMembers, has_name};
 ghost use Rattle.c_declarators.specs.Steps.{named_member};
 
-use crate::forming::{either, form, is_complete};
+use crate::forming::{form, is_complete};
 use crate::judging::judge;
 use crate::parts::{Derived, Specified, Wrap};
 use c_elaborator::{Name, Work};
 use c_expressions::Nodes;
 use c_tree::Member;
+use c_types::either;
 use ck_base::{NoMemory, Refusal, Span};
 use indexmap::IndexMap;
 use std::alloc::Global;

@@ -17,7 +17,8 @@ use c_interner::{Head, head_of};
 use c_tree::{CType, Typed};
 use ck_base::{Pos, Refusal};
 
-pub(crate) fn either(a: bool, b: bool) -> bool
+/// Whether one of the two is so.
+pub fn either(a: bool, b: bool) -> bool
     ensures { result ≡ (a || b) }
 {
     if a { true } else { b }

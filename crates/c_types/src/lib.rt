@@ -26,4 +26,5 @@ mod tags;
 
 pub use c_interner::Lengths;
 pub use entries::{Decl, DeclKind, Entity, Entry, Faults, Storage, TagKind, Tagging};
+pub use judging::either;
 pub use scopes::{Scope, Scopes};
