@@ -137,12 +137,7 @@ impl<'a> Work<'a> {
     {
         match self.nodes.scopes.look(self.text(name.span)) {
             Some(Entity::Library(k, _)) => Some(k),
-            None
-            | Some(Entity::Local(_, _))
-            | Some(Entity::Static(_))
-            | Some(Entity::Routine(_))
-            | Some(Entity::Enumerator(_))
-            | Some(Entity::Alias(_)) => None,
+            _ => None,
         }
     }
 }

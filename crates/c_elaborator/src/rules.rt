@@ -129,13 +129,7 @@ impl Work<'_> {
                 let taken = self.all_complete(params.as_slice());
                 Ok(given && taken)
             }
-            Class::Void
-            | Class::Int(_, _)
-            | Class::Cap(_)
-            | Class::Pointer(_)
-            | Class::Array(_, _)
-            | Class::Tagged(_)
-            | Class::Const(_) => Ok(true),
+            _ => Ok(true),
         }
     }
 
