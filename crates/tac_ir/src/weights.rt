@@ -47,11 +47,6 @@ fn operand_count(kind: &ExprKind) -> usize
     ensures { result ≡ length (operands kind.now) }
 {
     match kind {
-        ExprKind::Constant(_)
-        | ExprKind::Literal(_)
-        | ExprKind::Var(_)
-        | ExprKind::Global(_)
-        | ExprKind::Fun(_) => 0,
         ExprKind::Load(_)
         | ExprKind::Decay(_)
         | ExprKind::Deref(_)
@@ -73,6 +68,7 @@ fn operand_count(kind: &ExprKind) -> usize
         ExprKind::Conditional(_, _, _) => 3,
         ExprKind::Call(_, xs) => 1 + xs.as_slice().len(),
         ExprKind::Library(_, xs) => xs.as_slice().len(),
+        _ => 0,
     }
 }
 
@@ -82,11 +78,6 @@ fn operand(kind: &ExprKind, i: usize) -> u32
     ensures { slice_get (operands kind.now) i ≡ Some result }
 {
     match kind {
-        ExprKind::Constant(_)
-        | ExprKind::Literal(_)
-        | ExprKind::Var(_)
-        | ExprKind::Global(_)
-        | ExprKind::Fun(_) => unreachable!(),
         ExprKind::Load(a)
         | ExprKind::Decay(a)
         | ExprKind::Deref(a)
@@ -112,6 +103,7 @@ fn operand(kind: &ExprKind, i: usize) -> u32
             listed(xs.as_slice(), i - 1)
         },
         ExprKind::Library(_, xs) => listed(xs.as_slice(), i),
+        _ => unreachable!(),
     }
 }
 
@@ -165,7 +157,7 @@ fn value_count(kind: &StmtKind) -> usize
         | StmtKind::Switch { .. } => 1,
         StmtKind::For { test, step, .. } => count_of(*test) + count_of(*step),
         StmtKind::Return(value) => count_of(*value),
-        StmtKind::Block { .. } | StmtKind::Break | StmtKind::Continue | StmtKind::Empty => 0,
+        _ => 0,
     }
 }
 
@@ -195,9 +187,7 @@ fn value(kind: &StmtKind, i: usize) -> u32
         | StmtKind::Switch { on: a, .. } => *a,
         StmtKind::For { test, step, .. } => of_both(*test, *step, i),
         StmtKind::Return(a) => of_both(*a, None, i),
-        StmtKind::Block { .. } | StmtKind::Break | StmtKind::Continue | StmtKind::Empty => {
-            unreachable!()
-        }
+        _ => unreachable!(),
     }
 }
 
@@ -221,12 +211,7 @@ fn part_count(kind: &StmtKind) -> usize
         StmtKind::If(_, _, other) => 1 + count_of(*other),
         StmtKind::While(_, _) | StmtKind::Do(_, _) => 1,
         StmtKind::For { first, .. } => first.as_slice().len() + 1,
-        StmtKind::Expr(_)
-        | StmtKind::Init { .. }
-        | StmtKind::Break
-        | StmtKind::Continue
-        | StmtKind::Return(_)
-        | StmtKind::Empty => 0,
+        _ => 0,
     }
 }
 
@@ -248,12 +233,7 @@ fn part(kind: &StmtKind, i: usize) -> u32
         StmtKind::If(_, then, other) => of_both(Some(*then), *other, i),
         StmtKind::While(_, body) | StmtKind::Do(body, _) => *body,
         StmtKind::For { first, body, .. } => of_pushed(first.as_slice(), *body, i),
-        StmtKind::Expr(_)
-        | StmtKind::Init { .. }
-        | StmtKind::Break
-        | StmtKind::Continue
-        | StmtKind::Return(_)
-        | StmtKind::Empty => unreachable!(),
+        _ => unreachable!(),
     }
 }
 
