@@ -1,5 +1,5 @@
 -- External declarations, one after the other, and the whole file.
-use Rattle.std.proofs.Common.{◌≡◌, ℕ, List, [], ◌∷◌, length, Some, Result, Ok, Err, refl, sym, ap, subst, ◌∙◌}
+use Rattle.std.proofs.Common.{◌≡◌, ℕ, List, [], ◌∷◌, Some, Result, Ok, Err, refl, sym, ap, subst, ◌∙◌}
 use Rattle.ck_base.specs.declared.positions.Pos.{Pos}
 use Rattle.ck_base.specs.declared.refusal.Refusal.{Refusal}
 use Rattle.ck_base.specs.declared.refusal.Refusal.TheVariants.{Code, NoMemory}
@@ -22,8 +22,6 @@ use Rattle.c_elaborator.specs.Work.{Shows}
 use Rattle.c_elaborator.specs.Answers.{Done, Answers, freely, NothingThere, IsNothing}
 use Rattle.c_elaborator.specs.Parts.{IsPart, AreParts}
 use Rattle.c_elaborator.proofs.Sequencing.{free_law, answers_at, also_then, failed}
-use Rattle.c_readings.specs.Within.{PartWithin}
-use Rattle.c_readings.proofs.Depth.{depth_few}
 use Rattle.c_readings.proofs.Kids.{cut, no_parts, opened, parts_kept}
 use Rattle.c_statements.proofs.Stating.{readings_more, readings_nil}
 use Rattle.c_elaborator.specs.declared.items.Items.{Items}
@@ -140,15 +138,6 @@ root_is w tree file x e f r = record {
   stands = subst (λ (t : Tree). StandsAt t.nodes tree.root x) (sym e) r.stands;
   spelled = subst (λ (b : List ℕ). IsSpelled b x) (sym f) r.spelled;
   written = written r.tokens x r.derives r.accepted;
-}
-
--- it is no deeper than the nodes are many
-pub root_within : (w : Work) (tree : Tree) (x : Syn) → w.tree.now ≡ tree → IsPart w tree.root x →
-    PartWithin w (length tree.nodes) tree.root
-root_within w tree x e p = record {
-  syntax = x;
-  is = p;
-  within = depth_few tree.nodes tree.root x (subst (λ (t : Tree). StandsAt t.nodes tree.root x) e p.stands);
 }
 
 -- the tree stays

@@ -3,12 +3,9 @@
 ghost use Rattle.std.specs.Prelude.{◌≡◌, true, Some, None, Ok, ◌+◌, ◌<◌, ◌∷◌, ◌++◌, [], All, IfOk, OnOk, length, map};
 ghost use Rattle.std.specs.Prelude.{slice_get, slice_set, ◌&&◌, not};
 ghost use Rattle.c_tree.specs.Syntax.{Syn};
-ghost use Rattle.c_tree.specs.Expressions.{routine_type};
-ghost use Rattle.c_tree.specs.Programs.{body_context, first_incomplete};
-ghost use Rattle.c_tree.specs.Terms.{numbers_from};
-ghost use Rattle.c_tree.specs.Types.{given_by};
+ghost use Rattle.c_tree.specs.Programs.{first_incomplete};
 ghost use Rattle.c_tree.specs.Scopes.{State, RoutineState};
-ghost use Rattle.c_expressions.specs.Nodes.{IsWhole, type_in, type_count};
+ghost use Rattle.c_expressions.specs.Nodes.{IsWhole};
 ghost use Rattle.c_elaborator.specs.Work.{Shows};
 ghost use Rattle.c_elaborator.specs.Answers.{Answers, freely, NothingThere, IsNothing, action_in, action_count};
 ghost use Rattle.c_elaborator.specs.Parts.{IsPart};
@@ -21,49 +18,14 @@ ghost use Rattle.c_elab.specs.Functions.{AreMarked, VariableThere, variable_in, 
 ghost use Rattle.c_elab.specs.Functions.{finishes, types_body, defines};
 
 use crate::parameters::open_body;
+use c_beginnings::{context_of, numbers_below};
 use c_declarators::{Param, Prototype};
 use c_elaborator::{Context, Definition, Items, Work, add_statement};
-use c_expressions::{Class, Nodes};
 use c_readings::node_at;
 use c_statements::all_items;
 use c_tree::{StmtKind, VarDef};
 use ck_base::{NoMemory, Pos, Refusal, Sequence};
 use std::alloc::Global;
-
-// ---- where the body's statements stand
-
-// What a function of a type gives, without qualifiers.
-fn given_by(nodes: &Nodes<'_>, of: u32) -> u32
-    requires whole { IsWhole nodes.now }
-    requires there { of < type_count nodes.now }
-    ensures there { result < type_count nodes.now }
-    ensures is { type_in nodes.now result ≡ given_by (type_in nodes.now of) }
-{
-    match nodes.class(of) {
-        Class::Function(gives) => nodes.bare(gives),
-        Class::Void
-        | Class::Int(_, _)
-        | Class::Cap(_)
-        | Class::Pointer(_)
-        | Class::Array(_, _)
-        | Class::Tagged(_)
-        | Class::Const(_) => of,
-    }
-}
-
-fn context_of(work: &Work<'_>, k: u32) -> Context
-    requires { IsWhole work.now.nodes }
-    ensures there { ContextThere work.now result }
-    ensures is { (s : State) → Shows work.now s →
-        context_in work.now result ≡ body_context (routine_type (slice_get s.routines k)) }
-{
-    let of = work.routine_type(k);
-    Context {
-        gives: given_by(&work.nodes, of),
-        in_loop: false,
-        breakable: false,
-    }
-}
 
 // ---- the variables
 
@@ -165,17 +127,6 @@ fn variables(work: &Work<'_>, locals: &[VarDef]) -> Result<Vec<VarDef>, NoMemory
         k = next;
     }
     Ok(all)
-}
-
-// The parameters are the first of the variables.
-fn numbers_below(alloc: Global, count: u32) -> Result<Vec<u32>, NoMemory>
-    ensures { IfOk result (λ xs. xs.items ≡ numbers_from 0 count) }
-{
-    let mut numbers = Vec::new(alloc);
-    for k in 0..count {
-        numbers.push(k)?;
-    }
-    Ok(numbers)
 }
 
 // ---- the end of a body

@@ -13,6 +13,7 @@ ghost use Rattle.c_elab.specs.Elaborated.{HasReading, Elaborated};
 ghost use Rattle.c_elab.specs.Functions.{HasState};
 
 use crate::functions::function_definition;
+use c_beginnings::greatest_depth;
 use c_elaborator::Work;
 use c_finish::finish;
 use c_readings::{first_of, node_at};
@@ -67,14 +68,6 @@ fn all_externals(work: &mut Work<'_>, kids: &[u32], depth: u32) -> Result<(), Re
     Ok(())
 }
 
-// The number of a tree's nodes. It is no deeper.
-fn node_count(tree: &Tree) -> u32
-    requires { length tree.now.nodes ≤ 67_108_864 }
-    ensures { result ≡ length tree.now.nodes }
-{
-    tree.nodes.as_slice().len() as u32
-}
-
 /// The typed program of a file's tree (C11 6.5 to 6.9), or the first rule that fails: 130 to 136 and 140.
 pub fn elab(alloc: Global, tree: &Tree, file: &[u8]) -> Result<Typed, Refusal>
     requires few { length tree.now.nodes ≤ 67_108_864 }
@@ -82,8 +75,8 @@ pub fn elab(alloc: Global, tree: &Tree, file: &[u8]) -> Result<Typed, Refusal>
     ensures { (x : Syn) → Reads tree.now file.now x → Elaborated x result }
 {
     let mut work = Work::new(alloc, file, tree)?;
+    let depth = greatest_depth(&work);
     let root = node_at(&work, tree.root);
-    let depth = node_count(tree);
     all_externals(&mut work, root.kids.as_slice(), depth)?;
     finish(work)
 }

@@ -1,12 +1,13 @@
-use Rattle.std.proofs.Common.{ℕ, sym, subst}
 use Rattle.std.proofs.lemmas.Result.{err_from_is_err_and}
 use Rattle.c_tree.specs.Programs.{parts, beginning}
 use Rattle.c_elaborator.specs.declared.work.Work.{Work}
-use Rattle.c_elab.proofs.Externals.{elaborated, elaboration_fails, root_is, root_parts, root_within, syntax_is}
+use Rattle.c_elab.proofs.Externals.{elaborated, elaboration_fails, root_is, root_parts, syntax_is}
 use Rattle.c_elab.proofs.Settled.{typed_end}
-use Rattle.c_readings.specs.Within.{PartsWithin}
 use Rattle.c_readings.proofs.Within.{kids_low, part_there}
 use Rattle.c_elab.proofs.elaboration.elab.Goals as goal
+
+pub greatest_depth-depth-requires : goal.greatest_depth-depth-requires
+greatest_depth-depth-requires c = rw c.in_ok-work.ensures.tree c.requires.few
 
 pub all_externals-requires : goal.all_externals-requires
 all_externals-requires c =
@@ -17,10 +18,8 @@ all_externals-requires c =
     record {
       shown = record { state = beginning; shows = c.in_ok-work.ensures.shows };
       whole = c.in_ok-work.ensures.whole;
-      parts =
-          subst (λ (d : ℕ). PartsWithin w d c.as_slice.result.now) (sym c.node_count-depth.ensures)
-          (rw c.as_slice.ensures (kids_low w c.args.tree.now.root c.node_at-root.result.now
-          (root_within w c.args.tree.now h.syntax c.in_ok-work.ensures.tree p) c.node_at-root.ensures));
+      parts = rw c.as_slice.ensures (kids_low w c.args.tree.now.root c.node_at-root.result.now
+          (c.greatest_depth-depth.ensures c.args.tree.now.root h.syntax p) c.node_at-root.ensures);
     }
 
 pub node_at-root-requires : goal.node_at-root-requires
@@ -29,7 +28,7 @@ node_at-root-requires c =
     let h = c.requires.readable in
     let p = root_is w c.args.tree.now c.args.file.now h.syntax c.in_ok-work.ensures.tree c.in_ok-work.ensures.file
     h.reads in
-    part_there w c.args.tree.now.root (root_within w c.args.tree.now h.syntax c.in_ok-work.ensures.tree p)
+    part_there w c.args.tree.now.root (c.greatest_depth-depth.ensures c.args.tree.now.root h.syntax p)
 
 pub finish-requires : goal.finish-requires
 finish-requires c =

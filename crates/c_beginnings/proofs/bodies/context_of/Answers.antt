@@ -1,7 +1,7 @@
 use Rattle.std.proofs.Common.{false, ap, ◌∙◌}
 use Rattle.c_tree.specs.Readings.{Context}
 use Rattle.c_tree.specs.Types.{Ty, given_by}
-use Rattle.c_elab.proofs.bodies.context_of.Goals as goal
+use Rattle.c_beginnings.proofs.bodies.context_of.Goals as goal
 
 pub returns-clause-is : goal.returns-clause-is
 returns-clause-is c = λ s h.
