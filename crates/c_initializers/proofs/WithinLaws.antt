@@ -74,6 +74,12 @@ sum-fits : (y z : ℤ) → neg_ℤ (pos (2 ^ 100)) ≤ℤ y → y ≤ℤ pos (2 
     z ≤ℤ pos (2 ^ 64) → SFits w128 (y +ℤ z)
 sum-fits y z l h i k = omega (arith, ints)
 
+pub sum-low : (y z : ℤ) → neg_ℤ (pos (2 ^ 100)) ≤ℤ y → neg_ℤ (pos (2 ^ 64)) ≤ℤ z → neg_ℤ (pos (2 ^ 101)) ≤ℤ (y +ℤ z)
+sum-low y z l i = omega (arith, ints)
+
+pub sum-high : (y z : ℤ) → y ≤ℤ pos (2 ^ 100) → z ≤ℤ pos (2 ^ 64) → (y +ℤ z) ≤ℤ pos (2 ^ 101)
+sum-high y z h k = omega (arith, ints)
+
 read : (y z : ℤ) → SFits w128 y → SFits w128 z → SFits w128 (y +ℤ z) →
     to_z w128 (of_z w128 (to_z w128 (of_z w128 y) +ℤ to_z w128 (of_z w128 z))) ≡ y +ℤ z
 read y z f g h = rw (to_z-of_z w128 y f, to_z-of_z w128 z g) (to_z-of_z w128 (y +ℤ z) h)
