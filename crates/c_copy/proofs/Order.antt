@@ -4,12 +4,9 @@ use Rattle.std.proofs.Common.{arith, length-append}
 use Rattle.std.specs.Prelude.{slice_get}
 use Rattle.c_tree.specs.declared.typed.Stmt.{Stmt}
 use Rattle.c_tree.specs.Views.{parts}
-use Rattle.c_copy.specs.Copying.{AllBelow, Extends}
+use Rattle.c_copy.specs.Copying.{AllBelow}
 use Rattle.c_copy.specs.Order.{PartsBefore}
 use Rattle.c_copy.proofs.Items.{get-push}
-
-pub extends_length : {A : Type 0} (xs ys : List A) → Extends xs ys → length xs ≤ length ys
-extends_length xs ys e = let l : length ys ≡ length (xs ++ e.0) = ap length e.1 in omega (arith, length-append xs e.0)
 
 pub wider : (n m : ℕ) (ks : List ℕ) → n ≤ m → AllBelow n ks → AllBelow m ks
 wider n m ks le h = λ j a q. let lt : a < n = h j a q in omega arith

@@ -1,23 +1,19 @@
 -- The numbers that an expression or a statement names, where its term stands.
 use Rattle.std.proofs.Common.{◌≡◌, ℕ, zero, suc, ◌<◌, ◌≤◌, List, [], ◌∷◌, ◌++◌, length, get_or, take, drop, map, Some}
 use Rattle.std.proofs.Common.{sym, ap, subst, ◌∙◌, ⊎_elim, arith}
+use Rattle.std.proofs.Math.Path.{fun_ext}
 use Rattle.std.specs.Prelude.{slice_get}
 use Rattle.std.proofs.lemmas.Bool.{cases_lt}
-use Rattle.std.proofs.lemmas.List.{length-take-le}
+use Rattle.std.proofs.lemmas.List.{length-take-le, get_or-take, get_or_past}
 use Rattle.std.proofs.lemmas.Option.{slice_get_within}
 use Rattle.c_tree.specs.declared.typed.Expr.{Expr}
-use Rattle.c_tree.specs.declared.typed.ExprKind.{ExprKind}
-use Rattle.c_tree.specs.declared.typed.ExprKind.TheVariants as exprs
 use Rattle.c_tree.specs.declared.typed.Stmt.{Stmt}
-use Rattle.c_tree.specs.Types.{Ty}
 use Rattle.c_tree.specs.Terms.{Shape, Form, Term, terms, term, Action, action, actions}
 use Rattle.c_tree.specs.Views.{forest, type_at, expr_from, no_term, term_at, stmt_from, no_action, operands}
 use Rattle.c_tree.specs.Views.{values, parts}
-use Rattle.c_copy.specs.declared.numbers.Numbers.{Numbers}
 use Rattle.c_copy.specs.Copying.{expr_shape, stmt_form, terms_in}
-use Rattle.c_copy.specs.Standing.{Stands, StandAll, ActionStands, ActionsStand, StandsIn, ActionStandsIn, NamesThere}
-use Rattle.c_copy.specs.Standing.{KindNamesThere}
-use Rattle.c_copy.proofs.Copies.{at_seam, forest_front, split_there, past_end, kind_is, action_is}
+use Rattle.c_copy.specs.Standing.{Stands, StandAll, ActionStands, ActionsStand, StandsIn, ActionStandsIn}
+use Rattle.c_copy.proofs.Copies.{length-grow, at_seam, forest_front, split_there, past_end, kind_is, action_is}
 
 -- ---- an item and those before it
 
@@ -44,6 +40,21 @@ made_of make bad ns k n e =
           ∙ forest_front make bad xs (n ∷ ys) j (omega arith));
       past = λ j l. past_end make bad xs j (omega arith);
     }
+
+-- those before it are the first of all
+pub made_of_front : {N T : Type 0} (make : N → (ℕ → T) → T) (bad : T) (ns : List N) (k : ℕ) (n : N) →
+    slice_get ns k ≡ Some n →
+    get_or (forest make bad ns) k bad ≡ make n (λ j. get_or (take k (forest make bad ns)) j bad)
+made_of_front make bad ns k n e =
+    let m = made_of make bad ns k n e in
+    let ts = forest make bad ns in
+    let count : length ts ≡ length ns = length-grow make bad ns [] ∙ omega arith in
+    let long : length (take k ts) ≡ k = length-take-le k ts (omega (arith, slice_get_within ns k n e)) in
+    let same : (λ (j : ℕ). get_or m.seen j bad) ≡ (λ (j : ℕ). get_or (take k ts) j bad) =
+    fun_ext (λ j.
+    ⊎_elim (λ lt. m.before j lt ∙ sym (get_or-take k ts j bad lt))
+    (λ le. m.past j le ∙ sym (get_or_past (take k ts) j bad (omega arith))) (cases_lt j k)) in
+    m.is ∙ ap (make n) same
 
 not_past : (j k : ℕ) → (k ≤ j → ⊥) → j < k
 not_past j k f = ⊎_elim (λ l. l) (λ l. absurd (f l)) (cases_lt j k)
@@ -90,11 +101,6 @@ operand_stands P es k e s g = λ j a q.
     let h = one_stands P (λ i. get_or m.seen i no_term) (operands e.kind) j a (node_stands P es k e s m).1 q in
     let lt = not_past a k (λ l. no_term_stands P (get_or m.seen a no_term) h (m.past a l)) in
     (lt, record { types = s.types; stands = subst (Stands P) (m.before a lt) h })
-
-pub kind_names : (t : Numbers) (ts : List Ty) (k : ExprKind) → NamesThere t (expr_shape ts k) → KindNamesThere t k
-kind_names t ts (exprs.Global k) h = h
-kind_names t ts (exprs.Fun k) h = h
-kind_names t ts _ h = tt
 
 -- ---- statements
 

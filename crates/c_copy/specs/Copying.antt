@@ -1,7 +1,8 @@
--- What a copy of expressions and statements is.
-use Rattle.std.specs.Prelude.{◌≡◌, ℕ, ◌<◌, List, ◌++◌, length, map, Option, Some, slice_get}
+-- What expressions and statements are with other numbers.
+use Rattle.std.specs.Prelude.{◌≡◌, ℕ, ◌<◌, List, ◌++◌, length, map, Option, Some, None, slice_get, slice_index_or}
 use Rattle.c_tree.specs.declared.typed.Expr.{Expr}
 use Rattle.c_tree.specs.declared.typed.ExprKind.{ExprKind}
+use Rattle.c_tree.specs.declared.typed.ExprKind.TheVariants as exprs
 use Rattle.c_tree.specs.declared.typed.Stmt.{Stmt}
 use Rattle.c_tree.specs.declared.typed.StmtKind.{StmtKind}
 use Rattle.c_tree.specs.declared.typed.StmtKind.TheVariants as stmts
@@ -9,19 +10,19 @@ use Rattle.c_tree.specs.declared.typed.Target.{Target}
 use Rattle.c_tree.specs.Types.{Ty}
 use Rattle.c_tree.specs.Terms as tree
 use Rattle.c_tree.specs.Terms.{Form, Term, Action}
-use Rattle.c_tree.specs.Views.{forest, expr_from, no_term, term_at, stmt_from, no_action, action_at, operands}
-use Rattle.c_tree.specs.Views.{values, parts, is_some, listed, same_number, label_of, aim_of}
-use Rattle.c_tree.specs.Programs.{shape_with, term_with, action_with, aim_with}
+use Rattle.c_tree.specs.Views.{forest, expr_from, no_term, stmt_from, no_action, values, parts, is_some, listed}
+use Rattle.c_tree.specs.Views.{same_number, label_of, aim_of}
+use Rattle.c_tree.specs.Programs.{aim_with}
 use Rattle.c_tree.specs.Programs as programs
 pub use Rattle.c_expression_operands.specs.Operands.{expr_shape, IsPlainWith}
 use Rattle.c_copy.specs.declared.numbers.Numbers.{Numbers}
 
 -- ---- numbers
 
--- the lists have the new numbers of what has one
+-- the lists have the new numbers, and any number behind them has the next one
 pub record AreNumbers (t : Numbers) (n : programs.Numbers) : Type 0 where
-  pub objects : (k v : ℕ) → slice_get t.objects.items k ≡ Some v → n.0 k ≡ v
-  pub functions : (k v : ℕ) → slice_get t.functions.items k ≡ Some v → n.1 k ≡ v
+  pub objects : (k : ℕ) → n.0 k ≡ slice_index_or t.objects.items k t.object_count
+  pub functions : (k : ℕ) → n.1 k ≡ slice_index_or t.functions.items k t.function_count
 
 abbrev pub AllBelow : ℕ → List ℕ → Type 0
 AllBelow k xs = (j a : ℕ) → slice_get xs j ≡ Some a → a < k
@@ -29,7 +30,28 @@ AllBelow k xs = (j a : ℕ) → slice_get xs j ≡ Some a → a < k
 abbrev pub IsTargetWith : Numbers → Target → Target → Type 0
 IsTargetWith t old new = (n : programs.Numbers) → AreNumbers t n → aim_of new ≡ aim_with n (aim_of old)
 
--- ---- what a node is beside what it names
+-- ---- expressions by the new numbers
+
+abbrev pub kind_with : programs.Numbers → ExprKind → ExprKind
+kind_with n (exprs.Global k) = exprs.Global (n.0 k)
+kind_with n (exprs.Fun k) = exprs.Fun (n.1 k)
+kind_with n k = k
+
+abbrev pub expr_with : programs.Numbers → Expr → Expr
+expr_with n e = record e { kind = kind_with n e.kind }
+
+-- none, where it names no object and no function
+abbrev pub IsKindWith : Numbers → ExprKind → Option ExprKind → Type 0
+IsKindWith t old None = (n : programs.Numbers) → kind_with n old ≡ old
+IsKindWith t old (Some new) = (n : programs.Numbers) → AreNumbers t n → kind_with n old ≡ new
+
+abbrev pub IsRenumbered : Numbers → Expr → Expr → Type 0
+IsRenumbered t old new = (n : programs.Numbers) → AreNumbers t n → new ≡ expr_with n old
+
+abbrev pub AreRenumbered : Numbers → List Expr → List Expr → Type 0
+AreRenumbered t old new = (n : programs.Numbers) → AreNumbers t n → new ≡ map (expr_with n) old
+
+-- ---- what a statement is beside what it names
 
 abbrev pub stmt_form : StmtKind → Form
 stmt_form (stmts.Expr a) = tree.Evaluate
@@ -45,12 +67,6 @@ stmt_form stmts.Continue = tree.Continue
 stmt_form (stmts.Return a) = tree.Return
 stmt_form stmts.Empty = tree.Empty
 
--- the same node with these operands, where objects and functions have new numbers
-pub record IsKindWith (t : Numbers) (old : ExprKind) (xs : List ℕ) (new : ExprKind) : Type 0 where
-  pub operands : operands new ≡ xs
-  pub shape : (n : programs.Numbers) (ts : List Ty) → AreNumbers t n →
-      expr_shape ts new ≡ shape_with n (expr_shape ts old)
-
 -- the same statement with these expressions and statements
 pub record IsStmtWith (old : StmtKind) (xs ys : List ℕ) (new : StmtKind) : Type 0 where
   pub values : values new ≡ xs
@@ -63,7 +79,7 @@ pub record AreMaybes (a b : Option ℕ) (xs : List ℕ) (new : Option ℕ × Opt
   pub first : is_some new.0 ≡ is_some a
   pub second : is_some new.1 ≡ is_some b
 
--- ---- copies
+-- ---- lists
 
 abbrev pub terms_in : List Ty → List Expr → List Term
 terms_in ts es = forest (expr_from ts) no_term es
@@ -74,25 +90,3 @@ actions_in ts es ss = forest (stmt_from (terms_in ts es)) no_action ss
 -- the second list goes on from the first
 abbrev pub Extends : {A : Type 0} → List A → List A → Type 0
 Extends xs ys = (more : List _) × (ys ≡ xs ++ more)
-
--- expression `j` of the new list, and of each list that goes on from it, is expression `k` of the old one, renumbered
-pub record IsCopy (t : Numbers) (old new : List Expr) (k j : ℕ) : Type 0 where
-  pub is : (ts : List Ty) (n : programs.Numbers) (more : List Expr) → AreNumbers t n →
-      term_at (terms_in ts (new ++ more)) j ≡ term_with n (term_at (terms_in ts old) k)
-
-pub record AreCopies (t : Numbers) (old new : List Expr) (ks js : List ℕ) : Type 0 where
-  pub are : (ts : List Ty) (n : programs.Numbers) (more : List Expr) → AreNumbers t n →
-      map (term_at (terms_in ts (new ++ more))) js ≡ map (λ k. term_with n (term_at (terms_in ts old) k)) ks
-
--- the same of statements
-pub record IsActionCopy (t : Numbers) (old_exprs : List Expr) (old : List Stmt) (exprs : List Expr) (new : List Stmt)
-    (k j : ℕ) : Type 0 where
-  pub is : (ts : List Ty) (n : programs.Numbers) (xs : List Expr) (more : List Stmt) → AreNumbers t n →
-      action_at (actions_in ts (exprs ++ xs) (new ++ more)) j
-      ≡ action_with n (action_at (actions_in ts old_exprs old) k)
-
-pub record AreActionCopies (t : Numbers) (old_exprs : List Expr) (old : List Stmt) (exprs : List Expr) (new : List Stmt)
-    (ks js : List ℕ) : Type 0 where
-  pub are : (ts : List Ty) (n : programs.Numbers) (xs : List Expr) (more : List Stmt) → AreNumbers t n →
-      map (action_at (actions_in ts (exprs ++ xs) (new ++ more))) js
-      ≡ map (λ k. action_with n (action_at (actions_in ts old_exprs old) k)) ks

@@ -1,17 +1,11 @@
 -- Terms whose numbers name what is there.
-use Rattle.std.specs.Prelude.{◌≡◌, ℕ, ◌<◌, List, length}
+use Rattle.std.specs.Prelude.{◌≡◌, ℕ, List}
 use Rattle.c_tree.specs.declared.typed.Expr.{Expr}
-use Rattle.c_tree.specs.declared.typed.ExprKind.{ExprKind}
-use Rattle.c_tree.specs.declared.typed.ExprKind.TheVariants as exprs
 use Rattle.c_tree.specs.declared.typed.Stmt.{Stmt}
-use Rattle.c_tree.specs.declared.typed.Target.{Target}
-use Rattle.c_tree.specs.declared.typed.Target.TheVariants as targets
 use Rattle.c_tree.specs.Types.{Ty}
-use Rattle.c_tree.specs.Terms as tree
 use Rattle.c_tree.specs.Terms.{Shape, Form, Term, Terms, term, no_terms, with_term, Action, Actions, action}
 use Rattle.c_tree.specs.Terms.{no_actions, with_action}
 use Rattle.c_tree.specs.Views.{no_term, term_at, action_at}
-use Rattle.c_copy.specs.declared.numbers.Numbers.{Numbers}
 use Rattle.c_copy.specs.Copying.{terms_in, actions_in}
 
 -- each part is an expression, and what it names is such
@@ -32,10 +26,6 @@ abbrev mutual
   ActionsStand P Q no_actions = Unit {0}
   ActionsStand P Q (with_action x xs) = ActionStands P Q x × ActionsStand P Q xs
 
--- any statement
-abbrev pub AnyForm : Form → Type 0
-AnyForm f = Unit {0}
-
 -- expression `k` of a list is so, whatever its type is, and statement `k`
 pub record StandsIn (P : Shape → Type 0) (es : List Expr) (k : ℕ) : Type 0 where
   pub types : List Ty
@@ -45,24 +35,3 @@ pub record ActionStandsIn (P : Shape → Type 0) (Q : Form → Type 0) (es : Lis
     Type 0 where
   pub types : List Ty
   pub stands : ActionStands P Q (action_at (actions_in types es ss) k)
-
--- ---- objects and functions that have new numbers
-
--- it names one of so many
-abbrev pub NamesWithin : (objects functions : ℕ) → Shape → Type 0
-NamesWithin objects functions (tree.Global k) = k < objects
-NamesWithin objects functions (tree.Fun k) = k < functions
-NamesWithin objects functions n = Unit {0}
-
-abbrev pub NamesThere : Numbers → Shape → Type 0
-NamesThere t n = NamesWithin (length t.objects.items) (length t.functions.items) n
-
-abbrev pub KindNamesThere : Numbers → ExprKind → Type 0
-KindNamesThere t (exprs.Global k) = k < length t.objects.items
-KindNamesThere t (exprs.Fun k) = k < length t.functions.items
-KindNamesThere t k = Unit {0}
-
-abbrev pub TargetThere : Numbers → Target → Type 0
-TargetThere t (targets.Global k) = k < length t.objects.items
-TargetThere t (targets.Fun k) = k < length t.functions.items
-TargetThere t (targets.Literal k) = Unit {0}

@@ -7,15 +7,14 @@ use Rattle.std.proofs.lemmas.Option.{same_Some, slice_get_within}
 use Rattle.c_tree.specs.declared.syntax.Tree.{Tree}
 use Rattle.c_tree.specs.Syntax.{Syn, node}
 use Rattle.c_tree.specs.Types.{Ty, Tys, no_types, also, count}
-use Rattle.c_tree.specs.Terms.{Shape, Var, Global, Fun, Term, Terms, term, no_terms, with_term, Form, Init, Block, For}
-use Rattle.c_tree.specs.Terms.{Switch, Action, Actions, action, no_actions, with_action, Aim, To_global, To_literal}
-use Rattle.c_tree.specs.Terms.{To_function, numbers_from}
+use Rattle.c_tree.specs.Terms.{Shape, Var, Term, Terms, term, no_terms, with_term, Form, Init, Block, For}
+use Rattle.c_tree.specs.Terms.{Switch, Action, Actions, action, no_actions, with_action, numbers_from}
 use Rattle.c_tree.specs.Scopes.{Aiming, Body}
 use Rattle.c_tree.specs.Scopes.{LocalState, State}
 use Rattle.c_tree.specs.Programs.{beginning, all_externals, readings, parts}
 use Rattle.c_tree.specs.Typing.{Reads}
 use Rattle.c_tree.specs.WellTyped.{Inside, inside_of, outside, count_of}
-use Rattle.c_copy.specs.Standing.{Stands, StandAll, ActionStands, ActionsStand, AnyForm, NamesWithin}
+use Rattle.c_copy.specs.Standing.{Stands, StandAll, ActionStands, ActionsStand}
 use Rattle.c_passing.specs.Passes.{VarWithin, FormWithin}
 use Rattle.typing_laws.specs.Fitting.{IsFit, AreFit}
 use Rattle.typing_laws.proofs.Accepted.{fit_of_reads}
@@ -23,10 +22,10 @@ use Rattle.typing_laws.proofs.Acts.{FormOk, ActionOk, ActionsOk}
 use Rattle.typing_laws.proofs.Ended.{outside_beginning}
 use Rattle.typing_laws.proofs.Facts.{ShapeOk, TermOk, TermsOk}
 use Rattle.typing_laws.proofs.Functions.{Outside}
-use Rattle.typing_laws.proofs.Placed.{Aims, AimingOk, AllAim}
+use Rattle.typing_laws.proofs.Placed.{AimingOk, AllAim}
 use Rattle.typing_laws.proofs.Readable.{all_good, externals_ok}
 use Rattle.typing_laws.proofs.Wholes.{ParamsFit, BodyOk, with_locals}
-use Rattle.c_finish.specs.Finished.{BodyFits, AimFits, IsTyped}
+use Rattle.c_finish.specs.Finished.{BodyFits, IsTyped}
 use Rattle.c_elab.proofs.Near.{aims_near}
 
 -- ---- the end
@@ -42,14 +41,6 @@ aim_at s n j [] a h e = absurd cc
 aim_at s n zero (b ∷ ls) a h e = subst (AimingOk s n) (same_Some b a e) h.0
 aim_at s n (suc j) (b ∷ ls) a h e = aim_at s n j ls a h.1 e
 
-aim_fits : (s : State) (n : ℕ) (a : Aiming) → AimingOk s n a → AimFits s a.aim
-aim_fits s n a h = fits a.aim h.aims
-  where
-    fits : (b : Aim) → Aims s b a.reach a.offset → AimFits s b
-    fits (To_literal k) i = tt
-    fits (To_global k) i = slice_get_within s.statics k i.0.0 i.0.1
-    fits (To_function k) i = slice_get_within s.routines k i.2 i.3
-
 params_few : (ts : Tys) (vs : List LocalState) → ParamsFit ts vs → count ts ≤ length vs
 params_few no_types vs h = omega arith
 params_few (also t ts) [] h = absurd h
@@ -59,15 +50,7 @@ numbers_length : (a n : ℕ) → length (numbers_from a n) ≡ n
 numbers_length a zero = refl
 numbers_length a (suc n) = ap suc (numbers_length (a + 1) n)
 
--- an expression that fits names objects and functions, and variables, that are there
-shape_named : (s : State) (n : Shape) (xs : Terms) (t : Ty) → ShapeOk true s n xs t →
-    NamesWithin (length s.statics) (length s.routines) n
-shape_named s (Global k) no_terms t h = slice_get_within s.statics k h.0 h.1
-shape_named s (Fun k) no_terms t h = slice_get_within s.routines k h.0 h.1
-shape_named s (Global k) (with_term x xs) t h = absurd h
-shape_named s (Fun k) (with_term x xs) t h = absurd h
-shape_named s _ xs t h = tt
-
+-- an expression that fits names variables that are there
 shape_varied : (s : State) (n : Shape) (xs : Terms) (t : Ty) → ShapeOk true s n xs t → VarWithin (length s.locals) n
 shape_varied s (Var k) no_terms t h = slice_get_within s.locals k h.0 h.1
 shape_varied s (Var k) (with_term x xs) t h = absurd h
@@ -119,7 +102,7 @@ mutual
   actions_stand P Q s t is form i (with_action x xs) h =
       (action_stands P Q s t is form i x h.0, actions_stand P Q s t is form i xs h.1)
 
-body_fits : (s : State) (t : Ty) (b : Body) → BodyOk s t b → BodyFits s b
+body_fits : (s : State) (t : Ty) (b : Body) → BodyOk s t b → BodyFits b
 body_fits s t b h =
     let few : count h.takes ≤ length b.vars = params_few h.takes b.vars h.fit in
     let own : State = with_locals s b.vars in
@@ -130,16 +113,12 @@ body_fits s t b h =
       place = h.block.2;
       is = h.block.3;
       params = omega arith;
-      names = action_stands (NamesWithin (length s.statics) (length s.routines)) AnyForm own h.gives (shape_named own)
-          (λ i f xs n g. tt) outside b.action h.body;
       variables = action_stands (VarWithin (length b.vars)) (FormWithin (length b.vars)) own h.gives (shape_varied own)
           (form_varied own h.gives) outside b.action h.body;
     }
 
 typed_outside : (s : State) → Outside s → IsTyped s
 typed_outside s o = record {
-  aims = λ k j g i a e f q. let b = o.strict.begins k g i e f in
-      aim_fits s b.0.size a (aim_at s b.0.size j i.1 a b.2.links q);
   near = λ n k j g i a e f q. let b = o.strict.begins k g i e f in
       let h = aim_at s b.0.size j i.1 a b.2.links q in aims_near s n a.aim a.reach a.offset h.aims;
   bodies = λ k f b e i. body_fits s f.of b (o.strict.bodies k f b e i);

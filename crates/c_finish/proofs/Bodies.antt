@@ -1,10 +1,11 @@
 -- The functions of the program as it is written have bodies that can be passed.
-use Rattle.std.proofs.Common.{◌≡◌, ℕ, zero, suc, ◌≤◌, List, [], ◌∷◌, ◌++◌, length, map, Option, Some, None, refl, sym}
-use Rattle.std.proofs.Common.{ap, subst, ◌∙◌, arith}
+use Rattle.std.proofs.Common.{◌≡◌, ℕ, zero, suc, ◌<◌, ◌≤◌, List, [], ◌∷◌, ◌++◌, length, map, Option, Some, None, refl}
+use Rattle.std.proofs.Common.{sym, ap, subst, ◌∙◌, arith}
 use Rattle.std.specs.Prelude.{slice_get, option_map, flat_map}
 use Rattle.std.proofs.lemmas.Option.{same_Some, slice_get-map}
 use Rattle.std.proofs.lemmas.List.{length-map}
 use Rattle.ck_base.specs.declared.positions.Pos.{Pos}
+use Rattle.c_tree.specs.declared.typed.FunDef.{FunDef}
 use Rattle.c_tree.specs.declared.typed.StmtKind.{StmtKind}
 use Rattle.c_tree.specs.declared.typed.StmtKind.TheVariants as stmts
 use Rattle.c_tree.specs.declared.typed.Typed.{Typed}
@@ -24,7 +25,7 @@ use Rattle.c_elaborator.specs.declared.work.Work.{Work}
 use Rattle.c_copy.specs.Standing.{Stands, StandAll, ActionStands, ActionsStand}
 use Rattle.c_passing.specs.Passes.{VarWithin, FormWithin}
 use Rattle.c_passing.specs.Routines.{IsBlock, HaveBodies}
-use Rattle.c_finish.specs.Finished.{BodyFits, IsShown, IsWritten, BodiesThere}
+use Rattle.c_finish.specs.Finished.{BodyFits, IsShown, IsWritten}
 
 each_append : {A : Type 0} (P : A → Type 0) (xs ys : List A) → ((k : ℕ) (x : A) → slice_get xs k ≡ Some x → P x) →
     ((k : ℕ) (y : A) → slice_get ys k ≡ Some y → P y) → (k : ℕ) (y : A) → slice_get (xs ++ ys) k ≡ Some y → P y
@@ -85,7 +86,7 @@ record Blocked (r : Routine) : Type 0 where
   is : r.body ≡ action (Block vars) terms parts place
   within : ActionStands (VarWithin (length r.vars)) (FormWithin (length r.vars)) r.body
 
-with_blocked : (s : State) (f : RoutineState) (o : Option Body) → ((b : Body) → o ≡ Some b → BodyFits s b) →
+with_blocked : (s : State) (f : RoutineState) (o : Option Body) → ((b : Body) → o ≡ Some b → BodyFits b) →
     (j : ℕ) (r : Routine) → slice_get (with_body s f o) j ≡ Some r → Blocked r
 with_blocked s f None h j r e = absurd cc
 with_blocked s f (Some b) h (suc j) r e = absurd cc
@@ -127,7 +128,11 @@ block_kind es stmts.Continue q p go vs xs ys e = absurd cc
 block_kind es (stmts.Return a) q p go vs xs ys e = absurd cc
 block_kind es stmts.Empty q p go vs xs ys e = absurd cc
 
-pub bodies_written : (w : Work) (p : Typed) → IsShown w → IsWritten w p → BodiesThere p.stmts p.funs → HaveBodies p
+-- the bodies of functions are among the statements
+abbrev pub BodiesIn : Typed → Type 0
+BodiesIn p = (k : ℕ) (f : FunDef) → slice_get p.funs k ≡ Some f → f.body < length p.stmts
+
+pub bodies_written : (w : Work) (p : Typed) → IsShown w → IsWritten w p → BodiesIn p → HaveBodies p
 unfolding program_of
 bodies_written w p h written bodies = λ k f e.
     let s = h.state in
@@ -146,8 +151,7 @@ bodies_written w p h written bodies = λ k f e.
       block = λ x g.
           let r = forest_reads (stmt_from (terms_of p)) no_action p.stmts f.body x g in
           block_kind (terms_of p) x.kind x.pos b.place _ b.vars b.terms b.parts (sym r.is ∙ b.is);
-      there = bodies.there k f e;
-      order = bodies.order;
+      there = bodies k f e;
       stands = record {
         types = ts;
         stands = subst (λ m. ActionStands (VarWithin m) (FormWithin m) (action_at (actions_of p) f.body))

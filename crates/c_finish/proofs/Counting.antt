@@ -1,7 +1,10 @@
 -- Numbers that count what passes a test.
-use Rattle.std.proofs.Common.{◌≡◌, ℕ, zero, suc, ◌+◌, ◌≤◌, Bool, true, false, List, [], ◌∷◌, ◌++◌, length, Some, refl}
-use Rattle.std.proofs.Common.{sym, ap, ◌∙◌, ◌⊎◌, inl, inr, ⊎_elim, arith, add-one, length-append}
+use Rattle.std.proofs.Common.{◌≡◌, ℕ, zero, suc, ◌+◌, ◌≤◌, Bool, true, false, List, [], ◌∷◌, ◌++◌, length, get_or}
+use Rattle.std.proofs.Common.{Some, refl, sym, ap, ◌∙◌, ◌⊎◌, inl, inr, ⊎_elim, arith, add-one, length-append}
 use Rattle.std.specs.Prelude.{slice_get, if◌then◌else◌}
+use Rattle.std.proofs.lemmas.Bool.{cases_lt}
+use Rattle.std.proofs.lemmas.List.{get_or_past}
+use Rattle.std.proofs.lemmas.Option.{slice_get-get_or}
 use Rattle.c_tree.specs.Programs.{count_before}
 
 pub count_zero : {A : Type 0} (test : A → Bool) (xs : List A) → count_before test xs 0 ≡ 0
@@ -44,6 +47,20 @@ pub filled_push : (f : ℕ → ℕ) (xs ys : List ℕ) (n k : ℕ) → ys ≡ xs
     ((j v : ℕ) → slice_get xs j ≡ Some v → f j ≡ v) → f k ≡ n → (j v : ℕ) → slice_get ys j ≡ Some v → f j ≡ v
 filled_push f xs ys n k e l h q j v g =
     ⊎_elim (λ a. h j v a) (λ a. ap f (a.0 ∙ l) ∙ q ∙ a.1) (get-push xs n j v (ap (λ zs. slice_get zs j) (sym e) ∙ g))
+
+-- behind all
+pub count_behind : {A : Type 0} (test : A → Bool) (xs : List A) (k : ℕ) → length xs ≤ k →
+    count_before test xs k ≡ count_before test xs (length xs)
+count_behind test [] k le = refl
+count_behind test (x ∷ xs) zero le = absurd (omega arith)
+count_behind test (x ∷ xs) (suc k) le = ap (λ n. if test x then n + 1 else n) (count_behind test xs k (omega arith))
+
+-- a list of numbers, and the one of all that stands behind it
+pub filled_all : (f : ℕ → ℕ) (xs : List ℕ) (n : ℕ) → ((j v : ℕ) → slice_get xs j ≡ Some v → f j ≡ v) →
+    ((j : ℕ) → length xs ≤ j → f j ≡ n) → (k : ℕ) → f k ≡ get_or xs k n
+filled_all f xs n g h k =
+    ⊎_elim (λ lt. g k (get_or xs k n) (slice_get-get_or xs k n lt)) (λ le. h k le ∙ sym (get_or_past xs k n le))
+    (cases_lt k (length xs))
 
 pub nothing_filled : (xs : List ℕ) (j v : ℕ) (f : ℕ → ℕ) → xs ≡ [] → slice_get xs j ≡ Some v → f j ≡ v
 nothing_filled xs j v f e g = let z : slice_get [] j ≡ Some v = ap (λ ys. slice_get ys j) (sym e) ∙ g in absurd cc

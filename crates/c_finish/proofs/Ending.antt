@@ -1,82 +1,55 @@
 -- The finished program is that of the state.
-use Rattle.std.proofs.Common.{◌≡◌, ℕ, ◌+◌, ◌<◌, Bool, List, [], ◌++◌, length, map, Option, Some, None, Ok, Err, sym, ap}
+use Rattle.std.proofs.Common.{◌≡◌, ℕ, Bool, List, length, map, Option, Some, None, Ok, Err, sym, ap}
 use Rattle.std.proofs.Common.{subst, ◌∙◌, arith}
-use Rattle.std.specs.Prelude.{Result, slice_get, flat_map, if◌then◌else◌}
+use Rattle.std.specs.Prelude.{Result, flat_map, if◌then◌else◌}
 use Rattle.ck_base.specs.declared.refusal.Refusal.{Refusal}
-use Rattle.std.specs.List.{position_or_len}
-use Rattle.std.proofs.lemmas.List.{append-nil, take_all}
+use Rattle.std.proofs.lemmas.List.{take_all}
 use Rattle.c_tree.specs.declared.syntax.Tree.{Tree}
-use Rattle.c_tree.specs.declared.typed.Expr.{Expr}
-use Rattle.c_tree.specs.declared.typed.Stmt.{Stmt}
-use Rattle.c_tree.specs.declared.typed.GlobalDef.{GlobalDef}
-use Rattle.c_tree.specs.declared.typed.FunDef.{FunDef}
 use Rattle.c_tree.specs.declared.typed.Typed.{Typed}
 use Rattle.c_tree.specs.Syntax.{Syn, StandsAt}
 use Rattle.c_tree.specs.Scopes.{Fault, State}
 use Rattle.c_tree.specs.Passed.{Names, passed_program, call_name, calls_in}
 use Rattle.c_tree.specs.Views.{types_of, routine_of}
 use Rattle.c_tree.specs.Views as views
-use Rattle.c_tree.specs.Programs.{fault, file_begins, numbers_of, program_of, ended, is_main}
+use Rattle.c_tree.specs.Terms.{Action}
+use Rattle.c_tree.specs.Programs.{fault, file_begins, numbers_of, program_of, ended}
 use Rattle.c_tree.specs.Programs as programs
 use Rattle.c_elaborator.specs.declared.work.Work.{Work}
 use Rattle.c_elaborator.specs.Work.{Shows}
-use Rattle.c_copy.specs.declared.numbers.Numbers.{Numbers}
-use Rattle.c_copy.specs.Copying.{actions_in}
+use Rattle.c_copy.specs.Copying.{AreNumbers}
+use Rattle.c_copy.proofs.Renumbering.{actions_renumbered}
 use Rattle.c_passing.specs.Routines.{IsPassedProgram}
 use Rattle.c_finish.specs.declared.file_end.Parts.{Parts}
 use Rattle.c_file_rules.specs.MainFunction.{IsMain}
-use Rattle.c_file_rules.proofs.MainFunction.{place_there}
-use Rattle.c_file_rules.proofs.Shown.{routines_count}
 use Rattle.c_finish.specs.Finished.{IsFinished, Finished, IsShown, IsWritten, IsSyntax, IsProgram, HaveNumbers}
-use Rattle.c_finish.specs.Finished.{AreObjects, AreRoutines, EndsIn}
+use Rattle.c_finish.specs.Finished.{AreObjects, AreRoutines, program_with, IsAssembled, AreParts, EndsIn}
+use Rattle.c_finish.proofs.Bodies.{BodiesIn}
 use Rattle.c_finish.proofs.Records.{tag_agrees}
 
-abbrev made : Work → List GlobalDef → List FunDef → List Expr → List Stmt → ℕ → Typed
-made w gs fs es ss v = record {
-  types = w.nodes.p.types;
-  globals = gs;
-  literals = w.nodes.p.literals;
-  funs = fs;
-  exprs = es;
-  stmts = ss;
-  main = v;
-}
-
-shows_made : (w : Work) (t : Numbers) (gs : List GlobalDef) (fs : List FunDef) (es : List Expr) (ss : List Stmt)
-    (k v : ℕ) (s : State) → HaveNumbers w t → slice_get t.functions.items k ≡ Some v → IsMain w (Some k) →
-    AreObjects w gs → AreRoutines w es ss s (length s.routines) fs →
-    Shows w s → views.Shows (made w gs fs es ss v) (program_of s)
+-- the program of the parts is that of the state
+pub parts_shown : (w : Work) (x : Parts) (k : ℕ) (s : State) → HaveNumbers w x.numbers →
+    ((n : programs.Numbers) → AreNumbers x.numbers n → n.1 k ≡ x.main) → IsMain w (Some k) →
+    AreObjects w x.globals.items → AreRoutines w s (length s.routines) x.funs.items → Shows w s →
+    views.Shows (program_with w x (numbers_of s)) (program_of s)
 unfolding program_of
-shows_made w t gs fs es ss k v s n e m o r h =
+parts_shown w x k s n e m o r h =
     let ts = types_of w.nodes.p.types in
     record {
       tags = λ j c g. tag_agrees w s j c h g;
       objects = o s h;
       texts = h.texts;
-      routines = ap (λ (xs : List Expr). map (routine_of ts (actions_in ts xs ss)) fs) (sym (append-nil es))
-          ∙ ap (λ (ys : List Stmt). map (routine_of ts (actions_in ts (es ++ []) ys)) fs) (sym (append-nil ss))
-          ∙ r.are [] [] ∙ ap (flat_map (programs.routine_of s)) (take_all (length s.routines) s.routines (omega arith));
-      main = sym ((n.fit s h).functions k v e) ∙ ap (numbers_of s).1 (sym (m s h).1);
+      routines = ap (λ (xs : List Action). map (routine_of ts xs) x.funs.items)
+          (actions_renumbered (numbers_of s) ts w.nodes.p.exprs w.nodes.p.stmts)
+          ∙ r ∙ ap (flat_map (programs.routine_of s)) (take_all (length s.routines) s.routines (omega arith));
+      main = sym (e (numbers_of s) (n s h)) ∙ ap (numbers_of s).1 (sym (m s h).1);
     }
 
-pub written_is : (w : Work) (p : Typed) (t : Numbers) (gs : List GlobalDef) (fs : List FunDef) (es : List Expr)
-    (ss : List Stmt) (k v : ℕ) → p ≡ made w gs fs es ss v → HaveNumbers w t →
-    slice_get t.functions.items k ≡ Some v → IsMain w (Some k) → AreObjects w gs →
-    ((s : State) → Shows w s → AreRoutines w es ss s (length s.routines) fs) → IsWritten w p
-written_is w p t gs fs es ss k v q n e m o r =
-    λ s h. subst (λ (x : Typed). views.Shows x (program_of s)) (sym q)
-    (shows_made w t gs fs es ss k v s n e m o (r s h) h)
+pub written_is : (w : Work) (x : Parts) (p : Typed) → AreParts w x → IsAssembled w x p → IsWritten w p
+written_is w x p a e = λ s h.
+    subst (λ (q : Typed). views.Shows q (program_of s)) (sym (e (numbers_of s) (a.numbers s h))) (a.written s h)
 
--- the number of `main` is that of a function, and there is a new one
-pub main_there : (w : Work) (t : Numbers) (k : ℕ) → IsShown w → IsMain w (Some k) → HaveNumbers w t →
-    k < length t.functions.items
-main_there w t k h m n =
-    let e = m h.state h.shows in
-    let a : position_or_len is_main h.state.routines < length h.state.routines = place_there h.state.routines e.0 in
-    let b : position_or_len is_main h.state.routines ≡ k = e.1 in
-    let c : length w.nodes.p.funs ≡ length h.state.routines = routines_count w h.state h.shows in
-    let d : length t.functions.items ≡ length w.nodes.p.funs = n.functions in
-    omega arith
+pub bodies_are : (w : Work) (x : Parts) (p : Typed) → IsShown w → AreParts w x → IsAssembled w x p → BodiesIn p
+bodies_are w x p h a e = subst BodiesIn (sym (e (numbers_of h.state) (a.numbers h.state h.shows))) a.bodies
 
 pub program_is : (w : Work) (tree : Tree) (p q : Typed) → tree ≡ w.tree.now → IsWritten w p → IsPassedProgram tree p q →
     IsProgram w q

@@ -6,7 +6,6 @@ use Rattle.std.proofs.lemmas.List.{take_more, take_all, map-append, append-nil}
 use Rattle.std.proofs.lemmas.Grind.{flat_map-append}
 use Rattle.std.proofs.lemmas.Option.{slice_get_within, get_or_from_slice_get, slice_get-map}
 use Rattle.c_tree.specs.declared.typed.Target.{Target}
-use Rattle.c_tree.specs.declared.typed.Target.TheVariants as targets
 use Rattle.c_tree.specs.declared.typed.Link.{Link}
 use Rattle.c_tree.specs.declared.typed.GlobalDef.{GlobalDef}
 use Rattle.c_tree.specs.Terms.{Aim, Pointing, Object}
@@ -20,12 +19,9 @@ use Rattle.c_elaborator.specs.declared.work.Filling.{Filling}
 use Rattle.c_elaborator.specs.declared.work.Work.{Work}
 use Rattle.c_elaborator.specs.Work.{Shows, aiming_of, filling_of}
 use Rattle.c_elaborator.specs.Work as works
-use Rattle.c_copy.specs.declared.numbers.Numbers.{Numbers}
-use Rattle.c_copy.specs.Standing.{TargetThere}
 use Rattle.c_file_rules.proofs.Backwards.{at_some}
-use Rattle.c_file_rules.proofs.Shown.{static_is, statics_count, routines_count}
-use Rattle.c_finish.specs.Finished.{filled, AimFits, IsShown, IsFaultless, IsNear, AreNear, TargetFits, StartsFit}
-use Rattle.c_finish.specs.Finished.{HaveNumbers}
+use Rattle.c_file_rules.proofs.Shown.{static_is, statics_count}
+use Rattle.c_finish.specs.Finished.{filled, IsShown, IsFaultless, IsNear, AreNear}
 use Rattle.c_finish.specs.Tables.{last_filling}
 
 -- ---- pointers
@@ -99,29 +95,7 @@ filling_from k (f ∷ fs) o = rw (chosen f o (f.object == k)) (filling_from k fs
 pub filling_is : (k : ℕ) (fs : List Filling) → filling_of k fs ≡ option_map filled (last_filling k fs)
 filling_is k fs = filling_from k fs None
 
-target_fits : (w : Work) (s : State) (t : Target) → Shows w s → AimFits s (aim_of t) → TargetFits w t
-target_fits w s (targets.Literal k) h a = tt
-target_fits w s (targets.Global k) h a = let n = statics_count w s h in let l : k < length s.statics = a in omega arith
-target_fits w s (targets.Fun k) h a = let n = routines_count w s h in let l : k < length s.routines = a in omega arith
-
--- what is pointed to has a new number
-pub target_there : (w : Work) (n : Numbers) (t : Target) → HaveNumbers w n → TargetFits w t → TargetThere n t
-target_there w n (targets.Global k) h f = let c = h.objects in let l : k < length w.nodes.p.globals = f in omega arith
-target_there w n (targets.Fun k) h f = let c = h.functions in let l : k < length w.nodes.p.funs = f in omega arith
-target_there w n (targets.Literal k) h f = tt
-
--- what an object's initial value points to is there
-pub starts_fit : (w : Work) (k : ℕ) (f : Filling) → IsShown w → k < length w.nodes.p.globals →
-    last_filling k w.fillings.items ≡ Some f → StartsFit w f.starts.items
-starts_fit w k f h lt e = λ j x g.
-    let s = h.state in
-    let n = statics_count w s h.shows in
-    let z = at_some s.statics k (omega arith) in
-    let initial = h.shows.fillings k z.0 z.1 ∙ filling_is k w.fillings.items ∙ ap (option_map filled) e in
-    let at = slice_get-map aiming_of f.starts.items j ∙ ap (option_map aiming_of) g in
-    target_fits w s x.target h.shows (h.typed.aims k j z.0 (filled f) (aiming_of x) z.1 initial at)
-
--- and are near, where no rule fails
+-- what an object's initial value points to is near, where no rule fails
 pub starts_near : (w : Work) (k : ℕ) (f : Filling) → IsShown w → IsFaultless w → k < length w.nodes.p.globals →
     last_filling k w.fillings.items ≡ Some f → AreNear f.starts.items
 starts_near w k f h o lt e = λ j x g.

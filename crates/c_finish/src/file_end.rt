@@ -1,6 +1,6 @@
 //! The end of a file (C11 6.9).
 
-ghost use Rattle.std.specs.Prelude.{◌≡◌, ◌<◌, Some, None, IfOk, length, slice_get};
+ghost use Rattle.std.specs.Prelude.{Some, None, IfOk};
 ghost use Rattle.c_tree.specs.Syntax.{Syn};
 ghost use Rattle.c_tree.specs.Scopes.{State};
 ghost use Rattle.c_tree.specs.Passed.{call_name, calls_in};
@@ -10,14 +10,13 @@ ghost use Rattle.c_elaborator.specs.Work.{Shows};
 ghost use Rattle.c_passing.specs.Named.{HasSyntax};
 ghost use Rattle.c_file_rules.specs.MainFunction.{IsMain};
 ghost use Rattle.c_file_rules.specs.Tables.{HasDefinitions};
-ghost use Rattle.c_finish.specs.Finished.{Finished, IsShown, IsFaultless, IsSyntax, program_with, AreParts};
-ghost use Rattle.c_finish.specs.Finished.{EndsIn};
+ghost use Rattle.c_finish.specs.Finished.{Finished, IsShown, IsFaultless, IsSyntax, IsAssembled, AreParts, EndsIn};
 
 use crate::numbering::new_numbers;
 use crate::objects::objects;
 use crate::routines::routines;
 use crate::tables::{first_uses, last_definitions, last_fillings};
-use c_copy::{Copied, Numbers};
+use c_copy::Numbers;
 use c_elaborator::Work;
 use c_file_rules::{last_fault, main_of};
 use c_passing::pass;
@@ -27,41 +26,32 @@ use ck_base::{NoMemory, Pos, Refusal, Sequence};
 /// What the end of a file makes for the written program.
 #[derive(Drop)]
 pub(crate) struct Parts {
+    pub numbers: Numbers,
     pub globals: Vec<GlobalDef>,
     pub funs: Vec<FunDef>,
-    pub copied: Copied,
     pub main: u32,
 }
 
-fn number_of_main(numbers: &Numbers, k: u32) -> u32
-    requires { k < length numbers.now.functions.items }
-    ensures { slice_get numbers.now.functions.items k ≡ Some result }
-{
-    match numbers.functions.get(k as usize).copied() {
-        Some(v) => v,
-        None => unreachable!(),
-    }
-}
-
-// The written program of a work with these parts.
+// The written program of a work with these parts, whose expressions get the new numbers where they stand.
 fn assembled(work: Work<'_>, parts: Parts) -> Typed
-    ensures { result ≡ program_with work.entry parts }
+    ensures { IsAssembled work.entry parts result }
 {
     let Parts {
+        numbers,
         globals,
         funs,
-        copied,
         main,
     } = parts;
-    let Copied { exprs, stmts } = copied;
     let p = work.nodes.p;
+    let mut exprs = p.exprs.into_vec();
+    numbers.renumber(&mut exprs);
     Typed {
         types: p.types,
         globals: Sequence::from_vec(globals),
         literals: p.literals,
         funs: Sequence::from_vec(funs),
         exprs: Sequence::from_vec(exprs),
-        stmts: Sequence::from_vec(stmts),
+        stmts: p.stmts,
         main,
     }
 }
@@ -74,20 +64,15 @@ fn parts_of(work: &Work<'_>, definitions: &[Option<u32>], main: u32) -> Result<P
     requires faultless { IsFaultless work.now }
     ensures { IfOk result (AreParts work.now) }
 {
-    let alloc = work.nodes.alloc;
     let numbers = new_numbers(work, definitions)?;
-    let main = number_of_main(&numbers, main);
+    let main = numbers.function(main);
     let fillings = last_fillings(work)?;
     let globals = objects(work, &numbers, fillings.as_slice())?;
-    let mut copied = Copied {
-        exprs: Vec::new(alloc),
-        stmts: Vec::new(alloc),
-    };
-    let funs = routines(work, &numbers, definitions, &mut copied)?;
+    let funs = routines(work, definitions)?;
     Ok(Parts {
+        numbers,
         globals,
         funs,
-        copied,
         main,
     })
 }

@@ -1,6 +1,6 @@
 //! The numbers of the objects and functions that are defined.
 
-ghost use Rattle.std.specs.Prelude.{IfOk, ◌≡◌, ◌+◌, ◌<◌, ℕ, Some, length, slice_get, if◌then◌else◌};
+ghost use Rattle.std.specs.Prelude.{IfOk, ◌≡◌, ◌+◌, ◌<◌, ℕ, length, slice_index_or, if◌then◌else◌};
 ghost use Rattle.c_tree.specs.Scopes.{State};
 ghost use Rattle.c_tree.specs.Programs.{numbers_of, is_there};
 ghost use Rattle.c_elaborator.specs.Work.{Shows, definition_of};
@@ -19,10 +19,10 @@ fn one_more(test: bool, n: u32) -> u32
     if test { n + 1 } else { n }
 }
 
-fn numbers_of_objects(work: &Work<'_>) -> Result<Vec<u32>, NoMemory>
-    ensures count { IfOk result (λ t. length t.items ≡ length work.now.nodes.p.globals) }
-    ensures are { IfOk result (λ t. (s : State) → Shows work.now s → (k v : ℕ) → slice_get t.items k ≡ Some v →
-        (numbers_of s).0 k ≡ v) }
+// The new number of each object, and how many there are: the number of any that stands behind them.
+fn numbers_of_objects(work: &Work<'_>) -> Result<(Vec<u32>, u32), NoMemory>
+    ensures { IfOk result (λ t. (s : State) → Shows work.now s → (k : ℕ) →
+        (numbers_of s).0 k ≡ slice_index_or t.0.items k t.1) }
 {
     let n = count(work.nodes.p.globals.as_slice().len())?;
     let mut table = Vec::new(work.nodes.alloc);
@@ -31,14 +31,17 @@ fn numbers_of_objects(work: &Work<'_>) -> Result<Vec<u32>, NoMemory>
         table.push(next)?;
         next = one_more(work.nodes.scopes.is_defined(k), next);
     }
-    Ok(table)
+    Ok((table, next))
 }
 
-fn numbers_of_functions(work: &Work<'_>, definitions: &[Option<u32>]) -> Result<Vec<u32>, NoMemory>
+// The same of functions.
+fn numbers_of_functions(
+    work: &Work<'_>,
+    definitions: &[Option<u32>],
+) -> Result<(Vec<u32>, u32), NoMemory>
     requires { HasDefinitions work.now definitions.now }
-    ensures count { IfOk result (λ t. length t.items ≡ length work.now.nodes.p.funs) }
-    ensures are { IfOk result (λ t. (s : State) → Shows work.now s → (k v : ℕ) → slice_get t.items k ≡ Some v →
-        (numbers_of s).1 k ≡ v) }
+    ensures { IfOk result (λ t. (s : State) → Shows work.now s → (k : ℕ) →
+        (numbers_of s).1 k ≡ slice_index_or t.0.items k t.1) }
 {
     let n = count(work.nodes.p.funs.as_slice().len())?;
     let mut table = Vec::new(work.nodes.alloc);
@@ -48,7 +51,7 @@ fn numbers_of_functions(work: &Work<'_>, definitions: &[Option<u32>]) -> Result<
         let is_there = is_defined(work, definitions, k);
         next = one_more(is_there, next);
     }
-    Ok(table)
+    Ok((table, next))
 }
 
 // Whether a function has a body.
@@ -69,7 +72,12 @@ pub(crate) fn new_numbers(work: &Work<'_>, definitions: &[Option<u32>]) -> Resul
     requires { HasDefinitions work.now definitions.now }
     ensures { IfOk result (HaveNumbers work.now) }
 {
-    let objects = numbers_of_objects(work)?;
-    let functions = numbers_of_functions(work, definitions)?;
-    Ok(Numbers { objects, functions })
+    let (objects, object_count) = numbers_of_objects(work)?;
+    let (functions, function_count) = numbers_of_functions(work, definitions)?;
+    Ok(Numbers {
+        objects,
+        functions,
+        object_count,
+        function_count,
+    })
 }

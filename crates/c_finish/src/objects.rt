@@ -10,8 +10,8 @@ ghost use Rattle.c_tree.specs.Views as views;
 ghost use Rattle.c_elaborator.specs.declared.work.Filling.{Filling as Given};
 ghost use Rattle.c_elaborator.specs.Work.{Shows, aiming_of};
 ghost use Rattle.c_elaborator.specs.Work as works;
-ghost use Rattle.c_finish.specs.Finished.{IsShown, IsFaultless, IsNear, AreNear, TargetFits, StartsFit, HaveNumbers};
-ghost use Rattle.c_finish.specs.Finished.{AreObjects, AddsObject, filled};
+ghost use Rattle.c_finish.specs.Finished.{IsShown, IsFaultless, IsNear, AreNear, HaveNumbers, AreObjects, AddsObject};
+ghost use Rattle.c_finish.specs.Finished.{filled};
 ghost use Rattle.c_finish.specs.Tables.{HasFillings};
 
 use crate::tables::filling;
@@ -51,7 +51,6 @@ fn offset_of(offset: i128) -> i64
 
 fn link_of(work: &Work<'_>, numbers: &Numbers, start: Start) -> Link
     requires numbers { HaveNumbers work.now numbers.now }
-    requires fits { TargetFits work.now start.target }
     requires near { IsNear (works.reach_of start.bounds) start.offset }
     ensures { (s : State) → Shows work.now s → views.pointing_of result ≡ pointing_of s (aiming_of start) }
 {
@@ -81,7 +80,6 @@ fn start_at(starts: &[Start], i: usize) -> Start
 
 fn links_of(work: &Work<'_>, numbers: &Numbers, starts: &[Start]) -> Result<Vec<Link>, NoMemory>
     requires numbers { HaveNumbers work.now numbers.now }
-    requires fit { StartsFit work.now starts.now }
     requires near { AreNear starts.now }
     ensures { IfOk result (λ ls. (s : State) → Shows work.now s →
         map views.pointing_of ls.items ≡ map (pointing_of s) (map aiming_of starts.now)) }
@@ -102,8 +100,6 @@ fn initial(
     given: Option<&Filling>,
 ) -> Result<(Vec<u8>, Vec<Link>), NoMemory>
     requires numbers { HaveNumbers work.now numbers.now }
-    requires fit { (f : Given) → option_map (λ (f : Bor Given). f.now) given ≡ Some f →
-        StartsFit work.now f.starts.items }
     requires near { (f : Given) → option_map (λ (f : Bor Given). f.now) given ≡ Some f → AreNear f.starts.items }
     ensures { IfOk result (λ x. (s : State) → Shows work.now s →
         initial_of s (option_map filled (option_map (λ (f : Bor Filling). f.now) given.entry))

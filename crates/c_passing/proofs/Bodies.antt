@@ -14,7 +14,7 @@ use Rattle.c_tree.specs.Terms.{Variable, terms, Action, action, actions, Routine
 use Rattle.c_tree.specs.Views.{stmt_from, no_action, action_at, variable_of, routine_of}
 use Rattle.c_tree.specs.Passed.{Names, Passing, hidden_of, passed_action, passing, param_copies, opened, passed_body}
 use Rattle.c_tree.specs.Passed.{passed_routine, result_pointer, written_params, copied_params, named_variables}
-use Rattle.c_copy.specs.Copying.{Extends, AllBelow, actions_in, terms_in}
+use Rattle.c_copy.specs.Copying.{Extends, actions_in, terms_in}
 use Rattle.c_copy.proofs.Copies.{forest_front, longer, extends_then, extends_push}
 use Rattle.c_copy.proofs.Order.{at_end}
 use Rattle.c_copy.proofs.Items.{get-push}
@@ -23,7 +23,7 @@ use Rattle.passing_steps.specs.declared.nodes.Made.{Made}
 use Rattle.c_passing.specs.declared.functions.Whole.{Whole}
 use Rattle.c_passing.specs.declared.functions.Standing.{Standing}
 use Rattle.c_passing.specs.Lists.{hidden_of_each, passed_each_action, copies_of}
-use Rattle.c_passing.specs.Passes.{written_action, AddsActions, ArePassedActions}
+use Rattle.c_passing.specs.Passes.{written_action, written_before, AddsActions, ArePassedActions}
 use Rattle.c_passing.specs.Routines.{WholeFits, written_routine, source_routine, source_variable, IsNamed}
 use Rattle.c_passing.specs.Routines.{AreParamCopies, IsBody, FunctionTyped, IsFunction, AreFunctions}
 use Rattle.c_passing.proofs.Hiding.{copies_list}
@@ -41,7 +41,6 @@ pub record BodySteps (s : Source) (f : FunDef) (old a b new : Made) (d : Stmt) (
     (params : List VarDef) (before local other hid end j : ℕ) : Type 0 where
   pub there : slice_get s.program.now.stmts f.body ≡ Some d
   pub is : d.kind ≡ stmts.Block vars body
-  pub below : AllBelow f.body body
   pub params_are : params ≡ take (length f.params) f.vars
   pub before_is : before ≡ length (result_pointer (source_routine s f))
   pub local_is : local ≡ length f.params + before
@@ -49,35 +48,33 @@ pub record BodySteps (s : Source) (f : FunDef) (old a b new : Made) (d : Stmt) (
   pub hidden_is : hid ≡ length old.vars.items
   pub end_is : end ≡ length b.vars.items
   pub copies : AreParamCopies s old a before local (map (source_variable s) params) [] js
-  pub inner : AddsActions s a b (λ names. hidden_of_each names (map (written_action s) body))
-      (ArePassedActions s a b (map (written_action s) body) js ls)
+  pub inner : AddsActions s a b (λ names. hidden_of_each names (map (written_before s f.body) body))
+      (ArePassedActions s a b (map (written_before s f.body) body) js ls)
   pub block_vars : AreBlockVars s (local, other) vars (hid, end) vs
   pub pushed : new.stmts.items ≡ b.stmts.items ++ record { kind = stmts.Block vs ls; pos = d.pos } ∷ []
   pub number : j ≡ length b.stmts.items
   pub rest : new ≡ record b { stmts = new.stmts }
 
 body_read : (s : Source) (f : FunDef) (d : Stmt) (vars body : List ℕ) → slice_get s.program.now.stmts f.body ≡ Some d →
-    d.kind ≡ stmts.Block vars body → AllBelow f.body body →
-    written_action s f.body ≡ action (tree.Block vars) (terms []) (actions (map (written_action s) body)) d.pos
-body_read s f d vars body g q b =
-    written_action_is s f.body d g (rw q b)
-    ∙ rw q refl
+    d.kind ≡ stmts.Block vars body →
+    written_action s f.body ≡ action (tree.Block vars) (terms []) (actions (map (written_before s f.body) body)) d.pos
+body_read s f d vars body g q = written_action_is s f.body d g ∙ rw q refl
 
 body_hidden : (s : Source) (f : FunDef) (d : Stmt) (vars body : List ℕ) (names : Names) →
-    slice_get s.program.now.stmts f.body ≡ Some d → d.kind ≡ stmts.Block vars body → AllBelow f.body body →
-    hidden_of names (written_action s f.body) ≡ hidden_of_each names (map (written_action s) body)
-body_hidden s f d vars body names g q b =
-    ap (hidden_of names) (body_read s f d vars body g q b)
-    ∙ hidden_action names (tree.Block vars) [] (map (written_action s) body) d.pos
+    slice_get s.program.now.stmts f.body ≡ Some d → d.kind ≡ stmts.Block vars body →
+    hidden_of names (written_action s f.body) ≡ hidden_of_each names (map (written_before s f.body) body)
+body_hidden s f d vars body names g q =
+    ap (hidden_of names) (body_read s f d vars body g q)
+    ∙ hidden_action names (tree.Block vars) [] (map (written_before s f.body) body) d.pos
 
 body_hides : (s : Source) (f : FunDef) (old a b new : Made) (d : Stmt) (vars body js ls vs : List ℕ)
     (params : List VarDef) (before local other hid end j : ℕ) →
     BodySteps s f old a b new d vars body js ls vs params before local other hid end j →
     Hides s old new (λ names. hidden_of names (written_action s f.body))
 body_hides s f old a b new d vars body js ls vs params before local other hid end j h =
-    hides_vars s a b old new (λ names. hidden_of_each names (map (written_action s) body))
+    hides_vars s a b old new (λ names. hidden_of_each names (map (written_before s f.body) body))
     (λ names. hidden_of names (written_action s f.body)) (sym h.copies.vars) (ap (λ (m : Made). m.vars) h.rest)
-    (λ names. sym (body_hidden s f d vars body names h.there h.is h.below)) h.inner.hides
+    (λ names. sym (body_hidden s f d vars body names h.there h.is)) h.inner.hides
 
 passed_block : (e : Passing) (n : ℕ) (vars : List ℕ) (ys : List Action) (p : Pos) →
     passed_action e n (action (tree.Block vars) (terms []) (actions ys) p)
@@ -97,7 +94,7 @@ body_passed s f old a b new d vars body js ls vs params before local other hid e
       let r = source_routine s f in
       let e = passing names r in
       let n = length old.vars.items in
-      let ys = map (written_action s) body in
+      let ys = map (written_before s f.body) body in
       let result = length (result_pointer r) in
       let copied = result + length f.params in
       let hidden = length (named_variables r) in
@@ -110,7 +107,7 @@ body_passed s f old a b new d vars body js ls vs params before local other hid e
       let others : end - hid ≡ length (hidden_of names r.body) =
       let x = h.hidden_is in
       let y : end - hid ≡ length (hidden_of_each names ys) = omega arith in
-      y ∙ ap length (sym (body_hidden s f d vars body names h.there h.is h.below)) in
+      y ∙ ap length (sym (body_hidden s f d vars body names h.there h.is)) in
       let params_are : map (source_variable s) params ≡ written_params r =
       ap (map (source_variable s)) h.params_are ∙ sym (take-map (source_variable s) (length f.params) f.vars) in
       let A = numbers_from copied (length (copied_params r)) in
@@ -140,7 +137,7 @@ body_passed s f old a b new d vars body js ls vs params before local other hid e
       let whole : passed_body names r ≡ action (tree.Block ((A ++ mid) ++ B)) (terms [])
       (actions (copies ++ passed_each_action e hidden ys)) d.pos =
       ap (λ x. opened A B (param_copies result copied (written_params r)) x)
-      (ap (passed_action e hidden) (body_read s f d vars body h.there h.is h.below)
+      (ap (passed_action e hidden) (body_read s f d vars body h.there h.is)
       ∙ passed_block e hidden vars ys d.pos)
       ∙ ap (λ z. action (tree.Block ((A ++ mid) ++ B)) (terms []) z d.pos)
       (copies_list result copied (written_params r) (passed_each_action e hidden ys)) in

@@ -1,30 +1,30 @@
 -- A statement as it is run, from its parts.
-use Rattle.std.proofs.Common.{◌≡◌, ℕ, ◌+◌, false, List, [], ◌∷◌, ◌++◌, length, take, drop, map, Option, Some, None}
-use Rattle.std.proofs.Common.{refl, sym, ap, subst, ◌∙◌}
+use Rattle.std.proofs.Common.{◌≡◌, ℕ, ◌+◌, ◌<◌, ◌≤◌, false, List, [], ◌∷◌, ◌++◌, length, take, drop, map, Option, Some}
+use Rattle.std.proofs.Common.{None, refl, sym, ap, subst, ◌∙◌, arith}
 use Rattle.std.specs.Prelude.{slice_get}
-use Rattle.std.proofs.lemmas.List.{append-nil, take-map, drop-map}
+use Rattle.std.proofs.lemmas.List.{append-nil, take-map, drop-map, length-take, get_or-take, get_or_past}
 use Rattle.c_tree.specs.declared.typed.Stmt.{Stmt}
 use Rattle.c_tree.specs.declared.typed.StmtKind.{StmtKind}
 use Rattle.c_tree.specs.declared.typed.StmtKind.TheVariants as stmts
 use Rattle.c_tree.specs.Types.{Ty, bare}
 use Rattle.c_tree.specs.Terms as tree
 use Rattle.c_tree.specs.Terms.{Variable, Term, terms, type_of, action, actions}
-use Rattle.c_tree.specs.Views.{values, parts}
+use Rattle.c_tree.specs.Views.{values, parts, nowhere, no_action, actions_of}
 use Rattle.c_tree.specs.Passed.{Names, Passing, by_pointer, hidden_in, hidden_of, ahead, passed_form, passed_term}
 use Rattle.c_tree.specs.Passed.{passed_action, given_back}
-use Rattle.c_copy.specs.Copying.{Extends, AllBelow, stmt_form}
-use Rattle.c_copy.proofs.Copies.{action_same, extends_then, extends_push}
+use Rattle.c_copy.specs.Copying.{Extends, stmt_form}
+use Rattle.c_copy.proofs.Copies.{action_same, extends_same, extends_then, extends_push}
 use Rattle.passing_steps.specs.declared.nodes.Source.{Source}
 use Rattle.passing_steps.specs.declared.nodes.Made.{Made}
 use Rattle.c_passing.specs.Lists.{hidden_in_each, hidden_of_each, passed_each, passed_each_action}
-use Rattle.c_passing.specs.Passes.{written_term, written_action, AddsTerms, IsPassed, ArePassed, AddsActions}
-use Rattle.c_passing.specs.Passes.{IsGivenValue, IsReturned, IsPassedAction, ArePassedActions}
+use Rattle.c_passing.specs.Passes.{written_term, written_action, written_before, AddsTerms, IsPassed, ArePassed}
+use Rattle.c_passing.specs.Passes.{AddsActions, IsGivenValue, IsReturned, IsPassedAction, ArePassedActions}
 use Rattle.c_passing.proofs.Stating.{written_action_is, hidden_action, GivesPlainly, action_passed_is}
 use Rattle.c_passing.proofs.Stating.{return_by_pointer}
 use Rattle.passing_steps.specs.Steps.{written_type, Fits, HasTerms, HasAction, HasActions, Hides, IsGivenBack}
-use Rattle.passing_steps.proofs.Calling.{hides_then, hides_vars, hides_count}
+use Rattle.passing_steps.proofs.Calling.{hides_none, hides_then, hides_vars, hides_count}
 use Rattle.passing_steps.proofs.Ordering.{in_then, in_stmt}
-use Rattle.passing_steps.proofs.Trees.{terms_more, action_made, no_actions_have, actions_more}
+use Rattle.passing_steps.proofs.Trees.{no_terms_have, terms_more, action_made, no_actions_have, actions_more}
 
 -- ---- a statement that gives nothing back by a pointer
 
@@ -61,16 +61,15 @@ gives_plainly s k h = λ x e q.
 
 pub record Built (s : Source) (old a b c new : Made) (k j : ℕ) (d r : Stmt) (vs js ls : List ℕ) : Type 0 where
   pub there : slice_get s.program.now.stmts k ≡ Some d
-  pub below : AllBelow k (parts d.kind)
   pub plainly : IsReturned s d.kind None
   pub front : AddsActions s old a
-      (λ names. hidden_of_each names (map (written_action s) (take (ahead (stmt_form d.kind)) (parts d.kind))))
-      (ArePassedActions s old a (map (written_action s) (take (ahead (stmt_form d.kind)) (parts d.kind))) [] js)
+      (λ names. hidden_of_each names (map (written_before s k) (take (ahead (stmt_form d.kind)) (parts d.kind))))
+      (ArePassedActions s old a (map (written_before s k) (take (ahead (stmt_form d.kind)) (parts d.kind))) [] js)
   pub mid : AddsTerms s a b (λ names. hidden_in_each names (map (written_term s) (values d.kind)))
       (ArePassed s a b (map (written_term s) (values d.kind)) vs)
   pub back : AddsActions s b c
-      (λ names. hidden_of_each names (map (written_action s) (drop (ahead (stmt_form d.kind)) (parts d.kind))))
-      (ArePassedActions s b c (map (written_action s) (drop (ahead (stmt_form d.kind)) (parts d.kind))) js ls)
+      (λ names. hidden_of_each names (map (written_before s k) (drop (ahead (stmt_form d.kind)) (parts d.kind))))
+      (ArePassedActions s b c (map (written_before s k) (drop (ahead (stmt_form d.kind)) (parts d.kind))) js ls)
   pub values_are : values r.kind ≡ vs
   pub parts_are : parts r.kind ≡ ls
   pub form : (ts : List Ty) (e : Passing) → Fits s ts e → stmt_form r.kind ≡ passed_form e (stmt_form d.kind)
@@ -84,19 +83,19 @@ statement_hides : (s : Source) (old a b c new : Made) (k j : ℕ) (d r : Stmt) (
 statement_hides s old a b c new k j d r vs js ls h =
     let n = ahead (stmt_form d.kind) in
     let ps = parts d.kind in
-    let first : Names → List Variable = λ names. hidden_of_each names (map (written_action s) (take n ps)) in
+    let first : Names → List Variable = λ names. hidden_of_each names (map (written_before s k) (take n ps)) in
     let mid : Names → List Variable = λ names. hidden_in_each names (map (written_term s) (values d.kind)) in
-    let last : Names → List Variable = λ names. hidden_of_each names (map (written_action s) (drop n ps)) in
+    let last : Names → List Variable = λ names. hidden_of_each names (map (written_before s k) (drop n ps)) in
     let both = hides_then s old a b first mid h.front.hides h.mid.hides in
     let all = hides_then s old b c (λ names. first names ++ mid names) last both h.back.hides in
     hides_vars s old c old new (λ names. (first names ++ mid names) ++ last names)
     (λ names. hidden_of names (written_action s k)) refl (ap (λ (m : Made). m.vars) h.rest)
     (λ names.
-    sym (ap (hidden_of names) (written_action_is s k d h.there h.below)
-    ∙ hidden_action names (stmt_form d.kind) (map (written_term s) (values d.kind)) (map (written_action s) ps) d.pos
-    ∙ ap (λ ys. (hidden_of_each names ys ++ mid names) ++ hidden_of_each names (drop n (map (written_action s) ps)))
-    (take-map (written_action s) n ps)
-    ∙ ap (λ ys. (first names ++ mid names) ++ hidden_of_each names ys) (drop-map (written_action s) n ps)))
+    sym (ap (hidden_of names) (written_action_is s k d h.there)
+    ∙ hidden_action names (stmt_form d.kind) (map (written_term s) (values d.kind)) (map (written_before s k) ps) d.pos
+    ∙ ap (λ ys. (hidden_of_each names ys ++ mid names) ++ hidden_of_each names (drop n (map (written_before s k) ps)))
+    (take-map (written_before s k) n ps)
+    ∙ ap (λ ys. (first names ++ mid names) ++ hidden_of_each names ys) (drop-map (written_before s k) n ps)))
     all
 
 statement_passed : (s : Source) (old a b c new : Made) (k j : ℕ) (d r : Stmt) (vs js ls : List ℕ) →
@@ -107,9 +106,9 @@ statement_passed s old a b c new k j d r vs js ls h = record {
       let n = ahead f in
       let ps = parts d.kind in
       let xs = map (written_term s) (values d.kind) in
-      let ys = map (written_action s) ps in
-      let front = map (written_action s) (take n ps) in
-      let back = map (written_action s) (drop n ps) in
+      let ys = map (written_before s k) ps in
+      let front = map (written_before s k) (take n ps) in
+      let back = map (written_before s k) (drop n ps) in
       let u = length old.vars.items in
       let v = length a.vars.items in
       let w = length b.vars.items in
@@ -133,9 +132,9 @@ statement_passed s old a b c new k j d r vs js ls h = record {
       ≡ passed_action e u (written_action s k) =
       action_same (stmt_form r.kind) (passed_form e f) (terms (passed_each e v xs)) (terms (passed_each e v xs))
       (actions zs) (actions zs) r.pos d.pos (h.form ts e fits) refl refl h.place
-      ∙ sym (ap (passed_action e u) (written_action_is s k d h.there h.below)
+      ∙ sym (ap (passed_action e u) (written_action_is s k d h.there)
       ∙ action_passed_is e u f xs ys d.pos (gives_plainly s d.kind h.plainly)
-      ∙ rw (take-map (written_action s) n ps, drop-map (written_action s) n ps, ← v_is, ← w_is) refl) in
+      ∙ rw (take-map (written_before s k) n ps, drop-map (written_before s k) n ps, ← v_is, ← w_is) refl) in
       subst (λ z. HasAction ts new.exprs.items new.stmts.items j z) is (rw (ap (λ (m : Made). m.exprs) h.rest) made);
   ordered = λ t us ws o.
       in_stmt (length s.types.now.list.items) c new r j vs ls h.pushed
@@ -166,9 +165,9 @@ returned_is : (s : Source) (k x : ℕ) (d : Stmt) → slice_get s.program.now.st
     d.kind ≡ stmts.Return (Some x) →
     written_action s k ≡ action tree.Return (terms (written_term s x ∷ [])) (actions []) d.pos
 returned_is s k x d g q =
-    written_action_is s k d g (rw q (λ j a e. absurd cc))
+    written_action_is s k d g
     ∙ ap (λ z. action (stmt_form z) (terms (map (written_term s) (values z)))
-    (actions (map (written_action s) (parts z))) d.pos) q
+    (actions (map (written_before s k) (parts z))) d.pos) q
 
 returned_hides : (s : Source) (old a new : Made) (k x : ℕ) (d : Stmt) → slice_get s.program.now.stmts k ≡ Some d →
     d.kind ≡ stmts.Return (Some x) → Hides s old a (λ names. hidden_in names (written_term s x)) → new.vars ≡ a.vars →
@@ -209,6 +208,35 @@ returned_made s old a new k x t value j d g r p h = record {
   hides = returned_hides s old a new k x d g r.0 p.hides h.vars;
   is = returned_passed s old a new k x t value j d g r p.is h;
 }
+
+-- ---- a part of a statement
+
+pub written_before_is : (s : Source) (n k : ℕ) → k < n → written_before s n k ≡ written_action s k
+written_before_is s n k lt = get_or-take n (actions_of s.program.now) k no_action lt
+
+-- where its number names none
+pub written_past : (s : Source) (n k : ℕ) → n ≤ k → written_before s n k ≡ no_action
+written_past s n k le =
+    let all = actions_of s.program.now in
+    get_or_past (take n all) k no_action (omega (arith, length-take n all))
+
+pub empty_made : (s : Source) (old new : Made) (j : ℕ) →
+    new.stmts.items ≡ old.stmts.items ++ record { kind = stmts.Empty; pos = nowhere } ∷ [] →
+    new ≡ record old { stmts = new.stmts } → j ≡ length old.stmts.items →
+    AddsActions s old new (λ names. hidden_of names no_action) (IsPassedAction s old new no_action j)
+empty_made s old new j items rest number =
+    let d : Stmt = record { kind = stmts.Empty; pos = nowhere } in
+    let same : new.exprs.items ≡ old.exprs.items = ap (λ (m : Made). m.exprs.items) rest in
+    record {
+      exprs = subst (Extends old.exprs.items) (sym same) (extends_same old.exprs.items);
+      stmts = extends_push old.stmts.items old.stmts.items new.stmts.items d (extends_same old.stmts.items) items;
+      hides = hides_none s old new (ap (λ (m : Made). m.vars) rest);
+      is = record {
+        is = λ ts e fits. action_made ts new.exprs.items old.stmts.items new.stmts.items d j [] [] items number
+            (no_terms_have ts new.exprs.items) (no_actions_have ts new.exprs.items old.stmts.items);
+        ordered = λ t. in_stmt (length s.types.now.list.items) old new d j [] [] items same number refl refl;
+      };
+    }
 
 -- ---- what is returned
 

@@ -15,7 +15,7 @@ use Rattle.passing_steps.specs.declared.nodes.Source.{Source}
 use Rattle.passing_steps.specs.declared.nodes.Made.{Made}
 use Rattle.c_passing.specs.Lists.{hidden_in_each, hidden_of_each, hidden_for_each, passed_each, passed_each_action}
 use Rattle.c_passing.specs.Lists.{passed_argument, passed_each_argument}
-use Rattle.c_passing.specs.Passes.{written_term, written_action, IsPassed, ArePassed, AddsTerms, AreCounted}
+use Rattle.c_passing.specs.Passes.{written_term, IsPassed, ArePassed, AddsTerms, AreCounted}
 use Rattle.c_passing.specs.Passes.{ArePassedArguments, AddsActions, IsPassedAction, ArePassedActions}
 use Rattle.c_passing.proofs.Calling.{written_of}
 use Rattle.c_passing.proofs.Hiding.{hidden_push, each_push, each_action_push, each_argument_push}
@@ -288,39 +288,40 @@ actions_passed_push s a b c xs x before js ls j hid ext sext pas is q = record {
   ordered = λ t. in_stmts (length s.types.now.list.items) a b c [] before [] js ls j (pas.ordered t) (is.ordered t) q;
 }
 
-actions_turn : (s : Source) (a b c : Made) (ks : List ℕ) (i k : ℕ) (before js ls : List ℕ) (j : ℕ) → i < length ks →
-    k ≡ get_or ks i 0 → Hides s a b (λ names. hidden_of_each names (map (written_action s) (take i ks))) →
+actions_turn : (s : Source) (go : ℕ → Action) (a b c : Made) (ks : List ℕ) (i k : ℕ) (before js ls : List ℕ) (j : ℕ) →
+    i < length ks → k ≡ get_or ks i 0 → Hides s a b (λ names. hidden_of_each names (map go (take i ks))) →
     Extends b.exprs.items c.exprs.items → Extends b.stmts.items c.stmts.items →
-    ArePassedActions s a b (map (written_action s) (take i ks)) before js →
-    IsPassedAction s b c (written_action s k) j → ls ≡ js ++ j ∷ [] →
-    ArePassedActions s a c (map (written_action s) (take (i + 1) ks)) before ls
-actions_turn s a b c ks i k before js ls j lt q h e f p n r =
-    subst (λ zs. ArePassedActions s a c zs before ls) (sym (map_turn (written_action s) ks i k lt q))
-    (actions_passed_push s a b c (map (written_action s) (take i ks))
-    (written_action s k) before js ls j h e f p n r)
+    ArePassedActions s a b (map go (take i ks)) before js →
+    IsPassedAction s b c (go k) j → ls ≡ js ++ j ∷ [] →
+    ArePassedActions s a c (map go (take (i + 1) ks)) before ls
+actions_turn s go a b c ks i k before js ls j lt q h e f p n r =
+    subst (λ zs. ArePassedActions s a c zs before ls) (sym (map_turn go ks i k lt q))
+    (actions_passed_push s a b c (map go (take i ks))
+    (go k) before js ls j h e f p n r)
 
-hides_action_turn : (s : Source) (a b c : Made) (ks : List ℕ) (i k : ℕ) → i < length ks → k ≡ get_or ks i 0 →
-    Hides s a b (λ names. hidden_of_each names (map (written_action s) (take i ks))) →
-    Hides s b c (λ names. hidden_of names (written_action s k)) →
-    Hides s a c (λ names. hidden_of_each names (map (written_action s) (take (i + 1) ks)))
-hides_action_turn s a b c ks i k lt q h n =
-    subst (λ zs. Hides s a c (λ names. hidden_of_each names zs)) (sym (map_turn (written_action s) ks i k lt q))
-    (hides_push s a b c hidden_of (map (written_action s) (take i ks)) (written_action s k) h n)
+hides_action_turn : (s : Source) (go : ℕ → Action) (a b c : Made) (ks : List ℕ) (i k : ℕ) → i < length ks →
+    k ≡ get_or ks i 0 →
+    Hides s a b (λ names. hidden_of_each names (map go (take i ks))) →
+    Hides s b c (λ names. hidden_of names (go k)) →
+    Hides s a c (λ names. hidden_of_each names (map go (take (i + 1) ks)))
+hides_action_turn s go a b c ks i k lt q h n =
+    subst (λ zs. Hides s a c (λ names. hidden_of_each names zs)) (sym (map_turn go ks i k lt q))
+    (hides_push s a b c hidden_of (map go (take i ks)) (go k) h n)
 
 -- one statement more of a list
-pub statements_turn : (s : Source) (a b c : Made) (ks : List ℕ) (i k : ℕ) (before js ls : List ℕ) (j : ℕ) →
-    i < length ks → k ≡ get_or ks i 0 →
-    AddsActions s a b (λ names. hidden_of_each names (map (written_action s) (take i ks)))
-    (ArePassedActions s a b (map (written_action s) (take i ks)) before js) →
-    AddsActions s b c (λ names. hidden_of names (written_action s k)) (IsPassedAction s b c (written_action s k) j) →
+pub statements_turn : (s : Source) (go : ℕ → Action) (a b c : Made) (ks : List ℕ) (i k : ℕ) (before js ls : List ℕ)
+    (j : ℕ) → i < length ks → k ≡ get_or ks i 0 →
+    AddsActions s a b (λ names. hidden_of_each names (map go (take i ks)))
+    (ArePassedActions s a b (map go (take i ks)) before js) →
+    AddsActions s b c (λ names. hidden_of names (go k)) (IsPassedAction s b c (go k) j) →
     ls ≡ js ++ j ∷ [] →
-    AddsActions s a c (λ names. hidden_of_each names (map (written_action s) (take (i + 1) ks)))
-    (ArePassedActions s a c (map (written_action s) (take (i + 1) ks)) before ls)
-statements_turn s a b c ks i k before js ls j lt q h n r = record {
+    AddsActions s a c (λ names. hidden_of_each names (map go (take (i + 1) ks)))
+    (ArePassedActions s a c (map go (take (i + 1) ks)) before ls)
+statements_turn s go a b c ks i k before js ls j lt q h n r = record {
   exprs = extends_then a.exprs.items b.exprs.items c.exprs.items h.exprs n.exprs;
   stmts = extends_then a.stmts.items b.stmts.items c.stmts.items h.stmts n.stmts;
-  hides = hides_action_turn s a b c ks i k lt q h.hides n.hides;
-  is = actions_turn s a b c ks i k before js ls j lt q h.hides n.exprs n.stmts h.is n.is r;
+  hides = hides_action_turn s go a b c ks i k lt q h.hides n.hides;
+  is = actions_turn s go a b c ks i k before js ls j lt q h.hides n.exprs n.stmts h.is n.is r;
 }
 
 pub no_statements_add : (s : Source) (a : Made) (js : List ℕ) →

@@ -25,29 +25,6 @@ item_below (k ∷ ks) (suc i) lt =
     let h : get_or ks i 0 < least_above ks = item_below ks i r in
     omega arith
 
--- some of them
-pub least_take : (n : ℕ) (ks : List ℕ) → least_above (take n ks) ≤ least_above ks
-least_take zero ks = omega arith
-least_take (suc n) [] = omega arith
-least_take (suc n) (k ∷ ks) = let h : least_above (take n ks) ≤ least_above ks = least_take n ks in omega arith
-
-pub least_drop : (n : ℕ) (ks : List ℕ) → least_above (drop n ks) ≤ least_above ks
-least_drop zero ks = omega arith
-least_drop (suc n) [] = omega arith
-least_drop (suc n) (k ∷ ks) = let h : least_above (drop n ks) ≤ least_above ks = least_drop n ks in omega arith
-
-pub front_least : (n k : ℕ) (ks fs : List ℕ) → fs ≡ take n ks → AllBelow k ks → least_above fs ≤ k
-front_least n k ks fs e h =
-    let a : least_above ks ≤ k = least_is k ks h in
-    let b : least_above (take n ks) ≤ least_above ks = least_take n ks in
-    rw e (omega arith)
-
-pub back_least : (n k : ℕ) (ks fs : List ℕ) → fs ≡ drop n ks → AllBelow k ks → least_above fs ≤ k
-back_least n k ks fs e h =
-    let a : least_above ks ≤ k = least_is k ks h in
-    let b : least_above (drop n ks) ≤ least_above ks = least_drop n ks in
-    rw e (omega arith)
-
 -- ---- counts
 
 pub take_and_drop : (n : ℕ) (ks : List ℕ) → length (take n ks) + length (drop n ks) ≡ length ks

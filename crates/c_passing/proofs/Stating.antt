@@ -1,5 +1,5 @@
 -- Statements as they are run.
-use Rattle.std.proofs.Common.{◌≡◌, ℕ, ◌+◌, true, false, List, [], ◌∷◌, ◌++◌, length, get_or, take, drop, map, Some}
+use Rattle.std.proofs.Common.{◌≡◌, ℕ, ◌+◌, true, false, List, [], ◌∷◌, ◌++◌, length, take, drop, map, Some}
 use Rattle.std.proofs.Common.{refl, ap, ◌∙◌, arith}
 use Rattle.std.specs.Prelude.{slice_get}
 use Rattle.ck_base.specs.declared.positions.Pos.{Pos}
@@ -11,28 +11,23 @@ use Rattle.c_tree.specs.Views.{terms_of, stmt_from, no_action, values, parts}
 use Rattle.c_tree.specs.Passed.{Names, Passing, by_pointer, hidden_of, ahead, passed_form, passed_term, passed_terms}
 use Rattle.c_tree.specs.Passed.{passed_action, passed_actions, first_hidden_of, all_hidden_in, last_hidden_of}
 use Rattle.c_tree.specs.Passed.{given_back, one_term}
-use Rattle.c_tree.proofs.Forest.{forest_reads}
-use Rattle.c_copy.specs.Copying.{AllBelow, stmt_form}
-use Rattle.c_copy.proofs.Copies.{action_is, map_seen}
+use Rattle.c_copy.specs.Copying.{stmt_form}
+use Rattle.c_copy.proofs.Copies.{action_is}
+use Rattle.c_copy.proofs.Standing.{made_of_front}
 use Rattle.passing_steps.specs.declared.nodes.Source.{Source}
 use Rattle.c_passing.specs.Lists.{hidden_in_each, hidden_of_each, passed_each, passed_each_action}
-use Rattle.c_passing.specs.Passes.{written_term, written_action}
+use Rattle.c_passing.specs.Passes.{written_term, written_action, written_before}
 use Rattle.c_passing.proofs.Hiding.{hidden_terms, first_hidden, last_hidden, passed_list, passed_actions_list}
 
 -- ---- written statements
 
 -- a written statement is made of its expressions and its parts
 pub written_action_is : (s : Source) (k : ℕ) (d : Stmt) → slice_get s.program.now.stmts k ≡ Some d →
-    AllBelow k (parts d.kind) →
     written_action s k ≡ action (stmt_form d.kind) (terms (map (written_term s) (values d.kind)))
-    (actions (map (written_action s) (parts d.kind))) d.pos
-written_action_is s k d g b =
+    (actions (map (written_before s k) (parts d.kind))) d.pos
+written_action_is s k d g =
     let es = terms_of s.program.now in
-    let r = forest_reads (stmt_from es) no_action s.program.now.stmts k d g in
-    let seen : ℕ → Action = λ j. get_or r.seen j no_action in
-    r.is ∙ action_is es d.kind d.pos seen
-    ∙ ap (λ ys. action (stmt_form d.kind) (terms (map (written_term s) (values d.kind))) (actions ys) d.pos)
-    (map_seen seen (written_action s) (parts d.kind) k b r.before)
+    made_of_front (stmt_from es) no_action s.program.now.stmts k d g ∙ action_is es d.kind d.pos (written_before s k)
 
 -- ---- what is made of one
 

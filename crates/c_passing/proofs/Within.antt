@@ -75,26 +75,22 @@ values_within s k d ks h g same = λ j a q.
     value_stands (VarWithin (length s.numbers.now)) (FormWithin (length s.numbers.now)) s.program.now.exprs
     s.program.now.stmts k d h.stands g j a (ap (λ zs. slice_get zs j) (sym same) ∙ q)
 
-pub parts_below : (s : Source) (k : ℕ) (d : Stmt) → ActionWithin s k → slice_get s.program.now.stmts k ≡ Some d →
-    AllBelow k (parts d.kind)
-parts_below s k d h g = λ j a q. h.order k j a d g q
-
 pub parts_within : (s : Source) (k : ℕ) (d : Stmt) → ActionWithin s k → slice_get s.program.now.stmts k ≡ Some d →
-    ActionsWithin s (parts d.kind)
-parts_within s k d h g = λ j a q.
-    let lt = h.order k j a d g q in
+    ActionsWithin s k (parts d.kind)
+parts_within s k d h g = λ j a q lt.
     record {
       there = let l = h.there in omega arith;
-      order = h.order;
       stands = part_stands (VarWithin (length s.numbers.now)) (FormWithin (length s.numbers.now)) s.program.now.exprs
           s.program.now.stmts k d h.stands g j a q lt;
     }
 
-pub front_within : (s : Source) (n : ℕ) (ks fs : List ℕ) → fs ≡ take n ks → ActionsWithin s ks → ActionsWithin s fs
-front_within s n ks fs e h = λ j a q. h j a (taken n ks j a (ap (λ zs. slice_get zs j) (sym e) ∙ q))
+pub front_within : (s : Source) (k n : ℕ) (ks fs : List ℕ) → fs ≡ take n ks → ActionsWithin s k ks →
+    ActionsWithin s k fs
+front_within s k n ks fs e h = λ j a q. h j a (taken n ks j a (ap (λ zs. slice_get zs j) (sym e) ∙ q))
 
-pub back_within : (s : Source) (n : ℕ) (ks fs : List ℕ) → fs ≡ drop n ks → ActionsWithin s ks → ActionsWithin s fs
-back_within s n ks fs e h = λ j a q.
+pub back_within : (s : Source) (k n : ℕ) (ks fs : List ℕ) → fs ≡ drop n ks → ActionsWithin s k ks →
+    ActionsWithin s k fs
+back_within s k n ks fs e h = λ j a q.
     let r = dropped n ks j a (ap (λ zs. slice_get zs j) (sym e) ∙ q) in h r.0 a r.1
 
 -- ---- bodies
@@ -103,7 +99,6 @@ pub body_within : (s : Source) (f : FunDef) → HasBody s.program.now f → leng
     ActionWithin s f.body
 body_within s f h e = record {
   there = h.there;
-  order = h.order;
   stands = subst (λ n. ActionStandsIn (VarWithin n) (FormWithin n) s.program.now.exprs s.program.now.stmts f.body)
       (sym e) h.stands;
 }

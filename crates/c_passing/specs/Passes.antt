@@ -1,6 +1,6 @@
 -- What is made of an expression, of a statement, and of lists of them.
 use Rattle.std.specs.Prelude.{◌≡◌, ℕ, ◌+◌, ◌<◌, true, false, List, [], ◌∷◌, ◌++◌, length, map, Option, Some, None}
-use Rattle.std.specs.Prelude.{slice_get}
+use Rattle.std.specs.Prelude.{slice_get, take}
 use Rattle.ck_base.specs.declared.positions.Pos.{Pos}
 use Rattle.c_tree.specs.declared.typed.Expr.{Expr}
 use Rattle.c_tree.specs.declared.typed.ExprKind.{ExprKind}
@@ -14,7 +14,6 @@ use Rattle.c_tree.specs.Views.{types_of, terms_of, term_at, actions_of, action_a
 use Rattle.c_tree.specs.Passed.{Names, Passing, by_pointer, passed_shape, passed_form, passed, passed_term}
 use Rattle.c_tree.specs.Passed.{passed_action, by_result}
 use Rattle.c_copy.specs.Copying.{expr_shape, stmt_form, AllBelow, Extends}
-use Rattle.c_copy.specs.Order.{PartsBefore}
 use Rattle.c_copy.specs.Standing.{StandsIn, ActionStandsIn}
 use Rattle.passing_steps.specs.declared.nodes.Source.{Source}
 use Rattle.passing_steps.specs.declared.nodes.Made.{Made}
@@ -29,6 +28,10 @@ written_term s k = term_at (terms_of s.program.now) k
 
 abbrev pub written_action : Source → ℕ → Action
 written_action s k = action_at (actions_of s.program.now) k
+
+-- the one among those before a number, and an empty one for any other number: so a statement names its parts
+abbrev pub written_before : Source → ℕ → ℕ → Action
+written_before s n k = action_at (take n (actions_of s.program.now)) k
 
 -- ---- numbers that name what is there
 
@@ -58,12 +61,12 @@ TermsWithin s ks = (j a : ℕ) → slice_get ks j ≡ Some a → TermWithin s a
 -- so are those of a statement
 pub record ActionWithin (s : Source) (k : ℕ) : Type 0 where
   pub there : k < length s.program.now.stmts
-  pub order : PartsBefore s.program.now.stmts
   pub stands : ActionStandsIn (VarWithin (length s.numbers.now)) (FormWithin (length s.numbers.now))
       s.program.now.exprs s.program.now.stmts k
 
-abbrev pub ActionsWithin : Source → List ℕ → Type 0
-ActionsWithin s ks = (j a : ℕ) → slice_get ks j ≡ Some a → ActionWithin s a
+-- the same of those that stand before a number
+abbrev pub ActionsWithin : Source → ℕ → List ℕ → Type 0
+ActionsWithin s n ks = (j a : ℕ) → slice_get ks j ≡ Some a → a < n → ActionWithin s a
 
 -- ---- expressions
 

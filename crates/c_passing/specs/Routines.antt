@@ -19,7 +19,6 @@ use Rattle.c_tree.specs.Passed.{Names, Passing, result_pointer, written_params, 
 use Rattle.c_tree.specs.Passed.{named_variables, variable_number, passing, param_copy, passed_body, passed_routine}
 use Rattle.c_tree.specs.Passed.{passed, passed_object, passed_program, call_name, calls_in}
 use Rattle.c_copy.specs.Copying.{actions_in, Extends}
-use Rattle.c_copy.specs.Order.{PartsBefore}
 use Rattle.c_copy.specs.Standing.{ActionStandsIn}
 use Rattle.passing_steps.specs.declared.nodes.Source.{Source}
 use Rattle.passing_steps.specs.declared.nodes.Made.{Made}
@@ -59,7 +58,6 @@ pub record HasBody (p : Typed) (f : FunDef) : Type 0 where
   pub params : length f.params ≤ length f.vars
   pub block : (x : Stmt) → slice_get p.stmts f.body ≡ Some x → IsBlock x.kind
   pub there : f.body < length p.stmts
-  pub order : PartsBefore p.stmts
   pub stands : ActionStandsIn (VarWithin (length f.vars)) (FormWithin (length f.vars)) p.exprs p.stmts f.body
 
 abbrev pub HaveBodies : Typed → Type 0

@@ -259,7 +259,7 @@ fn body(
             let hidden = out.next_var()?;
             let mut list = Vec::new(source.alloc);
             param_copies(source, params, before, local, out, &mut list)?;
-            statements(source, body.as_slice(), out, &mut list)?;
+            statements(source, body.as_slice(), f.body, out, &mut list)?;
             let end = out.next_var()?;
             let vars = block_vars(source, (local, other), vars.as_slice(), (hidden, end))?;
             let kind = StmtKind::Block {

@@ -6,13 +6,14 @@ ghost use Rattle.c_tree.specs.Views.{values, parts, listed, same_number};
 ghost use Rattle.c_tree.specs.Passed.{ahead, hidden_of};
 ghost use Rattle.c_copy.specs.Copying.{AllBelow, stmt_form};
 ghost use Rattle.c_passing.specs.Lists.{hidden_of_each};
-ghost use Rattle.c_passing.specs.Passes.{written_action, FormWithin, ActionWithin, ActionsWithin, IsRenumbered};
-ghost use Rattle.c_passing.specs.Passes.{AddsActions, IsGivenValue, IsReturned, IsPassedAction, ArePassedActions};
+ghost use Rattle.c_passing.specs.Passes.{written_action, written_before, FormWithin, ActionWithin, ActionsWithin};
+ghost use Rattle.c_passing.specs.Passes.{IsRenumbered, AddsActions, IsGivenValue, IsReturned, IsPassedAction};
+ghost use Rattle.c_passing.specs.Passes.{ArePassedActions};
 
 use crate::expressions::{expression, expressions};
 use c_copy::{parts, stmt_with, values};
 use c_tree::StmtKind;
-use ck_base::{NoMemory, Sequence};
+use ck_base::{NoMemory, Pos, Sequence};
 use passing_steps::{Made, Source, bare, by_pointer, give_back, variables};
 
 // How many parts of a statement stand before its expressions.
@@ -132,10 +133,10 @@ pub(crate) fn statement(source: &Source<'_>, k: u32, out: &mut Made) -> Result<u
             let ks = parts(source.alloc, &s.kind)?;
             let (first, last) = ks.as_slice().split_at(ahead(&s.kind));
             let mut js = Vec::new(source.alloc);
-            statements(source, first, out, &mut js)?;
+            statements(source, first, k, out, &mut js)?;
             let xs = values(source.alloc, &s.kind)?;
             let vs = expressions(source, xs.as_slice(), out)?;
-            statements(source, last, out, &mut js)?;
+            statements(source, last, k, out, &mut js)?;
             let kind = stmt_with(source.alloc, &s.kind, vs.as_slice(), js.as_slice())?;
             let kind = renumbered(source, kind)?;
             out.push_stmt(kind, s.pos)
@@ -143,22 +144,39 @@ pub(crate) fn statement(source: &Source<'_>, k: u32, out: &mut Made) -> Result<u
     }
 }
 
-/// The numbers of some statements as they are run go behind the others.
+// The number of a part of statement `limit` as it is run. A number that names no statement before that one stands for
+// an empty one.
+#[cycle(statements)]
+fn part(source: &Source<'_>, k: u32, limit: u32, out: &mut Made) -> Result<u32, NoMemory>
+    requires { k < limit → ActionWithin source.now k }
+    ensures { IfOk result (λ j. AddsActions source.now out.old out.new
+        (λ names. hidden_of names (written_before source.now limit k))
+        (IsPassedAction source.now out.old out.new (written_before source.now limit k) j)) }
+{
+    if k < limit {
+        statement(source, k, out)
+    } else {
+        out.push_stmt(StmtKind::Empty, Pos { line: 0, col: 0 })
+    }
+}
+
+/// The numbers of some parts of statement `limit` as they are run go behind the others.
 #[cycle(statements)]
 pub(crate) fn statements(
     source: &Source<'_>,
     ks: &[u32],
+    limit: u32,
     out: &mut Made,
     js: &mut Vec<u32>,
 ) -> Result<(), NoMemory>
-    requires { ActionsWithin source.now ks.now }
+    requires { ActionsWithin source.now limit ks.now }
     ensures { OnOk result (AddsActions source.now out.old out.new
-        (λ names. hidden_of_each names (map (written_action source.now) ks.now))
-        (ArePassedActions source.now out.old out.new (map (written_action source.now) ks.now)
+        (λ names. hidden_of_each names (map (written_before source.now limit) ks.now))
+        (ArePassedActions source.now out.old out.new (map (written_before source.now limit) ks.now)
         js.old.items js.new.items)) }
 {
     for k in ks {
-        let j = statement(source, *k, out)?;
+        let j = part(source, *k, limit, out)?;
         js.push(j)?;
     }
     Ok(())

@@ -3,8 +3,8 @@ use Rattle.c_tree.specs.Scopes.{RoutineState}
 use Rattle.c_tree.specs.Programs.{numbers_of, is_there}
 use Rattle.c_file_rules.proofs.Backwards.{at_some}
 use Rattle.c_file_rules.proofs.Shown.{routines_count, body_there}
-use Rattle.c_finish.proofs.Counting.{low_step, count_zero, count_step, filled_push, pushed_count}
-use Rattle.c_finish.proofs.Counting.{nothing_filled}
+use Rattle.c_finish.proofs.Counting.{low_step, count_zero, count_step, count_behind, filled_push, filled_all}
+use Rattle.c_finish.proofs.Counting.{pushed_count, nothing_filled}
 use Rattle.c_finish.proofs.numbering.numbers_of_functions.Goals as goal
 
 pub loop-k-init : goal.loop-k-init
@@ -41,8 +41,11 @@ is_defined-is_there-requires-clause-there c =
     let b : c.in_ok-n.n ≡ length c.args.work.now.nodes.p.funs = c.in_ok-n.ensures ∙ ap length c.as_slice.ensures in
     omega arith
 
-pub returns-clause-count : goal.returns-clause-count
-returns-clause-count c =
-    let e : length c.loop-k.table.items ≡ c.loop-k.k = c.loop-k.invariant.count in
-    let b : c.in_ok-n.n ≡ length c.args.work.now.nodes.p.funs = c.in_ok-n.ensures ∙ ap length c.as_slice.ensures in
-    omega arith
+pub returns : goal.returns
+returns c = λ s h.
+    let inv = c.loop-k.invariant in
+    let n = c.in_ok-n.ensures ∙ ap length c.as_slice.ensures ∙ routines_count c.args.work.now s h in
+    let all : c.loop-k.k ≡ length s.routines = omega arith in
+    filled_all (numbers_of s).1 c.loop-k.table.items c.loop-k.next (inv.filled s h)
+    (λ j le. count_behind (λ (f : RoutineState). is_there f.body) s.routines j (omega (arith, inv.count))
+    ∙ ap (numbers_of s).1 (sym all) ∙ inv.next s h)

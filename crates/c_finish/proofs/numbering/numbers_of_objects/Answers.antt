@@ -1,10 +1,11 @@
-use Rattle.std.proofs.Common.{◌≡◌, ◌<◌, length, ap, ◌∙◌, arith}
+use Rattle.std.proofs.Common.{◌≡◌, ◌<◌, length, sym, ap, ◌∙◌, arith}
 use Rattle.c_tree.specs.Scopes.{StaticState}
 use Rattle.c_tree.specs.Programs.{numbers_of}
 use Rattle.c_types.specs.Members.{is_defined}
 use Rattle.c_file_rules.proofs.Backwards.{at_some}
 use Rattle.c_file_rules.proofs.Shown.{statics_count}
-use Rattle.c_finish.proofs.Counting.{low_step, count_zero, count_step, filled_push, pushed_count, nothing_filled}
+use Rattle.c_finish.proofs.Counting.{low_step, count_zero, count_step, count_behind, filled_push, filled_all}
+use Rattle.c_finish.proofs.Counting.{pushed_count, nothing_filled}
 use Rattle.c_finish.proofs.numbering.numbers_of_objects.Goals as goal
 
 pub loop-k-init : goal.loop-k-init
@@ -35,8 +36,11 @@ loop-k-preserved c =
       low = low_step _ c.loop-k.next c.one_more-next.result k c.one_more-next.ensures inv.low;
     }
 
-pub returns-clause-count : goal.returns-clause-count
-returns-clause-count c =
-    let e : length c.loop-k.table.items ≡ c.loop-k.k = c.loop-k.invariant.count in
-    let b : c.in_ok-n.n ≡ length c.args.work.now.nodes.p.globals = c.in_ok-n.ensures ∙ ap length c.as_slice.ensures in
-    omega arith
+pub returns : goal.returns
+returns c = λ s h.
+    let inv = c.loop-k.invariant in
+    let n = c.in_ok-n.ensures ∙ ap length c.as_slice.ensures ∙ statics_count c.args.work.now s h in
+    let all : c.loop-k.k ≡ length s.statics = omega arith in
+    filled_all (numbers_of s).0 c.loop-k.table.items c.loop-k.next (inv.filled s h)
+    (λ j le. count_behind (λ (g : StaticState). g.defined) s.statics j (omega (arith, inv.count))
+    ∙ ap (numbers_of s).0 (sym all) ∙ inv.next s h)

@@ -5,8 +5,8 @@ use Rattle.c_finish.proofs.routines.routines.Goals as goal
 
 pub loop-k-init : goal.loop-k-init
 loop-k-init c = record {
-  are = λ s h. no_routines c.args.work.now _ _ s c.new-list.result.items c.new-list.ensures.items;
-  bodies = λ h. no_bodies c.args.into.now.stmts.items c.new-list.result.items c.new-list.ensures.items h;
+  are = λ s h. no_routines c.args.work.now s c.new-list.result.items c.new-list.ensures.items;
+  bodies = no_bodies c.args.work.now c.new-list.result.items c.new-list.ensures.items;
 }
 
 pub loop-k-preserved : goal.loop-k-preserved
@@ -15,13 +15,13 @@ loop-k-preserved c = record {
       let a : c.loop-k.k < c.in_ok-n.n = c.loop-k-test.true in
       let z = c.in_ok-n.ensures ∙ ap length c.as_slice.ensures ∙ routines_count c.args.work.now s h in
       c.in_ok-add_routine.ensures.adds s h (omega arith) (c.loop-k.invariant.are s h);
-  bodies = λ h. c.in_ok-add_routine.ensures.bodies (c.loop-k.invariant.bodies h);
+  bodies = c.in_ok-add_routine.ensures.bodies c.loop-k.invariant.bodies;
 }
 
 pub returns-clause-are : goal.returns-clause-are
 returns-clause-are c = λ s h.
     let z = c.in_ok-n.ensures ∙ ap length c.as_slice.ensures ∙ routines_count c.args.work.now s h in
-    routines_all c.args.work.now _ _ s c.loop-k.k c.loop-k.list.items (omega arith) (c.loop-k.invariant.are s h)
+    routines_all c.args.work.now s c.loop-k.k c.loop-k.list.items (omega arith) (c.loop-k.invariant.are s h)
 
 pub add_routine-requires-clause-there : goal.add_routine-requires-clause-there
 add_routine-requires-clause-there c =

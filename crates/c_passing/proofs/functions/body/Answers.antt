@@ -1,11 +1,10 @@
 use Rattle.std.proofs.Common.{◌≡◌, ℕ, ◌+◌, ◌∷◌, [], ◌++◌, length, map, refl, sym, ap, subst, ◌∙◌}
 use Rattle.std.proofs.lemmas.List.{length-take-le}
 use Rattle.c_tree.specs.declared.typed.StmtKind.TheVariants as stmts
-use Rattle.c_tree.specs.Views.{parts}
 use Rattle.c_copy.specs.Copying.{AllBelow}
 use Rattle.c_copy.proofs.Copies.{pushed}
 use Rattle.c_passing.specs.Lists.{hidden_of_each}
-use Rattle.c_passing.specs.Passes.{written_action, ActionsWithin, AddsActions, ArePassedActions}
+use Rattle.c_passing.specs.Passes.{written_before, ActionsWithin, AddsActions, ArePassedActions}
 use Rattle.c_passing.specs.Routines.{source_variable, AreParamCopies}
 use Rattle.c_passing.proofs.Bodies.{BodySteps, body_made}
 use Rattle.c_passing.proofs.Within.{body_within, parts_within, form_within}
@@ -34,15 +33,11 @@ steps c j items rest n =
     let body = c.in-Block.body in
     let params = c.written_vars.ensures in
     let slice : c.as_slice.result.now ≡ body = c.as_slice.ensures in
-    let order : AllBelow f.body (parts d.kind) =
-    λ j a q. c.requires.fits.order f.body j a d c.stmt-s.ensures q in
-    let below : AllBelow f.body body = rw c.in-Block.is at order in
     let ls = c.statements.new.js.items in
     let js = c.param_copies.new.body.items in
     record {
       there = c.stmt-s.ensures;
       is = c.in-Block.is;
-      below = below;
       params_are = params.params;
       before_is = c.requires.before;
       local_is = c.in_ok-local-in-Block.ensures
@@ -54,8 +49,8 @@ steps c j items rest n =
       copies = subst (λ zs. AreParamCopies s old a c.args.before c.in_ok-local-in-Block.local
           (map (source_variable s) c.written_vars.result.0.now) zs js) c.new-list.ensures.items
           c.in_ok-param_copies-in-Block.ensures;
-      inner = subst (λ zs. AddsActions s a b (λ names. hidden_of_each names (map (written_action s) zs))
-          (ArePassedActions s a b (map (written_action s) zs) js ls)) slice c.in_ok-statements-in-Block.ensures;
+      inner = subst (λ zs. AddsActions s a b (λ names. hidden_of_each names (map (written_before s f.body) zs))
+          (ArePassedActions s a b (map (written_before s f.body) zs) js ls)) slice c.in_ok-statements-in-Block.ensures;
       block_vars = subst (λ zs. AreBlockVars s (c.in_ok-local-in-Block.local, c.in_ok-other-in-Block.other) zs
           (c.in_ok-hidden-in-Block.hidden, c.in_ok-end-in-Block.end) c.in_ok-vars-in-Block.vars.items)
           c.as_slice-in-Block.ensures c.in_ok-vars-in-Block.ensures;
@@ -83,9 +78,9 @@ statements-requires c =
     let s = c.args.source.now in
     let f = c.args.f.now in
     let w = body_within s f c.requires.fits c.requires.numbers in
-    let all : ActionsWithin s c.in-Block.body =
+    let all : ActionsWithin s f.body c.in-Block.body =
     rw c.in-Block.is at (parts_within s f.body c.stmt-s.result.now w c.stmt-s.ensures) in
-    subst (ActionsWithin s) (sym c.as_slice.ensures) all
+    subst (ActionsWithin s f.body) (sym c.as_slice.ensures) all
 
 pub block_vars-requires : goal.block_vars-requires
 block_vars-requires c =

@@ -1,22 +1,23 @@
-use Rattle.std.proofs.Common.{◌≡◌, ℕ, ◌<◌, ◌≤◌, List, [], ◌∷◌, ◌++◌, Some, length, get_or, take, drop, map, refl, ap}
+use Rattle.std.proofs.Common.{◌≡◌, ℕ, ◌<◌, List, [], ◌∷◌, ◌++◌, Some, length, get_or, take, drop, map, refl, ap}
 use Rattle.std.proofs.Common.{subst, sym, ◌+◌, ◌∙◌, arith}
 use Rattle.std.proofs.lemmas.List.{length-map, take_all}
-use Rattle.std.specs.Prelude.{slice_get}
+use Rattle.std.specs.Prelude.{slice_get, IfOk}
 use Rattle.c_tree.specs.declared.typed.Stmt.{Stmt}
 use Rattle.c_tree.specs.Views.{values, parts}
-use Rattle.c_tree.specs.Passed.{ahead, passed_form}
-use Rattle.c_copy.specs.Copying.{AllBelow, stmt_form}
+use Rattle.c_tree.specs.Passed.{hidden_of, ahead, passed_form}
+use Rattle.c_copy.specs.Copying.{stmt_form}
 use Rattle.c_copy.proofs.Copies.{pushed}
 use Rattle.passing_steps.specs.declared.nodes.Source.{Source}
 use Rattle.c_passing.specs.Lists.{hidden_in_each, hidden_of_each}
-use Rattle.c_passing.specs.Passes.{written_term, written_action, FormWithin, ActionWithin, ActionsWithin, AddsTerms}
-use Rattle.c_passing.specs.Passes.{AddsActions, IsReturned, ArePassed, ArePassedActions}
-use Rattle.c_passing.proofs.Building.{Built, statement_made, returned_made}
+use Rattle.c_passing.specs.Passes.{written_term, written_before, FormWithin, ActionWithin}
+use Rattle.c_passing.specs.Passes.{ActionsWithin, AddsTerms, AddsActions, IsReturned, ArePassed, IsPassedAction}
+use Rattle.c_passing.specs.Passes.{ArePassedActions}
+use Rattle.c_passing.proofs.Building.{Built, statement_made, returned_made, written_before_is, written_past}
+use Rattle.c_passing.proofs.Building.{empty_made}
 use Rattle.c_passing.proofs.Each.{statements_turn, no_statements_add}
-use Rattle.c_passing.proofs.Least.{least_above, item_below, front_least, back_least, count_both}
+use Rattle.c_passing.proofs.Least.{count_both}
 use Rattle.c_passing.proofs.Numbering.{if_ok}
-use Rattle.c_passing.proofs.Within.{terms_there, form_within, values_within, parts_below, parts_within, front_within}
-use Rattle.c_passing.proofs.Within.{back_within}
+use Rattle.c_passing.proofs.Within.{terms_there, form_within, values_within, parts_within, front_within, back_within}
 use Rattle.c_passing.proofs.statements.+statements.Goals as goal
 use Rattle.passing_steps.proofs.Results.{on_both}
 use Rattle.passing_steps.proofs.Counting.{at_index}
@@ -60,19 +61,18 @@ built t c j items rest n =
     let new = c.in_ok-kind-in-None-2.ensures in
     record {
       there = c.stmt-s.ensures;
-      below = parts_below s k d c.requires c.stmt-s.ensures;
       plainly = c.in-None.ensures;
       front =
-          subst (λ zs. AddsActions s old a (λ names. hidden_of_each names (map (written_action s) zs))
-          (ArePassedActions s old a (map (written_action s) zs) [] c.statements.new.js.items)) front
+          subst (λ zs. AddsActions s old a (λ names. hidden_of_each names (map (written_before s k) zs))
+          (ArePassedActions s old a (map (written_before s k) zs) [] c.statements.new.js.items)) front
           (subst (λ zs. AddsActions s old a
-          (λ names. hidden_of_each names (map (written_action s) c.split_at.result.0.now))
-          (ArePassedActions s old a (map (written_action s) c.split_at.result.0.now) zs c.statements.new.js.items))
+          (λ names. hidden_of_each names (map (written_before s k) c.split_at.result.0.now))
+          (ArePassedActions s old a (map (written_before s k) c.split_at.result.0.now) zs c.statements.new.js.items))
           c.new-js.ensures.items c.in_ok-statements-in-None.ensures);
       mid = subst (λ zs. AddsTerms s a b (λ names. hidden_in_each names (map (written_term s) zs))
           (ArePassed s a b (map (written_term s) zs) c.in_ok-vs-in-None.vs.items)) vals c.in_ok-vs-in-None.ensures;
-      back = subst (λ zs. AddsActions s b e (λ names. hidden_of_each names (map (written_action s) zs))
-          (ArePassedActions s b e (map (written_action s) zs) c.statements.new.js.items
+      back = subst (λ zs. AddsActions s b e (λ names. hidden_of_each names (map (written_before s k) zs))
+          (ArePassedActions s b e (map (written_before s k) zs) c.statements.new.js.items
           c.statements-in-None.new.js.items)) back c.in_ok-statements-in-None-2.ensures;
       values_are = new.values ∙ with.values ∙ c.as_slice-in-None-2.ensures.value;
       parts_are = new.parts ∙ with.parts ∙ c.as_slice-in-None-3.ensures.value;
@@ -95,7 +95,8 @@ statements-loop-k-init t c = no_statements_add c.args.source.now c.args.out.now 
 pub statements-loop-k-preserved : goal.statements-loop-k-preserved
 statements-loop-k-preserved t c =
     let l = c.loop-k in
-    statements_turn c.args.source.now c.args.out.now l.out c.statement.new.out c.args.ks.now l.k-index _
+    let s = c.args.source.now in
+    statements_turn s (written_before s c.args.limit) c.args.out.now l.out c.part.new.out c.args.ks.now l.k-index _
     c.args.js.now.items l.js.items c.push.new.self.items c.in_ok-j.j c.loop-k-test.true refl l.invariant
     c.in_ok-j.ensures c.in_ok-push.ensures.items
 
@@ -104,8 +105,9 @@ statements-returns t c =
     let s = c.args.source.now in
     let old = c.args.out.now in
     let l = c.loop-k in
-    subst (λ ks. AddsActions s old l.out (λ names. hidden_of_each names (map (written_action s) ks))
-    (ArePassedActions s old l.out (map (written_action s) ks) c.args.js.now.items l.js.items))
+    let go = written_before s c.args.limit in
+    subst (λ ks. AddsActions s old l.out (λ names. hidden_of_each names (map go ks))
+    (ArePassedActions s old l.out (map go ks) c.args.js.now.items l.js.items))
     (take_all l.k-index c.args.ks.now c.loop-k-test.false) l.invariant
 
 pub statement-stmt-s-requires : goal.statement-stmt-s-requires
@@ -129,9 +131,8 @@ statement-expressions-requires t c =
     (c.as_slice-in-None.ensures.value ∙ c.in_ok-xs-in-None.ensures)
 
 parts_read : (s : Source) (k : ℕ) (d : Stmt) (ks : List ℕ) → ActionWithin s k →
-    slice_get s.program.now.stmts k ≡ Some d → ks ≡ parts d.kind → AllBelow k ks × ActionsWithin s ks
-parts_read s k d ks h g e =
-    (subst (AllBelow k) (sym e) (parts_below s k d h g), subst (ActionsWithin s) (sym e) (parts_within s k d h g))
+    slice_get s.program.now.stmts k ≡ Some d → ks ≡ parts d.kind → ActionsWithin s k ks
+parts_read s k d ks h g e = subst (ActionsWithin s k) (sym e) (parts_within s k d h g)
 
 pub statement-statements-requires : goal.statement-statements-requires
 statement-statements-requires t c =
@@ -140,9 +141,7 @@ statement-statements-requires t c =
     let ks = c.in_ok-ks-in-None.ks.items in
     let all = parts_read s k c.stmt-s.result.now ks c.requires c.stmt-s.ensures c.in_ok-ks-in-None.ensures in
     let front = c.split_at.ensures.front ∙ ap (λ zs. take c.ahead.result zs) c.as_slice.ensures.value in
-    let h : least_above c.split_at.result.0.now ≤ k =
-    front_least c.ahead.result k ks c.split_at.result.0.now front all.0 in
-    (omega arith, front_within s c.ahead.result ks c.split_at.result.0.now front all.1)
+    (omega arith, front_within s k c.ahead.result ks c.split_at.result.0.now front all)
 
 pub statement-statements-requires-in-None : goal.statement-statements-requires-in-None
 statement-statements-requires-in-None t c =
@@ -151,9 +150,7 @@ statement-statements-requires-in-None t c =
     let ks = c.in_ok-ks-in-None.ks.items in
     let all = parts_read s k c.stmt-s.result.now ks c.requires c.stmt-s.ensures c.in_ok-ks-in-None.ensures in
     let back = c.split_at.ensures.back ∙ ap (λ zs. drop c.ahead.result zs) c.as_slice.ensures.value in
-    let h : least_above c.split_at.result.1.now ≤ k =
-    back_least c.ahead.result k ks c.split_at.result.1.now back all.0 in
-    (omega arith, back_within s c.ahead.result ks c.split_at.result.1.now back all.1)
+    (omega arith, back_within s k c.ahead.result ks c.split_at.result.1.now back all)
 
 pub statement-renumbered-requires : goal.statement-renumbered-requires
 statement-renumbered-requires t c =
@@ -176,15 +173,39 @@ statement-stmt_with-requires-clause-parts t c =
     (c.split_at.ensures.back ∙ ap (λ zs. drop c.ahead.result zs) c.as_slice.ensures.value)
     (c.in_ok-statements-in-None.ensures.is.count
     ∙ ap (λ n. length c.new-js.result.items + n)
-    (length-map c.split_at.result.0.now (written_action c.args.source.now)))
+    (length-map c.split_at.result.0.now (written_before c.args.source.now c.args.k)))
     (c.in_ok-statements-in-None-2.ensures.is.count
     ∙ ap (λ n. length c.statements.new.js.items + n)
-    (length-map c.split_at.result.1.now (written_action c.args.source.now)))
+    (length-map c.split_at.result.1.now (written_before c.args.source.now c.args.k)))
     ∙ ap length c.in_ok-ks-in-None.ensures
 
-pub statements-statement-requires : goal.statements-statement-requires
-statements-statement-requires t c =
+pub statements-part-requires : goal.statements-part-requires
+statements-part-requires t c =
     let ks = c.args.ks.now in
     let i = c.loop-k.k-index in
-    let h : get_or ks i 0 < least_above ks = item_below ks i c.loop-k-test.true in
     (omega arith, c.requires i (get_or ks i 0) (at_index ks i c.loop-k-test.true))
+
+pub part-statement-requires : goal.part-statement-requires
+part-statement-requires t c =
+    let lt : c.args.k < c.args.limit = c.if-k-limit.true in
+    (omega arith, c.requires lt)
+
+pub part-returns-then-k-limit : goal.part-returns-then-k-limit
+part-returns-then-k-limit t c =
+    let s = c.args.source.now in
+    let old = c.args.out.now in
+    let new = c.statement.new.out in
+    subst (λ x. IfOk c.statement.result (λ j. AddsActions s old new (λ names. hidden_of names x)
+    (IsPassedAction s old new x j)))
+    (sym (written_before_is s c.args.limit c.args.k c.if-k-limit.true)) c.statement.ensures
+
+pub part-returns-else-k-limit : goal.part-returns-else-k-limit
+part-returns-else-k-limit t c =
+    let s = c.args.source.now in
+    let old = c.args.out.now in
+    let new = c.push_stmt.new.self in
+    subst (λ x. IfOk c.push_stmt.result (λ j. AddsActions s old new (λ names. hidden_of names x)
+    (IsPassedAction s old new x j)))
+    (sym (written_past s c.args.limit c.args.k c.if-k-limit.false))
+    (pushed c.push_stmt.result _ _ _ (on_both c.push_stmt.result _ _ c.push_stmt.ensures.stmts c.push_stmt.ensures.rest)
+    c.push_stmt.ensures.number (λ x. empty_made s old new _ x.0 x.1 refl))
