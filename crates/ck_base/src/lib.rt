@@ -8,6 +8,7 @@
 #![tactic(auto)]
 
 mod adapters;
+mod codes;
 mod files;
 mod outside;
 mod positions;
@@ -18,6 +19,11 @@ mod sources;
 mod tokens;
 
 pub use adapters::{HostFiles, LONGEST_FILE, StdError, StdInput, StdOutput};
+pub use codes::{
+    DECLARED_TWICE, EXCLUDED_WORD, FILE_TOO_LONG, INCOMPLETE_TYPE, INVALID_LITERAL, MISFIT,
+    NO_CONSTANT, NO_MAIN, NO_TOKEN, NO_TREE, OBJECTS_TOO_LARGE, PRAGMA_PACK, TOO_HEAVY,
+    TOO_MANY_BRACKETS, TYPE_TOO_LARGE, UNCLOSED, UNDEFINED_NAME, WRONG_ARGUMENT_COUNT,
+};
 pub use files::{MemFiles, SureFiles};
 pub use outside::{Failed, FileError, Files, PutError, Sink, Source};
 pub use positions::{Pos, Span};
