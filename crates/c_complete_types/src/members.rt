@@ -10,7 +10,7 @@ ghost use Rattle.c_complete_types.specs.Members.{MembersAreSpelled, found_in, so
 
 use c_expressions::{Class, Nodes};
 use c_tree::Member;
-use ck_base::{Pos, Refusal};
+use ck_base::{INCOMPLETE_TYPE, MISFIT, Pos, Refusal};
 
 /// A member that has a name.
 #[derive(Clone, Copy)]
@@ -79,8 +79,8 @@ fn member_of(nodes: &Nodes<'_>, tag: u32, name: &[u8], first: Pos) -> Result<Fou
         Finds nodes.now (told first (sought s tag name.now)) s result }
 {
     match seek(nodes, tag, name) {
-        Outcome::Incomplete => Err(Refusal::Code(132, first)),
-        Outcome::Missing => Err(Refusal::Code(133, first)),
+        Outcome::Incomplete => Err(Refusal::Code(INCOMPLETE_TYPE, first)),
+        Outcome::Missing => Err(Refusal::Code(MISFIT, first)),
         Outcome::At(member) => Ok(member),
     }
 }
@@ -95,7 +95,7 @@ pub fn find_member(nodes: &Nodes<'_>, of: u32, name: &[u8], first: Pos) -> Resul
         Finds nodes.now (finding (type_in nodes.now of) name.now first) s result }
 {
     match tag_of(nodes, nodes.bare(of)) {
-        None => Err(Refusal::Code(133, first)),
+        None => Err(Refusal::Code(MISFIT, first)),
         Some(tag) => member_of(nodes, tag, name, first),
     }
 }

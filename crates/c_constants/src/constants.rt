@@ -9,7 +9,7 @@ ghost use Rattle.c_constants.specs.Constants.{constant, array_length};
 
 use c_elaborator::Work;
 use c_expressions::Operand;
-use ck_base::{Pos, Refusal};
+use ck_base::{NO_CONSTANT, Pos, Refusal};
 use ck_int::IntKind;
 
 /// The value of an integer constant expression, and the place of its first byte.
@@ -60,7 +60,7 @@ pub fn constant_value(work: &Work<'_>, x: Operand) -> Result<Constant, Refusal>
         (in_any IsConstant) result }
 {
     match work.nodes.constant_of(x.node) {
-        None => Err(Refusal::Code(134, x.first)),
+        None => Err(Refusal::Code(NO_CONSTANT, x.first)),
         Some(value) => {
             let of = work.nodes.of(x.node);
             let kind = work.nodes.class(work.nodes.bare(of)).kind();
@@ -80,7 +80,7 @@ pub fn array_length(work: &Work<'_>, c: Constant) -> Result<u64, Refusal>
     ensures { Answers quietly work.now work.now (array_length c.number c.first) CountThere (in_any IsCount) result }
 {
     if c.number <= 0 {
-        return Err(Refusal::Code(134, c.first));
+        return Err(Refusal::Code(NO_CONSTANT, c.first));
     }
     match u64::try_from(c.number) {
         Ok(count) => Ok(count),

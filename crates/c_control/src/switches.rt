@@ -7,7 +7,7 @@ ghost use Rattle.c_control.specs.Control.{AddsLabel, switch_of, switch_label, la
 
 use c_elaborator::{Context, Items, join};
 use c_tree::{StmtKind, SwitchLabel};
-use ck_base::{NoMemory, Pos, Refusal, Sequence};
+use ck_base::{DECLARED_TWICE, NoMemory, Pos, Refusal, Sequence};
 use indexmap::IndexMap;
 use std::alloc::Global;
 
@@ -47,7 +47,7 @@ pub fn add_label(cases: Cases, value: Option<u64>, pos: Pos) -> Result<Cases, Re
     ensures { AddsLabel cases value pos result }
 {
     if has_label(&cases.labels, value) {
-        return Err(Refusal::Code(131, pos));
+        return Err(Refusal::Code(DECLARED_TWICE, pos));
     }
     let labelled = with_label(cases, value)?;
     Ok(labelled)

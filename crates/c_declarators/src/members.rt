@@ -21,7 +21,7 @@ use c_elaborator::{Name, Work};
 use c_expressions::Nodes;
 use c_tree::Member;
 use c_types::either;
-use ck_base::{NoMemory, Refusal, Span};
+use ck_base::{DECLARED_TWICE, NO_TREE, NoMemory, Refusal, Span};
 use indexmap::IndexMap;
 use std::alloc::Global;
 
@@ -103,7 +103,7 @@ fn named_member<'a>(
 {
     let text = text_of(work.file, name.span);
     if members.has(text) {
-        return Err(Refusal::Code(131, name.pos));
+        return Err(Refusal::Code(DECLARED_TWICE, name.pos));
     }
     let formed = form(&mut work.nodes, of, wraps)?;
     let incomplete = lacks(&work.nodes, formed.of);
@@ -139,7 +139,7 @@ pub fn add_member<'a>(
         result }
 {
     match d.name {
-        None => Err(Refusal::Code(120, s.first)),
+        None => Err(Refusal::Code(NO_TREE, s.first)),
         Some(name) => named_member(work, s.of, name, d.wraps.as_slice(), members),
     }
 }

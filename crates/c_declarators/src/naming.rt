@@ -13,7 +13,7 @@ use crate::parameters::is_new;
 use c_constants::{in_int, next_after};
 use c_elaborator::{Name, Work};
 use c_types::{Decl, DeclKind, Entity, Faults, Storage};
-use ck_base::{Pos, Refusal};
+use ck_base::{DECLARED_TWICE, MISFIT, NO_CONSTANT, Pos, Refusal};
 
 // The type that an entity stands for, if it is a typedef name.
 fn alias_of(found: Option<Entity>) -> Option<u32>
@@ -39,7 +39,7 @@ pub fn typedef_name(work: &Work<'_>, name: Name) -> Result<u32, Refusal>
 {
     let found = work.nodes.scopes.look(text_of(work.file, name.span));
     match alias_of(found) {
-        None => Err(Refusal::Code(133, name.pos)),
+        None => Err(Refusal::Code(MISFIT, name.pos)),
         Some(of) => Ok(work.there(of)),
     }
 }
@@ -71,10 +71,10 @@ pub fn enumerate(work: &mut Work<'_>, name: Name, number: i128, at: Pos) -> Resu
         (in_any IsNumber) result }
 {
     if !is_new(work, name) {
-        return Err(Refusal::Code(131, name.pos));
+        return Err(Refusal::Code(DECLARED_TWICE, name.pos));
     }
     match in_int(number) {
-        None => Err(Refusal::Code(134, at)),
+        None => Err(Refusal::Code(NO_CONSTANT, at)),
         Some(value) => {
             let d = constant_of(name, value);
             match work.nodes.scopes.declare_constant(d, value) {

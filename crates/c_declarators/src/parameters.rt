@@ -20,7 +20,7 @@ use crate::members::text_of;
 use crate::parts::{Derived, Param, Specified};
 use c_elaborator::{Name, Work};
 use c_expressions::Nodes;
-use ck_base::Refusal;
+use ck_base::{DECLARED_TWICE, Refusal};
 
 /// Whether the innermost scope does not have a name yet.
 pub fn is_new(work: &Work<'_>, name: Name) -> bool
@@ -86,7 +86,7 @@ pub fn parameter_from(
 {
     let at = place_of(d.name, first);
     if !is_free(work, d.name) {
-        return Err(Refusal::Code(131, at.pos));
+        return Err(Refusal::Code(DECLARED_TWICE, at.pos));
     }
     let nothing = is_nothing(&work.nodes, only, s.of, d);
     let formed = form(&mut work.nodes, s.of, d.wraps.as_slice())?;

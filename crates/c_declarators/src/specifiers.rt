@@ -15,7 +15,7 @@ use crate::words::Words;
 use c_elaborator::Work;
 use c_expressions::Nodes;
 use c_types::Storage;
-use ck_base::{NoMemory, Pos, Refusal};
+use ck_base::{MISFIT, NoMemory, Pos, Refusal};
 
 // The storage that the words stand for.
 fn storage_of(words: Words) -> Storage
@@ -93,10 +93,10 @@ fn specified_by(
         SpecifiedThere (in_any IsSpecified) result }
 {
     if words.storage_words() > 1 {
-        return Err(Refusal::Code(133, first));
+        return Err(Refusal::Code(MISFIT, first));
     }
     match type_of(&mut work.nodes, words, named)? {
-        None => Err(Refusal::Code(133, first)),
+        None => Err(Refusal::Code(MISFIT, first)),
         Some(bare) => {
             let of = with_const(&mut work.nodes, words, bare)?;
             Ok(Specified {

@@ -23,7 +23,7 @@ use c_elaborator::{Name, Work};
 use c_expressions::Nodes;
 use c_tree::{Member, RecordKind};
 use c_types::{Decl, DeclKind, Entry, Faults, Storage, TagKind, Tagging};
-use ck_base::{NoMemory, Pos, Refusal};
+use ck_base::{INCOMPLETE_TYPE, MISFIT, NoMemory, Pos, Refusal};
 
 // A new struct or union, in what is declared.
 fn add_tag(nodes: &mut Nodes<'_>, kind: RecordKind) -> Result<u32, NoMemory>
@@ -136,12 +136,12 @@ pub fn named_tag(
 {
     match found_tag(work, here, name) {
         None => declare_tag(work, kind, name),
-        Some(Tagging::Enumerated) => Err(Refusal::Code(133, name.pos)),
+        Some(Tagging::Enumerated) => Err(Refusal::Code(MISFIT, name.pos)),
         Some(Tagging::Recorded(tag)) => {
             if work.nodes.scopes.is_of_kind(tag, kind) {
                 Ok(tag)
             } else {
-                Err(Refusal::Code(133, name.pos))
+                Err(Refusal::Code(MISFIT, name.pos))
             }
         }
     }
@@ -204,8 +204,8 @@ pub fn named_enumeration(work: &Work<'_>, name: Name) -> Result<(), Refusal>
         (named_enumeration_of (token_of work.now name)) NothingThere IsNothing result }
 {
     match found_tag(work, false, name) {
-        None => Err(Refusal::Code(132, name.pos)),
+        None => Err(Refusal::Code(INCOMPLETE_TYPE, name.pos)),
         Some(Tagging::Enumerated) => Ok(()),
-        Some(Tagging::Recorded(_)) => Err(Refusal::Code(133, name.pos)),
+        Some(Tagging::Recorded(_)) => Err(Refusal::Code(MISFIT, name.pos)),
     }
 }

@@ -24,7 +24,7 @@ use c_elaborator::{Context, Definition, Items, Work, add_statement};
 use c_readings::node_at;
 use c_statements::all_items;
 use c_tree::{StmtKind, VarDef};
-use ck_base::{NoMemory, Pos, Refusal, Sequence};
+use ck_base::{INCOMPLETE_TYPE, NoMemory, Pos, Refusal, Sequence};
 use std::alloc::Global;
 
 // ---- the variables
@@ -267,7 +267,7 @@ pub(crate) fn define_body<'a>(
     let count = count_of(p.params.as_slice())?;
     let context = context_of(work, k);
     if let Some(place) = first_incomplete(work, p.params.as_slice()) {
-        return Err(Refusal::Code(132, place));
+        return Err(Refusal::Code(INCOMPLETE_TYPE, place));
     }
     open_body(work, p)?;
     type_body(work, k, context, count, block, depth)

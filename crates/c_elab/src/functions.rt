@@ -23,7 +23,7 @@ use c_expressions::Class;
 use c_readings::{derived, specified, three};
 use c_statements::declare_definition;
 use c_types::{Decl, DeclKind, Faults};
-use ck_base::{Pos, Refusal};
+use ck_base::{NO_TREE, Pos, Refusal};
 
 // The parameters, where the declarator itself is that of a function: what is made last stands first.
 fn own_prototype<'a>(wraps: Vec<Wrap<'a>>) -> Option<Prototype<'a>>
@@ -138,7 +138,7 @@ fn define_named<'a>(
         (λ e. define_named y e e.name z (reading z)) NothingThere IsNothing result }
 {
     match d.name {
-        None => Err(Refusal::Code(120, s.first)),
+        None => Err(Refusal::Code(NO_TREE, s.first)),
         Some(name) => define_so(work, s, name, d.wraps, block, depth),
     }
 }
@@ -178,7 +178,7 @@ pub(crate) fn function_definition(
         Answers freely work.old work.new (function_definition t xs (readings xs)) NothingThere IsNothing result }
 {
     match three(kids) {
-        None => Err(Refusal::Code(120, pos)),
+        None => Err(Refusal::Code(NO_TREE, pos)),
         Some(x) => define(work, x.first, x.second, x.third, depth),
     }
 }

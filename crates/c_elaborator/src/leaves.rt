@@ -18,7 +18,7 @@ use crate::work::{Name, Use, Used, Work};
 use c_expressions::{Leaf, Operand};
 use c_operators::int_constant;
 use c_types::Entity;
-use ck_base::{NoMemory, Pos, Refusal, Span};
+use ck_base::{MISFIT, NoMemory, Pos, Refusal, Span, UNDEFINED_NAME};
 
 // The 64 bits of an enumeration constant.
 #[tactic(auto, using(crate::proofs::Kept::kept_is))]
@@ -100,13 +100,13 @@ impl<'a> Work<'a> {
         ensures { Answers quietly self.old self.new (denoting self.old.nodes entity pos) OperandThere IsOperand result }
     {
         match entity {
-            None => Err(Refusal::Code(130, pos)),
+            None => Err(Refusal::Code(UNDEFINED_NAME, pos)),
             Some(Entity::Local(k, of)) => self.local(k, of, pos),
             Some(Entity::Static(k)) => self.object(k, pos),
             Some(Entity::Routine(k)) => self.function(k, pos),
             Some(Entity::Enumerator(value)) => self.constant(value, pos),
-            Some(Entity::Alias(_)) => Err(Refusal::Code(133, pos)),
-            Some(Entity::Library(_, _)) => Err(Refusal::Code(133, pos)),
+            Some(Entity::Alias(_)) => Err(Refusal::Code(MISFIT, pos)),
+            Some(Entity::Library(_, _)) => Err(Refusal::Code(MISFIT, pos)),
         }
     }
 

@@ -16,7 +16,7 @@ use crate::work::{Name, Work};
 use c_expressions::{Integer, Leaf, Nodes, Operand};
 use c_operators::append_text;
 use c_tree::{CType, Literal};
-use ck_base::{NoMemory, Pos, Refusal, Sequence, TokenKind};
+use ck_base::{NoMemory, Pos, Refusal, Sequence, TYPE_TOO_LARGE, TokenKind};
 use ck_int::IntKind;
 use std::alloc::Global;
 use std::mem;
@@ -98,7 +98,7 @@ impl Work<'_> {
     {
         let count = count_of(&bytes);
         if count > LIMIT {
-            return Err(Refusal::Code(140, pos));
+            return Err(Refusal::Code(TYPE_TOO_LARGE, pos));
         }
         let of = chars(&mut self.nodes, count as u64)?;
         let k = next_literal(self.nodes.p.literals.as_slice())?;

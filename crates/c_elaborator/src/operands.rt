@@ -13,7 +13,7 @@ use c_complete_types::{
 use c_expressions::Operand;
 use c_operators::{compound_of, infix_join_of, stepped_of};
 use c_tree::{InfixOperator, StepOperator};
-use ck_base::{Pos, Refusal};
+use ck_base::{INCOMPLETE_TYPE, Pos, Refusal};
 use ck_int::IntOp;
 
 impl Work<'_> {
@@ -26,7 +26,7 @@ impl Work<'_> {
         ensures { Answers quietly self.old self.new (value (operand_in self.old x)) OperandThere IsOperand result }
     {
         if !is_readable(&self.nodes, x.node) {
-            return Err(Refusal::Code(132, x.first));
+            return Err(Refusal::Code(INCOMPLETE_TYPE, x.first));
         }
         let node = self.nodes.value_term(x.node)?;
         Ok(Operand {
@@ -48,7 +48,7 @@ impl Work<'_> {
         let s = self.nodes.of(a.node);
         let t = self.nodes.of(b.node);
         if !is_sum_counted(&self.nodes, s, t) {
-            return Err(Refusal::Code(132, a.first));
+            return Err(Refusal::Code(INCOMPLETE_TYPE, a.first));
         }
         infix_join_of(&mut self.nodes, InfixOperator::Int(IntOp::Add), a, b, pos)
     }
@@ -64,7 +64,7 @@ impl Work<'_> {
         let s = self.nodes.of(a.node);
         let t = self.nodes.of(b.node);
         if !is_difference_counted(&self.nodes, s, t) {
-            return Err(Refusal::Code(132, a.first));
+            return Err(Refusal::Code(INCOMPLETE_TYPE, a.first));
         }
         infix_join_of(&mut self.nodes, InfixOperator::Int(IntOp::Sub), a, b, pos)
     }
@@ -156,7 +156,7 @@ impl Work<'_> {
         let s = self.nodes.bare(self.nodes.of(a.node));
         let t = self.nodes.of(b.node);
         if !is_compound_counted(&self.nodes, op, s, t) {
-            return Err(Refusal::Code(132, a.first));
+            return Err(Refusal::Code(INCOMPLETE_TYPE, a.first));
         }
         compound_of(&mut self.nodes, op, a, b, pos)
     }
@@ -177,7 +177,7 @@ impl Work<'_> {
     {
         let t = self.nodes.bare(self.nodes.of(a.node));
         if !is_counted(&self.nodes, t) {
-            return Err(Refusal::Code(132, first));
+            return Err(Refusal::Code(INCOMPLETE_TYPE, first));
         }
         stepped_of(&mut self.nodes, op, in_front, a, pos, first)
     }

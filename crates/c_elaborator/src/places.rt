@@ -11,7 +11,7 @@ use crate::work::Work;
 use c_complete_types::is_sized;
 use c_expressions::{Operand, Step};
 use c_operators::{address_of, local_of};
-use ck_base::{NoMemory, Pos, Refusal};
+use ck_base::{INCOMPLETE_TYPE, MISFIT, NoMemory, Pos, Refusal};
 
 fn push_number(numbers: &mut Vec<u32>, k: u32) -> Result<(), NoMemory>
     ensures { OnOk result (numbers.new.items ≡ numbers.old.items ++ k ∷ []) }
@@ -37,7 +37,7 @@ impl Work<'_> {
             result }
     {
         if !is_sized(&self.nodes, to) {
-            return Err(Refusal::Code(132, first));
+            return Err(Refusal::Code(INCOMPLETE_TYPE, first));
         }
         let node = self.nodes.step(Step::Deref, a.node, to, pos)?;
         Ok(Operand { node, first })
@@ -52,7 +52,7 @@ impl Work<'_> {
     {
         let of = self.nodes.of(a.node);
         match self.nodes.target(of) {
-            None => Err(Refusal::Code(133, first)),
+            None => Err(Refusal::Code(MISFIT, first)),
             Some(to) => self.dereferenced(a, to, pos, first),
         }
     }

@@ -18,7 +18,7 @@ use crate::work::Work;
 use c_expressions::{Class, Operand};
 use c_tree::UnaryOp;
 use cap_layout::{Layout, LayoutFault};
-use ck_base::{NoMemory, Pos, Refusal};
+use ck_base::{INCOMPLETE_TYPE, NoMemory, Pos, Refusal};
 
 impl Work<'_> {
     /// `+`, `-`, `~` and `!` (C11 6.5.3.3).
@@ -155,7 +155,7 @@ impl Work<'_> {
     {
         let callable = self.is_callable(self.nodes.of(f.node))?;
         if !callable {
-            return Err(Refusal::Code(132, f.first));
+            return Err(Refusal::Code(INCOMPLETE_TYPE, f.first));
         }
         c_operators::call(&mut self.nodes, f, xs, pos)
     }
@@ -191,7 +191,7 @@ impl Work<'_> {
     {
         let measured = self.measured(of);
         match measured {
-            Err(LayoutFault::Incomplete) => Err(Refusal::Code(132, pos)),
+            Err(LayoutFault::Incomplete) => Err(Refusal::Code(INCOMPLETE_TYPE, pos)),
             Err(LayoutFault::TooLarge) => c_operators::size_constant(&mut self.nodes, 0, pos),
             Ok(layout) => c_operators::size_constant(&mut self.nodes, layout.size, pos),
         }

@@ -14,7 +14,7 @@ ghost use Rattle.c_expressions.specs.Nodes.{term_count};
 
 use crate::nodes::{Nodes, Operand};
 use c_node_facts::{Class, Step};
-use ck_base::{NoMemory, Refusal};
+use ck_base::{MISFIT, NoMemory, Refusal};
 
 impl Nodes<'_> {
     /// Whether an expression denotes an object (an lvalue, C11 6.3.2.1p1). A function designator denotes none.
@@ -235,7 +235,7 @@ impl Nodes<'_> {
         let target = self.bare(to);
         let of = self.of(x.node);
         if !self.goes_to(target, of, x.node)? {
-            return Err(Refusal::Code(133, x.first));
+            return Err(Refusal::Code(MISFIT, x.first));
         }
         Ok(self.converted(target, x.node)?)
     }
@@ -247,7 +247,7 @@ impl Nodes<'_> {
         ensures { Answers self.now self.now (condition (operand_in self.now a)) IsTerm result }
     {
         if !self.is_scalar(self.of(a.node)) {
-            return Err(Refusal::Code(133, a.first));
+            return Err(Refusal::Code(MISFIT, a.first));
         }
         Ok(a.node)
     }

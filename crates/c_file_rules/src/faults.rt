@@ -10,7 +10,7 @@ ghost use Rattle.c_file_rules.specs.Tables.{AreUses, HasDefinitions};
 use crate::found::{Found, earlier, undefined};
 use crate::tables::{Uses, count, definition, global_at};
 use c_elaborator::{Waiting, Work};
-use ck_base::NoMemory;
+use ck_base::{INCOMPLETE_TYPE, NO_CONSTANT, NoMemory};
 
 // What fails of an object: it is not complete (132), or it is used and not defined (130).
 fn object_fault(work: &Work<'_>, uses: &Uses, k: u32, rest: Option<Found>) -> Option<Found>
@@ -25,7 +25,7 @@ fn object_fault(work: &Work<'_>, uses: &Uses, k: u32, rest: Option<Found>) -> Op
     if work.nodes.scopes.is_complete(&work.nodes.p, g.of) {
         best
     } else {
-        earlier(132, g.pos, best)
+        earlier(INCOMPLETE_TYPE, g.pos, best)
     }
 }
 
@@ -104,7 +104,7 @@ fn waiting_fault(work: &Work<'_>, x: Waiting, rest: Option<Found>) -> Option<Fou
     if reaches(length, x.least) {
         rest
     } else {
-        earlier(134, x.pos, rest)
+        earlier(NO_CONSTANT, x.pos, rest)
     }
 }
 

@@ -4,7 +4,7 @@ ghost use Rattle.std.specs.Prelude.{◌≡◌};
 ghost use Rattle.c_tree.specs.Programs.{fault, undefined_use, stands_before, earlier};
 ghost use Rattle.c_file_rules.specs.Faults.{found, onto};
 
-use ck_base::Pos;
+use ck_base::{Pos, UNDEFINED_NAME};
 
 /// A rule that fails, by its code, and where.
 #[derive(Clone, Copy)]
@@ -45,7 +45,7 @@ pub(crate) fn undefined(defined: bool, used: Option<Pos>, rest: Option<Found>) -
             if defined {
                 rest
             } else {
-                earlier(130, pos, rest)
+                earlier(UNDEFINED_NAME, pos, rest)
             }
         }
     }

@@ -21,7 +21,7 @@ use c_elaborator::Work;
 use c_file_rules::{last_fault, main_of};
 use c_passing::pass;
 use c_tree::{FunDef, GlobalDef, Typed};
-use ck_base::{NoMemory, Pos, Refusal, Sequence};
+use ck_base::{NO_MAIN, NoMemory, Pos, Refusal, Sequence};
 
 /// What the end of a file makes for the written program.
 #[derive(Drop)]
@@ -86,7 +86,7 @@ fn ending(work: &Work<'_>, definitions: &[Option<u32>]) -> Result<Parts, Refusal
 {
     let found = main_of(work, definitions)?;
     match found {
-        None => Err(Refusal::Code(135, Pos { line: 1, col: 1 })),
+        None => Err(Refusal::Code(NO_MAIN, Pos { line: 1, col: 1 })),
         Some(main) => {
             let p = parts_of(work, definitions, main)?;
             Ok(p)

@@ -21,7 +21,7 @@ use crate::slots::Slot;
 use crate::starts::{Known, Pointer, Value, bytes_moved, number_at};
 use c_elaborator::{Bounds, Work};
 use c_expressions::Nodes;
-use ck_base::{NoMemory, Refusal};
+use ck_base::{NO_CONSTANT, NoMemory, Refusal};
 
 // The number that is added to an address or taken from it, if it is constant.
 fn number_of(nodes: &Nodes, node: u32) -> Option<i128>
@@ -267,7 +267,7 @@ pub fn is_start(work: &Work, x: &Slot) -> Result<(), Refusal>
         (is_start (slot_in work.now.nodes x.now)) NothingThere IsNothing result }
 {
     match known_value(work, x.value)? {
-        None => Err(Refusal::Code(134, x.first)),
+        None => Err(Refusal::Code(NO_CONSTANT, x.first)),
         Some(_) => Ok(()),
     }
 }

@@ -13,7 +13,7 @@ ghost use Rattle.c_initializers.specs.Sizes.{IsSized};
 use c_elaborator::Work;
 use c_expressions::Class;
 use cap_layout::LayoutFault;
-use ck_base::{Pos, Refusal};
+use ck_base::{INCOMPLETE_TYPE, Pos, Refusal, TYPE_TOO_LARGE};
 
 /// The bytes of a type; none where it is not complete, or over the limit.
 pub fn size_of(work: &Work, t: u32) -> u64
@@ -35,8 +35,8 @@ pub fn complete_now(work: &Work, of: u32, pos: Pos) -> Result<(), Refusal>
 {
     match work.nodes.scopes.layout(&work.nodes.p, of) {
         Ok(_) => Ok(()),
-        Err(LayoutFault::Incomplete) => Err(Refusal::Code(132, pos)),
-        Err(LayoutFault::TooLarge) => Err(Refusal::Code(140, pos)),
+        Err(LayoutFault::Incomplete) => Err(Refusal::Code(INCOMPLETE_TYPE, pos)),
+        Err(LayoutFault::TooLarge) => Err(Refusal::Code(TYPE_TOO_LARGE, pos)),
     }
 }
 

@@ -20,7 +20,7 @@ use crate::starts::{Known, Value};
 use c_elaborator::{Bounds, Start, Waiting, Work};
 use c_object_parts::Placed;
 use c_tree::Target;
-use ck_base::{NoMemory, Pos, Refusal};
+use ck_base::{NO_CONSTANT, NoMemory, Pos, Refusal};
 
 /// The numbers and the pointers that stand in an object.
 #[derive(Drop)]
@@ -45,7 +45,7 @@ fn known_values(work: &Work, slots: &[Slot]) -> Result<Vec<Known>, Refusal>
     let mut known = Vec::new(work.nodes.alloc);
     for x in slots {
         match known_value(work, x.value)? {
-            None => return Err(Refusal::Code(134, x.first)),
+            None => return Err(Refusal::Code(NO_CONSTANT, x.first)),
             Some(value) => keep(&mut known, value)?,
         }
     }

@@ -11,7 +11,7 @@ ghost use Rattle.c_initializers.specs.Slots.{plain_slot, IsSlotIn, IsFilledIn};
 use crate::slots::{Filled, Slot};
 use c_elaborator::Work;
 use c_expressions::{Class, Leaf, Nodes, Operand};
-use ck_base::{NoMemory, Pos, Refusal};
+use ck_base::{MISFIT, NoMemory, Pos, Refusal};
 use ck_int::{IntKind, wrap};
 
 fn is_character(nodes: &Nodes, of: u32) -> bool
@@ -99,7 +99,7 @@ fn string_in(
     let (element, length) = row_of(nodes, of);
     let room = room_of(length, count);
     if !has_room(count, room) {
-        return Err(Refusal::Code(133, pos));
+        return Err(Refusal::Code(MISFIT, pos));
     }
     let most = count.min(room) as usize;
     let slots = byte_slots(nodes, whole, element, at, &bytes[..most])?;

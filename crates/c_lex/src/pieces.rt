@@ -9,7 +9,7 @@ use crate::forms::{is_left_out, longest_token};
 use crate::literals::{char_of, integer_of, is_string};
 use crate::places::{Place, behind};
 use crate::separators::{Comment, Directive, comment_at, directive_at, is_blank, line_length};
-use ck_base::TokenKind;
+use ck_base::{EXCLUDED_WORD, INVALID_LITERAL, NO_TOKEN, PRAGMA_PACK, TokenKind, UNCLOSED};
 
 // What stands at a place where no separator does.
 #[derive(Clone, Copy)]
@@ -40,18 +40,30 @@ fn fault_of(kind: TokenKind, text: &[u8]) -> Option<u16>
             if integer_of(text).is_some() {
                 None
             } else {
-                Some(102)
+                Some(INVALID_LITERAL)
             }
         }
         TokenKind::Char => {
             if char_of(text).is_some() {
                 None
             } else {
-                Some(102)
+                Some(INVALID_LITERAL)
             }
         }
-        TokenKind::Text => { if is_string(text) { None } else { Some(102) } }
-        TokenKind::Word | TokenKind::Punct => { if is_left_out(text) { Some(103) } else { None } }
+        TokenKind::Text => {
+            if is_string(text) {
+                None
+            } else {
+                Some(INVALID_LITERAL)
+            }
+        }
+        TokenKind::Word | TokenKind::Punct => {
+            if is_left_out(text) {
+                Some(EXCLUDED_WORD)
+            } else {
+                None
+            }
+        }
     }
 }
 
@@ -72,8 +84,8 @@ fn token_at(bytes: &[u8]) -> Found
             Some(code) => Found::Refused(code),
             None => Found::Token(kind, n),
         },
-        None if is_quote(bytes[0]) => Found::Refused(101),
-        None => Found::Refused(100),
+        None if is_quote(bytes[0]) => Found::Refused(UNCLOSED),
+        None => Found::Refused(NO_TOKEN),
     }
 }
 
@@ -88,13 +100,13 @@ fn piece_at(first: bool, bytes: &[u8]) -> Piece
     }
     match comment_at(bytes) {
         Comment::Whole(n) => return Piece::Separator(n),
-        Comment::Unclosed => return Piece::Other(Found::Refused(101)),
+        Comment::Unclosed => return Piece::Other(Found::Refused(UNCLOSED)),
         Comment::Missing => {}
     }
     if first {
         match directive_at(bytes) {
             Directive::Skipped => return Piece::Separator(line_length(bytes)),
-            Directive::Pack => return Piece::Other(Found::Refused(104)),
+            Directive::Pack => return Piece::Other(Found::Refused(PRAGMA_PACK)),
             Directive::Missing => {}
         }
     }

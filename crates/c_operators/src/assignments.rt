@@ -14,7 +14,7 @@ ghost use Rattle.c_expressions.specs.Nodes.{term_count};
 ghost use Rattle.c_operators.specs.Rules.{compound_of, address_of};
 
 use c_expressions::{Join, Nodes, Operand, Step};
-use ck_base::{NoMemory, Pos, Refusal};
+use ck_base::{MISFIT, NoMemory, Pos, Refusal};
 use ck_int::IntOp;
 
 fn is_additive(op: IntOp) -> bool
@@ -58,7 +58,7 @@ pub fn assign(nodes: &mut Nodes<'_>, a: Operand, b: Operand, pos: Pos) -> Result
         result }
 {
     if !nodes.is_modifiable(a.node) {
-        return Err(Refusal::Code(133, a.first));
+        return Err(Refusal::Code(MISFIT, a.first));
     }
     let of = nodes.of(a.node);
     let to = nodes.bare(of);
@@ -167,7 +167,7 @@ pub fn compound_of(
     let s = nodes.bare(of);
     let t = nodes.of(b.node);
     if !may_compound(nodes, op, a.node, s, t) {
-        return Err(Refusal::Code(133, a.first));
+        return Err(Refusal::Code(MISFIT, a.first));
     }
     let computed = computed_in(nodes, op, s, t)?;
     let right = right_of(nodes, op, s, b.node)?;
@@ -197,7 +197,7 @@ pub fn address_of(nodes: &mut Nodes<'_>, a: Operand, pos: Pos) -> Result<Operand
 {
     let of = nodes.of(a.node);
     if !has_address(nodes, a.node, of) {
-        return Err(Refusal::Code(133, pos));
+        return Err(Refusal::Code(MISFIT, pos));
     }
     let to = nodes.pointer_to(of)?;
     let node = nodes.step(Step::Address, a.node, to, pos)?;
@@ -234,7 +234,7 @@ pub fn cast(nodes: &mut Nodes<'_>, t: u32, a: Operand, pos: Pos) -> Result<Opera
     let to = nodes.bare(t);
     let of = nodes.of(a.node);
     if !casts(nodes, to, of) {
-        return Err(Refusal::Code(133, pos));
+        return Err(Refusal::Code(MISFIT, pos));
     }
     let node = nodes.convert(a.node, to, pos)?;
     Ok(Operand { node, first: pos })

@@ -12,7 +12,7 @@ ghost use Rattle.c_expressions.specs.Nodes.{term_count};
 ghost use Rattle.c_operators.specs.Choices.{conditional_with, arms_where, arms_as, target_arms};
 
 use c_expressions::{Nodes, Operand};
-use ck_base::{NoMemory, Pos, Refusal};
+use ck_base::{MISFIT, NoMemory, Pos, Refusal};
 
 /// The type of a conditional expression, by those of its second and third operands.
 #[derive(Clone, Copy)]
@@ -244,7 +244,7 @@ fn conditional_with(
         (operand_in nodes.old b) (operand_in nodes.old c) pos) IsOperand result }
 {
     if !nodes.is_scalar(nodes.of(a.node)) {
-        return Err(Refusal::Code(133, a.first));
+        return Err(Refusal::Code(MISFIT, a.first));
     }
     let left = nodes.converted(of, b.node)?;
     let right = nodes.converted(of, c.node)?;
@@ -271,7 +271,7 @@ pub fn conditional(
         (operand_in nodes.old c) pos) IsOperand result }
 {
     match arms_type(nodes, b, c)? {
-        None => Err(Refusal::Code(133, a.first)),
+        None => Err(Refusal::Code(MISFIT, a.first)),
         Some(of) => conditional_with(nodes, of, a, b, c, pos),
     }
 }

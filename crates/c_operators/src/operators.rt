@@ -12,7 +12,7 @@ ghost use Rattle.c_operators.specs.Rules.{negated, promoted_unary};
 
 use c_expressions::{Class, Join, Nodes, Operand, Step};
 use c_tree::UnaryOp;
-use ck_base::{NoMemory, Pos, Refusal};
+use ck_base::{MISFIT, NoMemory, Pos, Refusal};
 use ck_int::IntOp;
 
 // Which of two capability integers a result derives from.
@@ -73,7 +73,7 @@ pub fn arithmetic(
     let s = nodes.of(a.node);
     let t = nodes.of(b.node);
     if !nodes.are_integers(s, t) {
-        return Err(Refusal::Code(133, a.first));
+        return Err(Refusal::Code(MISFIT, a.first));
     }
     let of = nodes.common(s, t)?;
     let left = nodes.converted(of, a.node)?;
@@ -129,7 +129,7 @@ pub fn shift(
     let s = nodes.of(a.node);
     let t = nodes.of(b.node);
     if !nodes.are_integers(s, t) {
-        return Err(Refusal::Code(133, a.first));
+        return Err(Refusal::Code(MISFIT, a.first));
     }
     let of = nodes.promoted(s)?;
     let left = nodes.converted(of, a.node)?;
@@ -147,7 +147,7 @@ fn negated(nodes: &mut Nodes<'_>, a: Operand, pos: Pos) -> Result<Operand, Refus
     ensures { Answers nodes.old nodes.new (negated (operand_in nodes.old a) pos) IsOperand result }
 {
     if !nodes.is_scalar(nodes.of(a.node)) {
-        return Err(Refusal::Code(133, pos));
+        return Err(Refusal::Code(MISFIT, pos));
     }
     let of = nodes.int()?;
     let node = nodes.step(Step::Unary(UnaryOp::LogicalNot), a.node, of, pos)?;
@@ -166,7 +166,7 @@ fn promoted_unary(
 {
     let s = nodes.of(a.node);
     if !nodes.is_integer(s) {
-        return Err(Refusal::Code(133, pos));
+        return Err(Refusal::Code(MISFIT, pos));
     }
     let of = nodes.promoted(s)?;
     let operand = nodes.converted(of, a.node)?;
@@ -209,7 +209,7 @@ pub fn conjunction(
     let s = nodes.of(a.node);
     let t = nodes.of(b.node);
     if !nodes.are_scalars(s, t) {
-        return Err(Refusal::Code(133, a.first));
+        return Err(Refusal::Code(MISFIT, a.first));
     }
     let of = nodes.int()?;
     let node = nodes.join(Join::And, a.node, b.node, of, pos)?;
@@ -235,7 +235,7 @@ pub fn disjunction(
     let s = nodes.of(a.node);
     let t = nodes.of(b.node);
     if !nodes.are_scalars(s, t) {
-        return Err(Refusal::Code(133, a.first));
+        return Err(Refusal::Code(MISFIT, a.first));
     }
     let of = nodes.int()?;
     let node = nodes.join(Join::Or, a.node, b.node, of, pos)?;

@@ -17,7 +17,7 @@ ghost use Rattle.c_operators.specs.Rules.{fallback_of, comparing_as, comparing_p
 use crate::operators::{arithmetic, comma, conjunction, disjunction, shift};
 use c_expressions::{Join, Nodes, Operand};
 use c_tree::InfixOperator;
-use ck_base::{NoMemory, Pos, Refusal};
+use ck_base::{MISFIT, NoMemory, Pos, Refusal};
 use ck_int::{CmpOp, IntOp};
 
 /// Which operand of a comparison is converted to the other one's type.
@@ -341,7 +341,7 @@ fn compared_as(
     match how {
         Fallback::Right => compared_right(nodes, op, a, b, pos),
         Fallback::Left => compared_left(nodes, op, a, b, pos),
-        Fallback::Neither => Err(Refusal::Code(133, a.first)),
+        Fallback::Neither => Err(Refusal::Code(MISFIT, a.first)),
     }
 }
 

@@ -14,7 +14,7 @@ ghost use Rattle.c_operators.specs.Services.{asked_as, takes_as, given_as, libra
 
 use c_expressions::{Integer, Nodes, Operand};
 use c_postfix_operators::{fewer, push};
-use ck_base::{NoMemory, Pos, Refusal};
+use ck_base::{MISFIT, NoMemory, Pos, Refusal, WRONG_ARGUMENT_COUNT};
 use ck_int::IntKind;
 
 /// What an argument must be.
@@ -181,7 +181,7 @@ fn capability(nodes: &Nodes<'_>, x: Operand) -> Result<u32, Refusal>
     ensures { Answers nodes.now nodes.now (asked Any_capability (operand_in nodes.now x)) IsTerm result }
 {
     if !nodes.is_capability(nodes.of(x.node)) {
-        return Err(Refusal::Code(133, x.first));
+        return Err(Refusal::Code(MISFIT, x.first));
     }
     Ok(x.node)
 }
@@ -270,7 +270,7 @@ fn served(
 {
     let values = all_asked(nodes, takes, xs)?;
     if !are_as_many_asked(takes, xs) {
-        return Err(Refusal::Code(136, first));
+        return Err(Refusal::Code(WRONG_ARGUMENT_COUNT, first));
     }
     let of = given_type(nodes, gives, values.as_slice())?;
     let node = nodes.library_node(service, values, of, pos)?;
@@ -293,7 +293,7 @@ pub fn library_call(
         (map (operand_in nodes.old) xs.now) pos first) IsOperand result }
 {
     match service_of(service) {
-        None => Err(Refusal::Code(133, first)),
+        None => Err(Refusal::Code(MISFIT, first)),
         Some(called) => served(
             nodes,
             service,

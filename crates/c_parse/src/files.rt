@@ -13,7 +13,7 @@ use c_externals::file;
 use c_lex::{Tokens, calls_read};
 use c_phrases::{Cursor, Item, Place, Stop, Stream, TypeNames};
 use c_tree::{Symbol, Tree};
-use ck_base::{Pos, Refusal, Sequence};
+use ck_base::{NO_TREE, Pos, Refusal, Sequence, TOO_MANY_BRACKETS};
 use std::alloc::{AllocError, Global};
 
 /// One more than the greatest excess of opening over closing brackets.
@@ -125,7 +125,7 @@ fn check<'a>(tokens: Tokens<'a>) -> Result<(), Refusal>
         }
     }
     match brackets.deep {
-        Some(place) => Err(Refusal::Code(121, place)),
+        Some(place) => Err(Refusal::Code(TOO_MANY_BRACKETS, place)),
         None => Ok(()),
     }
 }
@@ -185,7 +185,7 @@ fn tree_of<'a>(alloc: Global, tokens: Tokens<'a>) -> Result<Tree, Refusal>
         Err(Stop::NoTree) => {
             let at = cursor.left.at();
             let again = Stream::new(tokens);
-            Err(Refusal::Code(120, stopped(again, at)))
+            Err(Refusal::Code(NO_TREE, stopped(again, at)))
         }
         Err(Stop::NoMemory) => Err(Refusal::NoMemory),
     }

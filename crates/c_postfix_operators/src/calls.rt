@@ -12,7 +12,7 @@ ghost use Rattle.c_expressions.specs.Nodes.{IsWhole, IsOperand, operand_in, type
 ghost use Rattle.c_postfix_operators.specs.Called.{AreTerms, AreThere, IsCallee};
 
 use c_expressions::{Class, Nodes, Operand};
-use ck_base::{NoMemory, Pos, Refusal};
+use ck_base::{MISFIT, NoMemory, Pos, Refusal, WRONG_ARGUMENT_COUNT};
 
 /// What a function gives, and its parameters, by the numbers of the types.
 #[derive(Drop)]
@@ -113,7 +113,7 @@ pub fn call(nodes: &mut Nodes<'_>, f: Operand, xs: &[Operand], pos: Pos) -> Resu
 {
     let of = nodes.of(f.node);
     match callee(nodes, of)? {
-        None => Err(Refusal::Code(133, f.first)),
+        None => Err(Refusal::Code(MISFIT, f.first)),
         Some(signature) => called(
             nodes,
             f,
@@ -144,7 +144,7 @@ fn called(
 {
     let values = arguments(nodes, params, xs)?;
     if !are_as_many(params, xs) {
-        return Err(Refusal::Code(136, f.first));
+        return Err(Refusal::Code(WRONG_ARGUMENT_COUNT, f.first));
     }
     let to = nodes.bare(gives);
     let node = nodes.call_node(f.node, values, to, pos)?;

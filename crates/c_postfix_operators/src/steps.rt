@@ -9,7 +9,7 @@ ghost use Rattle.c_postfix_operators.specs.Steps.{stepped_of};
 
 use c_expressions::{Nodes, Operand, Step};
 use c_tree::StepOperator;
-use ck_base::{Pos, Refusal};
+use ck_base::{MISFIT, Pos, Refusal};
 
 fn increments(op: StepOperator) -> bool
     ensures { increments op ≡ result }
@@ -48,7 +48,7 @@ pub fn stepped_of(
     let of = nodes.of(a.node);
     let t = nodes.bare(of);
     if !may_step(nodes, a.node, t) {
-        return Err(Refusal::Code(133, first));
+        return Err(Refusal::Code(MISFIT, first));
     }
     let adds = increments(op);
     let node = nodes.step(Step::Move(adds, in_front), a.node, t, pos)?;

@@ -53,7 +53,7 @@ use c_specifiers::{
 use c_tree::{
     InfixOperator, Node, NodeKind, PrefixOperator, RecordKind, Selection, StepOperator, UnaryOp,
 };
-use ck_base::{NoMemory, Pos, Refusal};
+use ck_base::{MISFIT, NO_TREE, NoMemory, Pos, Refusal};
 use ck_int::IntOp;
 
 /// Two operands.
@@ -118,7 +118,7 @@ fn expression(work: &mut Work<'_>, node: &Node, depth: u32) -> Result<Operand, R
         NodeKind::Infix(op) => infix(work, op, kids, node.pos, depth),
         NodeKind::Conditional => conditional(work, kids, node.pos, depth),
         NodeKind::Assignment(op) => assignment(work, op, kids, node.pos, depth),
-        _ => Err(Refusal::Code(120, node.pos)),
+        _ => Err(Refusal::Code(NO_TREE, node.pos)),
     }
 }
 
@@ -143,7 +143,7 @@ fn one_operand(work: &mut Work<'_>, kids: &[u32], pos: Pos, depth: u32) -> Resul
 {
     match only(kids) {
         Some(k) => operand(work, k, depth),
-        None => Err(Refusal::Code(120, pos)),
+        None => Err(Refusal::Code(NO_TREE, pos)),
     }
 }
 
@@ -171,7 +171,7 @@ fn two_values(work: &mut Work<'_>, kids: &[u32], pos: Pos, depth: u32) -> Result
 {
     match two(kids) {
         Some(x) => values_of(work, x.first, x.second, depth),
-        None => Err(Refusal::Code(120, pos)),
+        None => Err(Refusal::Code(NO_TREE, pos)),
     }
 }
 
@@ -234,7 +234,7 @@ fn one_value(work: &mut Work<'_>, kids: &[u32], pos: Pos, depth: u32) -> Result<
 {
     match only(kids) {
         Some(k) => value_of(work, k, depth),
-        None => Err(Refusal::Code(120, pos)),
+        None => Err(Refusal::Code(NO_TREE, pos)),
     }
 }
 
@@ -262,7 +262,7 @@ fn place_and_value(work: &mut Work<'_>, kids: &[u32], pos: Pos, depth: u32) -> R
 {
     match two(kids) {
         Some(x) => place_with_value(work, x.first, x.second, depth),
-        None => Err(Refusal::Code(120, pos)),
+        None => Err(Refusal::Code(NO_TREE, pos)),
     }
 }
 
@@ -297,7 +297,7 @@ fn three_values(work: &mut Work<'_>, kids: &[u32], pos: Pos, depth: u32) -> Resu
 {
     match three(kids) {
         Some(x) => values_of_three(work, x.first, x.second, x.third, depth),
-        None => Err(Refusal::Code(120, pos)),
+        None => Err(Refusal::Code(NO_TREE, pos)),
     }
 }
 
@@ -310,7 +310,7 @@ fn one_type(work: &mut Work<'_>, kids: &[u32], pos: Pos, depth: u32) -> Result<u
 {
     match only(kids) {
         Some(k) => type_of(work, k, false, depth),
-        None => Err(Refusal::Code(120, pos)),
+        None => Err(Refusal::Code(NO_TREE, pos)),
     }
 }
 
@@ -343,7 +343,7 @@ fn type_and_value(
 {
     match two(kids) {
         Some(x) => type_with_value(work, x.first, x.second, depth),
-        None => Err(Refusal::Code(120, pos)),
+        None => Err(Refusal::Code(NO_TREE, pos)),
     }
 }
 
@@ -625,7 +625,7 @@ fn selected(
                 Selection::Indirect => member_behind(work, x.first, name, pos, depth),
             }
         }
-        None => Err(Refusal::Code(120, pos)),
+        None => Err(Refusal::Code(NO_TREE, pos)),
     }
 }
 
@@ -702,7 +702,7 @@ fn call(work: &mut Work<'_>, kids: &[u32], pos: Pos, depth: u32) -> Result<Opera
         Answers quietly work.old work.new (expression_of kinds.Call t xs (readings xs)) OperandThere IsOperand result }
 {
     match first_of(kids) {
-        None => Err(Refusal::Code(120, pos)),
+        None => Err(Refusal::Code(NO_TREE, pos)),
         Some(part) => {
             let node = node_at(work, part.first);
             let service = library(work, part.first, depth);
@@ -859,7 +859,7 @@ fn type_of_node(work: &mut Work<'_>, node: &Node, alone: bool, depth: u32) -> Re
         NodeKind::Record(kind) => record_specifier(work, kind, alone, kids, node.pos, depth),
         NodeKind::Enum => enum_specifier(work, kids, depth),
         NodeKind::TypeName => type_name(work, kids, node.pos, depth),
-        _ => Err(Refusal::Code(120, node.pos)),
+        _ => Err(Refusal::Code(NO_TREE, node.pos)),
     }
 }
 
@@ -880,7 +880,7 @@ fn unstored(
 {
     let s = specified(work, k, false, depth)?;
     if has_storage(s.stored, register) {
-        return Err(Refusal::Code(133, pos));
+        return Err(Refusal::Code(MISFIT, pos));
     }
     Ok(s)
 }
@@ -893,7 +893,7 @@ fn type_name(work: &mut Work<'_>, kids: &[u32], pos: Pos, depth: u32) -> Result<
         Answers quietly work.old work.new (type_name t xs (readings xs)) TypeThere IsType result }
 {
     match first_of(kids) {
-        None => Err(Refusal::Code(120, pos)),
+        None => Err(Refusal::Code(NO_TREE, pos)),
         Some(part) => {
             let register = has_register(work.tree, kids);
             let s = unstored(work, part.first, register, pos, depth)?;
@@ -1024,7 +1024,7 @@ fn member<'a>(
     let node = node_at(work, k);
     let kids = node.kids.as_slice();
     match first_of(kids) {
-        None => Err(Refusal::Code(120, node.pos)),
+        None => Err(Refusal::Code(NO_TREE, node.pos)),
         Some(part) => {
             let register = has_register(work.tree, kids);
             let s = unstored(work, part.first, register, node.pos, depth - 1)?;
@@ -1209,7 +1209,7 @@ fn declarator<'a>(work: &mut Work<'a>, node: &Node, depth: u32) -> Result<Derive
         NodeKind::OpenArray => open_array(work, kids, depth),
         NodeKind::Array => array(work, kids, node.pos, depth),
         NodeKind::Function => function(work, kids, node.pos, depth),
-        _ => Err(Refusal::Code(120, node.pos)),
+        _ => Err(Refusal::Code(NO_TREE, node.pos)),
     }
 }
 
@@ -1227,7 +1227,7 @@ fn enclosed<'a>(
         DerivedThere ShowsDerived result }
 {
     match first_of(kids) {
-        None => Err(Refusal::Code(120, pos)),
+        None => Err(Refusal::Code(NO_TREE, pos)),
         Some(part) => derived(work, part.first, depth),
     }
 }
@@ -1260,7 +1260,7 @@ fn pointer<'a>(
         result }
 {
     match first_of(kids) {
-        None => Err(Refusal::Code(120, pos)),
+        None => Err(Refusal::Code(NO_TREE, pos)),
         Some(part) => {
             let qualified = parts_const(work.tree, kids);
             let d = within(work, part.others, depth)?;
@@ -1297,7 +1297,7 @@ fn array<'a>(
         result }
 {
     match ends(kids) {
-        None => Err(Refusal::Code(120, pos)),
+        None => Err(Refusal::Code(NO_TREE, pos)),
         Some(x) => row(work, x.before, x.last, depth),
     }
 }
@@ -1348,7 +1348,7 @@ fn function<'a>(
         result }
 {
     match ends(kids) {
-        None => Err(Refusal::Code(120, pos)),
+        None => Err(Refusal::Code(NO_TREE, pos)),
         Some(x) => function_with(work, x.before, x.last, depth),
     }
 }
@@ -1440,7 +1440,7 @@ fn parameter_at(
         (in_any IsParam) result }
 {
     match first_of(kids) {
-        None => Err(Refusal::Code(120, first.pos)),
+        None => Err(Refusal::Code(NO_TREE, first.pos)),
         Some(part) => {
             let s = unstored(work, part.first, false, first.pos, depth)?;
             let d = within(work, part.others, depth)?;

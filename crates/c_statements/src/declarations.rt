@@ -21,7 +21,7 @@ use c_declarators::{Derived, Formed, Specified, Wrap, formed};
 use c_elaborator::{Items, Name, Work, join, no_items};
 use c_readings::{derived, first_of, node_at, specified};
 use c_types::{Decl, DeclKind};
-use ck_base::{Pos, Refusal};
+use ck_base::{NO_TREE, Pos, Refusal};
 
 /// What stands behind a declarator.
 #[derive(Clone, Copy)]
@@ -113,7 +113,7 @@ fn declare_named(
         Answers freely work.old work.new (declare_named y e e.name b) ItemsThere IsItems result }
 {
     match d.name {
-        None => Err(Refusal::Code(120, s.first)),
+        None => Err(Refusal::Code(NO_TREE, s.first)),
         Some(name) => declare_so(work, s, name, d.wraps.as_slice(), behind, depth),
     }
 }
@@ -149,7 +149,7 @@ fn declared(work: &mut Work<'_>, s: Specified, k: u32, depth: u32) -> Result<Ite
 {
     let node = node_at(work, k);
     match first_of(node.kids.as_slice()) {
-        None => Err(Refusal::Code(120, s.first)),
+        None => Err(Refusal::Code(NO_TREE, s.first)),
         Some(x) => declare_with(work, s, x.first, x.others, depth),
     }
 }
@@ -207,7 +207,7 @@ pub fn declaration(
         Answers freely work.old work.new (declaration pos (readings xs)) ItemsThere IsItems result }
 {
     match first_of(kids) {
-        None => Err(Refusal::Code(120, pos)),
+        None => Err(Refusal::Code(NO_TREE, pos)),
         Some(x) => declare_list(work, x.first, x.others, depth),
     }
 }

@@ -10,7 +10,7 @@ use crate::initial::Goal;
 use c_elaborator::Work;
 use c_initializers::{Places, Slot, takes_string};
 use c_tree::NodeKind;
-use ck_base::{NoMemory, Pos, Refusal};
+use ck_base::{MISFIT, NoMemory, Pos, Refusal};
 use std::alloc::Global;
 
 // The string literal in braces that initialises an array of characters, if nothing else stands there.
@@ -58,7 +58,7 @@ pub(crate) fn next_part(
     ensures { IsNext places.now number goal brace result }
 {
     match places.get(number) {
-        None => Err(Refusal::Code(133, brace)),
+        None => Err(Refusal::Code(MISFIT, brace)),
         Some(place) => Ok(Goal {
             of: place.of,
             at: goal.at + place.at,

@@ -17,7 +17,7 @@ use c_declarators::Constant;
 use c_elaborator::Work;
 use c_expressions::Nodes;
 use c_readings::{constant, first_of, value_of};
-use ck_base::{NoMemory, Pos, Refusal};
+use ck_base::{MISFIT, NoMemory, Pos, Refusal};
 use ck_int::{IntKind, wrap};
 
 /// What a `switch` is on: the number of its promoted type, and the expression in that type.
@@ -47,7 +47,7 @@ pub(crate) fn switched(work: &mut Work<'_>, k: u32, depth: u32) -> Result<Contro
 {
     let a = value_of(work, k, depth)?;
     if !work.nodes.is_integer(work.nodes.of(a.node)) {
-        return Err(Refusal::Code(133, a.first));
+        return Err(Refusal::Code(MISFIT, a.first));
     }
     let on = promoted_value(&mut work.nodes, a.node)?;
     Ok(on)

@@ -14,7 +14,7 @@ ghost use Rattle.c_statements.specs.Statements.{evaluate_one, evaluated, IsJump,
 use c_elaborator::{Context, Items, Work, does};
 use c_readings::{first_of, only, value_of};
 use c_tree::StmtKind;
-use ck_base::{Pos, Refusal};
+use ck_base::{MISFIT, NO_TREE, Pos, Refusal};
 
 // The truth value of an expression that is tested (C11 6.8.4.1p1, 6.8.5p2).
 pub(crate) fn test(work: &mut Work<'_>, k: u32, depth: u32) -> Result<u32, Refusal>
@@ -56,7 +56,7 @@ pub(crate) fn evaluate(
         Answers freely work.old work.new (evaluated pos (readings xs)) OnlyThere IsItems result }
 {
     match only(kids) {
-        None => Err(Refusal::Code(120, pos)),
+        None => Err(Refusal::Code(NO_TREE, pos)),
         Some(k) => evaluate_one(work, k, pos, depth),
     }
 }
@@ -77,7 +77,7 @@ pub(crate) fn jump(
     if allowed {
         does(work, kind, pos)
     } else {
-        Err(Refusal::Code(133, pos))
+        Err(Refusal::Code(MISFIT, pos))
     }
 }
 
@@ -91,7 +91,7 @@ fn return_nothing(work: &mut Work<'_>, context: Context, pos: Pos) -> Result<Ite
     if work.nodes.is_void(context.gives) {
         does(work, StmtKind::Return(None), pos)
     } else {
-        Err(Refusal::Code(133, pos))
+        Err(Refusal::Code(MISFIT, pos))
     }
 }
 
@@ -112,7 +112,7 @@ fn return_value(
 {
     let a = value_of(work, k, depth)?;
     if work.nodes.is_void(context.gives) {
-        return Err(Refusal::Code(133, pos));
+        return Err(Refusal::Code(MISFIT, pos));
     }
     let value = work.assigned(context.gives, a)?;
     does(work, StmtKind::Return(Some(value)), pos)

@@ -29,7 +29,7 @@ use c_control::{Cases, for_kind, in_a_loop, in_a_switch, switch_kind, with_items
 use c_elaborator::{Context, Items, Work, does, enter, join, leave, no_items};
 use c_readings::{first_of, node_at, only, three, two};
 use c_tree::{Node, NodeKind, StmtKind};
-use ck_base::{Pos, Refusal, Sequence};
+use ck_base::{NO_TREE, Pos, Refusal, Sequence};
 use indexmap::IndexMap;
 
 // The statement that is given alone.
@@ -118,7 +118,7 @@ fn inside(work: &mut Work<'_>, context: Context, node: &Node, depth: u32) -> Res
         NodeKind::Do => do_loop(work, context, kids, node.pos, depth),
         NodeKind::For => for_loop(work, context, kids, node.pos, depth),
         NodeKind::Switch => switch(work, context, kids, node.pos, depth),
-        _ => Err(Refusal::Code(120, node.pos)),
+        _ => Err(Refusal::Code(NO_TREE, node.pos)),
     }
 }
 
@@ -207,7 +207,7 @@ fn if_one(
         result }
 {
     match two(kids) {
-        None => Err(Refusal::Code(120, pos)),
+        None => Err(Refusal::Code(NO_TREE, pos)),
         Some(x) => if_with(work, context, x.first, x.second, pos, depth),
     }
 }
@@ -251,7 +251,7 @@ fn if_else(
         IsItems result }
 {
     match three(kids) {
-        None => Err(Refusal::Code(120, pos)),
+        None => Err(Refusal::Code(NO_TREE, pos)),
         Some(x) => if_else_with(work, context, x.first, x.second, x.third, pos, depth),
     }
 }
@@ -298,7 +298,7 @@ fn while_loop(
         result }
 {
     match two(kids) {
-        None => Err(Refusal::Code(120, pos)),
+        None => Err(Refusal::Code(NO_TREE, pos)),
         Some(x) => while_with(work, context, x.first, x.second, pos, depth),
     }
 }
@@ -342,7 +342,7 @@ fn do_loop(
         result }
 {
     match two(kids) {
-        None => Err(Refusal::Code(120, pos)),
+        None => Err(Refusal::Code(NO_TREE, pos)),
         Some(x) => do_with(work, context, x.first, x.second, pos, depth),
     }
 }
@@ -386,7 +386,7 @@ fn for_loop(
         IsItems result }
 {
     match four(kids) {
-        None => Err(Refusal::Code(120, pos)),
+        None => Err(Refusal::Code(NO_TREE, pos)),
         Some(x) => for_with(work, context, x, pos, depth),
     }
 }
@@ -534,7 +534,7 @@ fn switch(
         IsItems result }
 {
     match first_of(kids) {
-        None => Err(Refusal::Code(120, pos)),
+        None => Err(Refusal::Code(NO_TREE, pos)),
         Some(x) => switch_with(work, context, x.first, x.others, pos, depth),
     }
 }

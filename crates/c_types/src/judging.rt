@@ -15,7 +15,7 @@ use crate::entries::Faults;
 use crate::scopes::Scopes;
 use c_interner::{Head, head_of};
 use c_tree::{CType, Typed};
-use ck_base::{Pos, Refusal};
+use ck_base::{DECLARED_TWICE, INCOMPLETE_TYPE, MISFIT, Pos, Refusal, TYPE_TOO_LARGE};
 
 /// Whether one of the two is so.
 pub fn either(a: bool, b: bool) -> bool
@@ -29,13 +29,13 @@ fn judge(faults: Faults, lacks: bool, misfits: bool, pos: Pos) -> Result<(), Ref
     ensures { (of : Ty) → IsJudged (judge (formed_with of faults) lacks misfits pos) result }
 {
     if either(faults.lacks, lacks) {
-        return Err(Refusal::Code(132, pos));
+        return Err(Refusal::Code(INCOMPLETE_TYPE, pos));
     }
     if either(faults.misfits, misfits) {
-        return Err(Refusal::Code(133, pos));
+        return Err(Refusal::Code(MISFIT, pos));
     }
     if faults.too_large {
-        return Err(Refusal::Code(140, pos));
+        return Err(Refusal::Code(TYPE_TOO_LARGE, pos));
     }
     Ok(())
 }
@@ -51,7 +51,7 @@ pub(crate) fn admit(
     ensures { (of : Ty) → IsJudged (admits fits (formed_with of faults) lacks misfits pos) result }
 {
     if !fits {
-        return Err(Refusal::Code(131, pos));
+        return Err(Refusal::Code(DECLARED_TWICE, pos));
     }
     judge(faults, lacks, misfits, pos)
 }

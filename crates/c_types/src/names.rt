@@ -14,7 +14,7 @@ ghost use Rattle.c_types.specs.Stands.{Stands, entity_kept, entity_seen, tagging
 use crate::entries::{Decl, DeclKind, Entity, Entry, Tagging};
 use crate::scopes::{Scopes, entry_of};
 use c_tree::Typed;
-use ck_base::{NoMemory, Refusal, Span};
+use ck_base::{DECLARED_TWICE, NoMemory, Refusal, Span};
 
 fn constant(value: i32) -> Entity
     ensures { result ≡ Entity.Enumerator value }
@@ -85,7 +85,7 @@ impl<'a> Scopes<'a> {
     {
         let name = self.text(d.name);
         if self.look_here(name).is_some() {
-            return Err(Refusal::Code(131, d.pos));
+            return Err(Refusal::Code(DECLARED_TWICE, d.pos));
         }
         self.bind(name, entity)?;
         Ok(entry_of(entity))

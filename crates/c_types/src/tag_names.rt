@@ -14,7 +14,7 @@ ghost use Rattle.c_types.specs.Stands.{Stands, tagging_of};
 use crate::entries::{Decl, Entry, TagKind, Tagging};
 use crate::scopes::Scopes;
 use c_tree::{RecordKind, Typed};
-use ck_base::{NoMemory, Refusal};
+use ck_base::{DECLARED_TWICE, INCOMPLETE_TYPE, MISFIT, NoMemory, Refusal};
 
 impl<'a> Scopes<'a> {
     // Room for one more tag in the innermost scope.
@@ -79,7 +79,7 @@ impl<'a> Scopes<'a> {
         ensures file { self.new.file.now ≡ self.old.file.now }
     {
         if !self.is_of_kind(tag, kind) {
-            return Err(Refusal::Code(133, d.pos));
+            return Err(Refusal::Code(MISFIT, d.pos));
         }
         if d.defines {
             match self.begin_tag(tag, d.pos) {
@@ -99,7 +99,7 @@ impl<'a> Scopes<'a> {
         ensures file { self.new.file.now ≡ self.old.file.now }
     {
         match found {
-            Tagging::Enumerated => Err(Refusal::Code(133, d.pos)),
+            Tagging::Enumerated => Err(Refusal::Code(MISFIT, d.pos)),
             Tagging::Recorded(tag) => self.name_record(tag, kind, d),
         }
     }
@@ -147,10 +147,10 @@ impl<'a> Scopes<'a> {
             (λ x s a. Unit {0}) result }
     {
         match self.look_tag(self.text(d.name)) {
-            None => Err(Refusal::Code(132, d.pos)),
+            None => Err(Refusal::Code(INCOMPLETE_TYPE, d.pos)),
             Some(found) => match found {
                 Tagging::Enumerated => Ok(()),
-                Tagging::Recorded(_) => Err(Refusal::Code(133, d.pos)),
+                Tagging::Recorded(_) => Err(Refusal::Code(MISFIT, d.pos)),
             },
         }
     }
@@ -211,7 +211,7 @@ fn clash(found: Tagging) -> u16
         new_enumeration t (Some (tagging_of found)) s ≡ Err (record { code = result; place = t.pos }) }
 {
     match found {
-        Tagging::Enumerated => 131,
-        Tagging::Recorded(_) => 133,
+        Tagging::Enumerated => DECLARED_TWICE,
+        Tagging::Recorded(_) => MISFIT,
     }
 }

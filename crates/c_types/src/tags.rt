@@ -18,7 +18,7 @@ use c_interner::{append, next_number, replace};
 use c_tree::{CType, Member, RecordKind, Typed};
 use c_type_sizes::{Room, whole_room};
 use cap_layout::LayoutFault;
-use ck_base::{NoMemory, Pos, Refusal, Sequence};
+use ck_base::{DECLARED_TWICE, NoMemory, Pos, Refusal, Sequence, TYPE_TOO_LARGE};
 use indexmap::IndexMap;
 
 fn is_union(kind: RecordKind) -> bool
@@ -165,7 +165,7 @@ impl<'a> Scopes<'a> {
             None => Ok(()),
             Some(info) => {
                 if info.begun {
-                    return Err(Refusal::Code(131, pos));
+                    return Err(Refusal::Code(DECLARED_TWICE, pos));
                 }
                 self.open_tag(tag);
                 Ok(())
@@ -236,7 +236,7 @@ impl<'a> Scopes<'a> {
         match self.tag(tag) {
             None => Ok(()),
             Some(info) => match self.record_room(p, info.kind, members.as_slice()) {
-                Err(_) => Err(Refusal::Code(140, pos)),
+                Err(_) => Err(Refusal::Code(TYPE_TOO_LARGE, pos)),
                 Ok(room) => {
                     if !is_type_of(p, info.of, tag) {
                         return Ok(());

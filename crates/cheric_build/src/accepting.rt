@@ -8,7 +8,7 @@ use crate::front_end::front;
 use bounds_place::exceeds_limit;
 use c_tree::{Typed, weight};
 use cap_layout::Layouts;
-use ck_base::Refusal;
+use ck_base::{OBJECTS_TOO_LARGE, Refusal, TOO_HEAVY};
 use std::alloc::Global;
 use typed_build::START;
 
@@ -25,10 +25,10 @@ pub fn accepted(alloc: Global, file: &[u8]) -> Result<Typed, Refusal>
     let p = front(alloc, file)?;
     let layouts = Layouts::new(alloc, &p)?;
     if exceeds_limit(alloc, &layouts, &p)? {
-        return Err(Refusal::Code(141, START));
+        return Err(Refusal::Code(OBJECTS_TOO_LARGE, START));
     }
     if weight(&p) > MOST_WEIGHT {
-        return Err(Refusal::Code(142, START));
+        return Err(Refusal::Code(TOO_HEAVY, START));
     }
     Ok(p)
 }

@@ -7,7 +7,7 @@ use c_elab::elab;
 use c_lex::Tokens;
 use c_parse::parse;
 use c_tree::Typed;
-use ck_base::{Pos, Refusal};
+use ck_base::{FILE_TOO_LONG, Pos, Refusal};
 use std::alloc::Global;
 
 /// The start of a file.
@@ -25,7 +25,7 @@ pub fn front(alloc: Global, file: &[u8]) -> Result<Typed, Refusal>
     ensures refused { IfErr result (IsBroken file.now) }
 {
     if file.len() > MOST_BYTES {
-        return Err(Refusal::Code(143, START));
+        return Err(Refusal::Code(FILE_TOO_LONG, START));
     }
     let tree = parse(alloc, Tokens::new(file))?;
     elab(alloc, &tree, file)

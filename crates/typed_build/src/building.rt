@@ -13,7 +13,7 @@ use crate::whole::build_whole;
 use bounds_place::{Sizes, exceeds_limit};
 use c_tree::{Typed, weight};
 use cap_layout::Layouts;
-use ck_base::{NoMemory, Pos, Refusal};
+use ck_base::{NoMemory, OBJECTS_TOO_LARGE, Pos, Refusal, TOO_HEAVY};
 use obj_mem::Map;
 use reg_alloc::Places;
 use std::alloc::Global;
@@ -47,7 +47,7 @@ fn limit(alloc: Global, layouts: &Layouts, p: &Typed) -> Result<(), Refusal>
     ensures refused { IfErr result (ExceedsLimit p.now) }
 {
     if exceeds_limit(alloc, layouts, p)? {
-        return Err(Refusal::Code(141, START));
+        return Err(Refusal::Code(OBJECTS_TOO_LARGE, START));
     }
     Ok(())
 }
@@ -70,7 +70,7 @@ pub fn build_typed(alloc: Global, p: &Typed, sizes: Sizes) -> Result<Built, Refu
     let layouts = Layouts::new(alloc, p)?;
     limit(alloc, &layouts, p)?;
     if weight(p) > MOST_WEIGHT {
-        return Err(Refusal::Code(142, START));
+        return Err(Refusal::Code(TOO_HEAVY, START));
     }
     build_whole(alloc, &layouts, p, sizes)
 }
