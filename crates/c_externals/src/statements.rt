@@ -17,7 +17,10 @@ ghost use Rattle.c_externals.specs.Blocks.{entry};
 ghost use Rattle.c_externals.specs.Blocks.{GotEntry, AreLow, JoinsAll};
 
 use crate::declarations::declare;
-use c_phrases::{Cursor, Item, Mark, Part, Parts, Phrase, Root, Stop, TypeNames, is_marked, read};
+use c_phrases::{
+    COMMA, CONDITIONAL, Cursor, Item, Mark, Part, Parts, Phrase, Root, Stop, TypeNames, is_marked,
+    read,
+};
 use c_tree::{NodeKind, Symbol};
 
 // How a statement begins that is no expression.
@@ -138,7 +141,7 @@ fn condition<'a>(
         (rest_of cursor.old)) result }
 {
     cursor.expect(Mark::OpenParenthesis)?;
-    bracketed(cursor, types, 0, Mark::CloseParenthesis, budget)
+    bracketed(cursor, types, COMMA, Mark::CloseParenthesis, budget)
 }
 
 // An expression or nothing, up to and with the token behind it.
@@ -163,7 +166,7 @@ fn optional<'a>(
         cursor.advance();
         return cursor.leaf(NodeKind::Absent, &item);
     }
-    bracketed(cursor, types, 0, closing, below)
+    bracketed(cursor, types, COMMA, closing, below)
 }
 
 // Behind `break` or `continue`.
@@ -197,7 +200,7 @@ fn return_statement<'a>(
     if cursor.takes(Mark::Semicolon) {
         return cursor.leaf(NodeKind::Return, own);
     }
-    let value = bracketed(cursor, types, 0, Mark::Semicolon, below)?;
+    let value = bracketed(cursor, types, COMMA, Mark::Semicolon, below)?;
     let parts = cursor.only(value)?;
     cursor.join(NodeKind::Return, own, own.place(), parts)
 }
@@ -216,7 +219,7 @@ fn expression_statement<'a>(
         (expression_from (reader below) (declare_from below) (state_from below) (in_force types.now)
         (rest_of cursor.old)) result }
 {
-    let whole = bracketed(cursor, types, 0, Mark::Semicolon, below)?;
+    let whole = bracketed(cursor, types, COMMA, Mark::Semicolon, below)?;
     let parts = cursor.only(whole)?;
     let first = whole.root.first;
     cursor.make(
@@ -245,7 +248,7 @@ fn case_label<'a>(
         (labelled_by (reader below) (declare_from below) (state_from below) Label.Case own.now (in_force types.now)
         (rest_of cursor.old)) result }
 {
-    let value = bracketed(cursor, types, 2, Mark::Colon, below)?;
+    let value = bracketed(cursor, types, CONDITIONAL, Mark::Colon, below)?;
     let parts = cursor.only(value)?;
     cursor.join(NodeKind::Case, own, own.place(), parts)
 }

@@ -16,6 +16,7 @@ ghost use Rattle.c_phrases.specs.Suffixes.{height_of, BeginsSuffix, IsTooHigh, n
 use crate::cursor::{Cursor, Mark, Part, Parts, Root, Stop};
 use crate::expressions::follow;
 use crate::items::Item;
+use crate::levels::CONDITIONAL;
 use crate::names::{
     Naming, TypeNames, begins_declarator, is_declared_by, is_enclosed, may_be_nameless,
 };
@@ -306,7 +307,7 @@ fn array<'a>(
         return cursor.make(root, parts);
     }
     let (mut parts, root) = suffix(cursor, inner, NodeKind::Array, item, below)?;
-    let length = read(cursor, types, Phrase::Expression(2), below)?;
+    let length = read(cursor, types, Phrase::Expression(CONDITIONAL), below)?;
     cursor.expect(Mark::CloseBracket)?;
     parts.push(length)?;
     cursor.make(root, parts)

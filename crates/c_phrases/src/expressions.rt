@@ -18,6 +18,7 @@ ghost use Rattle.c_phrases.specs.Steps.{AreSmall};
 
 use crate::cursor::{Cursor, Mark, Part, Parts, Stop, starts};
 use crate::items::{Item, Place};
+use crate::levels::{ASSIGNMENT, CAST, COMMA, CONDITIONAL, UNARY};
 use crate::names::{Naming, TypeNames, opens_type};
 use crate::phrases::{parameter_or_type_name, read, separated};
 use crate::runs::text;
@@ -162,7 +163,7 @@ fn operand<'a>(cursor: &mut Cursor<'a>, types: &TypeNames<'a>, below: u32) -> Re
                 let steps = [
                     Step::TypeName,
                     Step::Expect(Mark::CloseParenthesis),
-                    Step::Read(Phrase::Expression(13)),
+                    Step::Read(Phrase::Expression(CAST)),
                 ];
                 node(
                     cursor,
@@ -176,7 +177,7 @@ fn operand<'a>(cursor: &mut Cursor<'a>, types: &TypeNames<'a>, below: u32) -> Re
                 )
             } else {
                 let steps = [
-                    Step::Read(Phrase::Expression(0)),
+                    Step::Read(Phrase::Expression(COMMA)),
                     Step::Expect(Mark::CloseParenthesis),
                 ];
                 node(
@@ -240,7 +241,7 @@ fn measure<'a>(
             below,
         )
     } else {
-        let steps = [Step::Read(Phrase::Expression(14))];
+        let steps = [Step::Read(Phrase::Expression(UNARY))];
         node(
             cursor,
             types,
@@ -310,7 +311,7 @@ fn longer<'a>(
     match tail_of(item.symbol()) {
         Tail::Indexes => {
             let steps = [
-                Step::Read(Phrase::Expression(0)),
+                Step::Read(Phrase::Expression(COMMA)),
                 Step::Expect(Mark::CloseBracket),
             ];
             node(
@@ -326,7 +327,7 @@ fn longer<'a>(
         }
         Tail::Calls => {
             let steps = [
-                Step::Listed(Phrase::Expression(1)),
+                Step::Listed(Phrase::Expression(ASSIGNMENT)),
                 Step::Expect(Mark::CloseParenthesis),
             ];
             node(
@@ -359,9 +360,9 @@ fn longer<'a>(
         }
         Tail::Asks => {
             let steps = [
-                Step::Read(Phrase::Expression(0)),
+                Step::Read(Phrase::Expression(COMMA)),
                 Step::Expect(Mark::Colon),
-                Step::Read(Phrase::Expression(2)),
+                Step::Read(Phrase::Expression(CONDITIONAL)),
             ];
             node(
                 cursor,
@@ -375,7 +376,7 @@ fn longer<'a>(
             )
         }
         Tail::Assigns(operator) => {
-            let steps = [Step::Read(Phrase::Expression(1))];
+            let steps = [Step::Read(Phrase::Expression(ASSIGNMENT))];
             node(
                 cursor,
                 types,

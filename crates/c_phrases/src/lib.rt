@@ -12,6 +12,7 @@ mod declaration_specifiers;
 mod declarators;
 mod expressions;
 mod items;
+mod levels;
 mod names;
 mod phrases;
 mod runs;
@@ -22,6 +23,10 @@ mod tables;
 pub use cursor::{Cursor, Mark, Part, Parts, Root, Stop, is_marked};
 pub use declaration_specifiers::specifiers;
 pub use items::{Item, Place};
+pub use levels::{
+    ADDITIVE, AND, ASSIGNMENT, CAST, COMMA, CONDITIONAL, EQUALITY, EXCLUSIVE_OR, INCLUSIVE_OR,
+    LOGICAL_AND, LOGICAL_OR, MULTIPLICATIVE, POSTFIX, RELATIONAL, SHIFT, UNARY,
+};
 pub use names::{Naming, TypeNames};
 pub use phrases::read;
 pub use steps::{Phrase, Specified};

@@ -16,6 +16,7 @@ use crate::cursor::{Cursor, Mark, Part, Parts, Root, Stop};
 use crate::declaration_specifiers::specifiers;
 use crate::declarators::{declarator, optional_declarator, with_optional};
 use crate::expressions::{expression, node};
+use crate::levels::CONDITIONAL;
 use crate::names::{Naming, TypeNames, goes_on_listing, is_declared_by};
 use crate::steps::{Phrase, Step};
 use c_tree::NodeKind;
@@ -192,7 +193,7 @@ fn enumerator<'a>(
         return cursor.leaf(NodeKind::Enumerator, &name);
     }
     let none = cursor.no_parts();
-    let steps = [Step::Read(Phrase::Expression(2))];
+    let steps = [Step::Read(Phrase::Expression(CONDITIONAL))];
     node(
         cursor,
         types,

@@ -16,7 +16,7 @@ use c_tree::{NodeKind, SpecifierWord};
 /// A phrase whose height counts.
 #[derive(Clone, Copy)]
 pub enum Phrase {
-    /// An expression of at least this level.
+    /// An expression of at least this level (`COMMA` to `POSTFIX`).
     Expression(u32),
     Declarator(Naming),
     Parameter,

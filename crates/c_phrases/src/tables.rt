@@ -6,6 +6,10 @@ ghost use Rattle.c_tree.specs.Symbols.{look_up as look_up_of};
 ghost use Rattle.c_phrases.specs.Words.{word_or as word_or_of};
 ghost use Rattle.c_phrases.specs.Reading as reading;
 
+use crate::levels::{
+    ADDITIVE, AND, ASSIGNMENT, CAST, COMMA, CONDITIONAL, EQUALITY, EXCLUSIVE_OR, INCLUSIVE_OR,
+    LOGICAL_AND, LOGICAL_OR, MULTIPLICATIVE, POSTFIX, RELATIONAL, SHIFT, UNARY,
+};
 use c_tree::{
     Head, InfixOperator, NodeKind, PrefixOperator, RecordKind, Selection, SpecifierWord,
     StepOperator, Symbol, Tail, UnaryOp,
@@ -290,17 +294,17 @@ pub(crate) fn infix_level(operator: InfixOperator) -> u32
     ensures small { result ≤ 12 }
 {
     match operator {
-        InfixOperator::Comma => 0,
-        InfixOperator::Or => 3,
-        InfixOperator::And => 4,
-        InfixOperator::Int(IntOp::Or) => 5,
-        InfixOperator::Int(IntOp::Xor) => 6,
-        InfixOperator::Int(IntOp::And) => 7,
-        InfixOperator::Compare(CmpOp::Eq | CmpOp::Ne) => 8,
-        InfixOperator::Compare(CmpOp::Lt | CmpOp::Gt | CmpOp::Le | CmpOp::Ge) => 9,
-        InfixOperator::Int(IntOp::Shl | IntOp::Shr) => 10,
-        InfixOperator::Int(IntOp::Add | IntOp::Sub) => 11,
-        InfixOperator::Int(IntOp::Mul | IntOp::Div | IntOp::Rem) => 12,
+        InfixOperator::Comma => COMMA,
+        InfixOperator::Or => LOGICAL_OR,
+        InfixOperator::And => LOGICAL_AND,
+        InfixOperator::Int(IntOp::Or) => INCLUSIVE_OR,
+        InfixOperator::Int(IntOp::Xor) => EXCLUSIVE_OR,
+        InfixOperator::Int(IntOp::And) => AND,
+        InfixOperator::Compare(CmpOp::Eq | CmpOp::Ne) => EQUALITY,
+        InfixOperator::Compare(CmpOp::Lt | CmpOp::Gt | CmpOp::Le | CmpOp::Ge) => RELATIONAL,
+        InfixOperator::Int(IntOp::Shl | IntOp::Shr) => SHIFT,
+        InfixOperator::Int(IntOp::Add | IntOp::Sub) => ADDITIVE,
+        InfixOperator::Int(IntOp::Mul | IntOp::Div | IntOp::Rem) => MULTIPLICATIVE,
     }
 }
 
@@ -309,8 +313,8 @@ pub(crate) fn operand_level(operator: PrefixOperator) -> u32
     ensures { result ≡ table.operand_level operator }
 {
     match operator {
-        PrefixOperator::Step(_) => 14,
-        _ => 13,
+        PrefixOperator::Step(_) => UNARY,
+        _ => CAST,
     }
 }
 
@@ -349,11 +353,11 @@ pub(crate) fn level_of(kind: NodeKind) -> u32
 {
     match kind {
         NodeKind::Infix(operator) => infix_level(operator),
-        NodeKind::Cast => 13,
-        NodeKind::Prefix(_) | NodeKind::SizeofExpression | NodeKind::SizeofType => 14,
-        NodeKind::Conditional => 2,
-        NodeKind::Assignment(_) => 1,
-        _ => 15,
+        NodeKind::Cast => CAST,
+        NodeKind::Prefix(_) | NodeKind::SizeofExpression | NodeKind::SizeofType => UNARY,
+        NodeKind::Conditional => CONDITIONAL,
+        NodeKind::Assignment(_) => ASSIGNMENT,
+        _ => POSTFIX,
     }
 }
 
@@ -363,9 +367,9 @@ pub(crate) fn goes_on(tail: Tail, level: u32, at: u32) -> bool
 {
     match tail {
         Tail::Joins(operator) => level <= infix_level(operator) && infix_level(operator) <= at,
-        Tail::Asks => level <= 2 && 3 <= at,
-        Tail::Assigns(_) => level <= 1 && 14 <= at,
+        Tail::Asks => level <= CONDITIONAL && LOGICAL_OR <= at,
+        Tail::Assigns(_) => level <= ASSIGNMENT && UNARY <= at,
         Tail::Ends => false,
-        Tail::Indexes | Tail::Calls | Tail::Selects(_) | Tail::Steps(_) => 15 <= at,
+        Tail::Indexes | Tail::Calls | Tail::Selects(_) | Tail::Steps(_) => POSTFIX <= at,
     }
 }
