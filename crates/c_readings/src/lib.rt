@@ -6,8 +6,13 @@
 //! Main lemmas (`proofs/`): `Gathering`, `Calling`.
 #![tactic(auto)]
 
+mod declarators;
+mod expressions;
 mod parts;
 mod tree;
+mod types;
 
-pub use parts::{constant, derived, operand, specified, type_of, value_of};
+pub use declarators::derived;
+pub use expressions::{constant, operand, value_of};
 pub use tree::{FirstPart, ThreeParts, TwoParts, first_of, name_of, node_at, only, three, two};
+pub use types::{specified, type_of};

@@ -16,6 +16,7 @@ mod call;
 mod calls;
 mod choices;
 mod finish;
+mod initialization;
 mod locals;
 mod offsets;
 mod operations;

@@ -1,42 +1,34 @@
 //! Statements (C11 6.8).
-ghost use Rattle.std.specs.Prelude.{◌<◌, ◌^◌};
-ghost use Rattle.std.specs.Prelude.{◌≡◌, ◌∷◌, ◌&&◌, not, map, OnOk, option_map, slice_get, if◌then◌else◌};
+ghost use Rattle.std.specs.Prelude.{◌<◌};
+ghost use Rattle.std.specs.Prelude.{◌≡◌, ◌∷◌, map, OnOk, option_map, slice_get, if◌then◌else◌};
 ghost use Rattle.ck_base.specs.Runs.{Goes};
-ghost use Rattle.c_tree.specs.Layout.{bare};
 ghost use Rattle.c_tree.specs.declared.typed.Typed.{Typed};
 ghost use Rattle.obj_mem.specs.Values.{value_of};
-ghost use Rattle.cheri_c_sem.specs.Expressions.{type_of};
 ghost use Rattle.cheri_c_sem.specs.Kinds as sem;
 ghost use Rattle.cheri_c_sem.specs.Meaning.{first_of};
 ghost use Rattle.cheri_c_sem.specs.Modes.{Store};
 ghost use Rattle.cheri_c_sem.specs.Operations.{Operations};
 ghost use Rattle.cheri_c_sem.specs.Order.{Ordered};
-ghost use Rattle.cheri_c_sem.specs.Programs.{initialisation, stmt_tree};
+ghost use Rattle.cheri_c_sem.specs.Programs.{stmt_tree};
 ghost use Rattle.cheri_c_sem.specs.Statements.{Breaks, Continues, default_of};
-ghost use Rattle.cheri_c_sem.specs.Tree as tree;
 ghost use Rattle.cheri_c_sem.specs.Tree.{Ex};
-ghost use Rattle.cheri_c_sem.specs.Types.{is_record, is_simple};
 ghost use Rattle.mean_types.specs.Views.{kind_of};
-ghost use Rattle.mean_steps.specs.Machine.{choose_label, execute, initialize, jumped};
+ghost use Rattle.mean_steps.specs.Machine.{choose_label, execute, jumped};
 ghost use Rattle.mean_steps.specs.Machine.{again, behind, branch, tested, turned_to, execs_behind, Behind};
 ghost use Rattle.mean_steps.specs.Parts.{Now, find_label, leave, test, On};
-ghost use Rattle.mean_operations.specs.Answers.{IsAccess};
-ghost use Rattle.mean_run.specs.Labels.{IsAt, labels_of, at_label, object_filled};
-ghost use Rattle.mean_run.specs.Done.{DoneBy, InitializedBy, SwitchedBy};
-ghost use Rattle.mean_run.specs.Begun.{Executed, assigned, declared_in, next_one, parts_in, tests};
+ghost use Rattle.mean_run.specs.Labels.{IsAt, labels_of, at_label};
+ghost use Rattle.mean_run.specs.Done.{DoneBy, SwitchedBy};
+ghost use Rattle.mean_run.specs.Begun.{Executed, declared_in, next_one, parts_in, tests};
 ghost use Rattle.mean_run.specs.Branches.{AgainBy, Branched, BranchedBy, ForAgain, ForTested, TestAgain, TestedBy};
 ghost use Rattle.mean_run.specs.Branches.{other_branch};
 ghost use Rattle.mean_run.specs.Parts.{Does, Gives, Unless_wanting};
 ghost use Rattle.mean_run.specs.Views.{declared_of, now_of, moment_of, funs_of, item_of, vars_at, loop_of, parts_of};
 ghost use Rattle.mean_run.specs.Steps.{Proceeds, ComesToTest};
-ghost use Rattle.mean_run.specs.Sizes.{IsSmall};
-ghost use Rattle.mean_run.specs.Sources.{IsFit, IsSource, IsStatement};
+ghost use Rattle.mean_run.specs.Sources.{IsSource};
 
 use crate::blocks::{enter_block, leave_block};
 use crate::branches::Next;
 use crate::choices::kind_at;
-use crate::locals::is_object;
-use crate::places::{copy, type_of, unit};
 use crate::state::{Source, State};
 use crate::storage::Storage;
 use c_tree::{Stmt, StmtKind, SwitchLabel, Typed};
@@ -281,192 +273,6 @@ impl State {
         match parts.get(n) {
             None => Ok(()),
             Some(a) => self.then(Work::Statement(f, *a), Work::Rest(f, k, n + 1)),
-        }
-    }
-
-    // ---- initialisation (C11 6.7.9)
-
-    fn initialization(
-        &mut self,
-        s: &Source<'_>,
-        f: u32,
-        k: u32,
-        var: u32,
-        value: u32,
-    ) -> Result<(), NoMemory>
-        requires { IsSource s.now }
-        ensures { OnOk result (self.new ≡ record self.old {
-          work = assigned f value (not (is_simple (slice_get (vars_at s.now.p.now f) var))
-              && is_record (bare s.now.p.now.types (type_of (slice_get s.now.p.now.exprs value))))
-              ∷ Work.Initialize f k ∷ self.old.work;
-        }) }
-    {
-        if is_object(s.p, f, var) {
-            self.object_initialization(s, f, k, value)
-        } else {
-            self.then(Work::Value(f, value), Work::Initialize(f, k))
-        }
-    }
-
-    fn object_initialization(
-        &mut self,
-        s: &Source<'_>,
-        f: u32,
-        k: u32,
-        value: u32,
-    ) -> Result<(), NoMemory>
-        requires { IsSource s.now }
-        ensures { OnOk result (self.new ≡ record self.old {
-          work = assigned f value (is_record (bare s.now.p.now.types (type_of (slice_get s.now.p.now.exprs value))))
-              ∷ Work.Initialize f k ∷ self.old.work;
-        }) }
-    {
-        if s.types.facts(s.p, type_of(s.p, value)).record {
-            self.then(Work::Place(f, value), Work::Initialize(f, k))
-        } else {
-            self.then(Work::Value(f, value), Work::Initialize(f, k))
-        }
-    }
-
-    /// The value of an initialisation stands on top; of a struct or union, its place.
-    pub fn initialize<B: Operations>(
-        &mut self,
-        m: &mut B,
-        s: &Source<'_>,
-        f: u32,
-        k: u32,
-    ) -> Result<(), Stop>
-        requires { IsSource s.now }
-        ensures same { B.meaning m.new ≡ B.meaning m.old }
-        ensures does { IsFit s.now.p.now → Does (initialize (B.meaning m.old) (funs_of s.now.p.now)
-            (stmt_tree s.now.p.now (vars_at s.now.p.now f) k) (moment_of s.now.p.now self.old (B.held m.old)))
-            (moment_of s.now.p.now self.new (B.held m.new)) result }
-    {
-        match statement_at(s.p, k) {
-            None => Ok(()),
-            Some(a) => self.initialize_of(m, s, f, a),
-        }
-    }
-
-    fn initialize_of<B: Operations>(
-        &mut self,
-        m: &mut B,
-        s: &Source<'_>,
-        f: u32,
-        a: &Stmt,
-    ) -> Result<(), Stop>
-        requires { IsSource s.now }
-        ensures same { B.meaning m.new ≡ B.meaning m.old }
-        ensures does { IsFit s.now.p.now → InitializedBy (B.meaning m.old) s.now.p.now f a.now.pos (B.held m.old)
-            (B.held m.new) self.old self.new result a.now.kind }
-    {
-        match &a.kind {
-            StmtKind::Init { var, offset, value } => self.initialized(
-                m, s, f, a.pos, *var, *offset, *value,
-            ),
-            _ => Ok(()),
-        }
-    }
-
-    fn initialized<B: Operations>(
-        &mut self,
-        m: &mut B,
-        s: &Source<'_>,
-        f: u32,
-        pos: Pos,
-        x: u32,
-        offset: u64,
-        value: u32,
-    ) -> Result<(), Stop>
-        requires { IsSource s.now }
-        ensures same { B.meaning m.new ≡ B.meaning m.old }
-        ensures does { IsFit s.now.p.now → IsSmall s.now.p.now (type_of (slice_get s.now.p.now.exprs value)) →
-            (e : Ex) → Does (initialize (B.meaning m.old) (funs_of s.now.p.now)
-            (initialisation s.now.p.now (vars_at s.now.p.now f) pos x offset
-            (type_of (slice_get s.now.p.now.exprs value)) e) (moment_of s.now.p.now self.old (B.held m.old)))
-            (moment_of s.now.p.now self.new (B.held m.new)) result }
-    {
-        if is_object(s.p, f, x) {
-            self.initialize_object(m, s, pos, s.locals.before(f, x), offset, value)
-        } else {
-            self.initialize_variable(x)
-        }
-    }
-
-    fn initialize_variable(&mut self, x: u32) -> Result<(), Stop>
-        ensures { (p : Typed) (ops : Operations Store) (held : Store) (e : Ex) → Does (initialize ops (funs_of p)
-            (tree.Give x e) (moment_of p self.old held)) (moment_of p self.new held) result }
-    {
-        let v = self.take();
-        self.set_variable(x, Some(v));
-        Ok(())
-    }
-
-    fn initialize_object<B: Operations>(
-        &mut self,
-        m: &mut B,
-        s: &Source<'_>,
-        pos: Pos,
-        n: u64,
-        offset: u64,
-        value: u32,
-    ) -> Result<(), Stop>
-        requires { IsSource s.now }
-        ensures same { B.meaning m.new ≡ B.meaning m.old }
-        ensures does { IsFit s.now.p.now → IsSmall s.now.p.now (type_of (slice_get s.now.p.now.exprs value)) →
-            n < 2 ^ 63 → (e : Ex) → Does (initialize (B.meaning m.old) (funs_of s.now.p.now)
-            (object_filled s.now.p.now pos n offset (type_of (slice_get s.now.p.now.exprs value)) e)
-            (moment_of s.now.p.now self.old (B.held m.old))) (moment_of s.now.p.now self.new (B.held m.new)) result }
-    {
-        let facts = s.types.facts(s.p, type_of(s.p, value));
-        if facts.record {
-            self.fill_part(m, pos, n, offset, facts.size, unit(&facts))
-        } else {
-            self.set_part(m, pos, n, offset, facts.kind_or_int())
-        }
-    }
-
-    /// A part of an object gets a struct or union.
-    fn fill_part<B: Operations>(
-        &mut self,
-        m: &mut B,
-        pos: Pos,
-        n: u64,
-        offset: u64,
-        bytes: u64,
-        unit: u64,
-    ) -> Result<(), Stop>
-        requires { IsAccess unit }
-        ensures same { B.meaning m.new ≡ B.meaning m.old }
-        ensures does { n < 2 ^ 63 → (p : Typed) (e : Ex) → Does (initialize (B.meaning m.old) (funs_of p)
-            (tree.Fill pos n offset bytes unit e) (moment_of p self.old (B.held m.old)))
-            (moment_of p self.new (B.held m.new)) result }
-    {
-        let from = self.take_place();
-        match self.part_of_local(m, pos, n, offset) {
-            Err(stop) => Err(stop),
-            Ok(to) => copy(m, pos, bytes, unit, from, to),
-        }
-    }
-
-    /// A part of an object gets a scalar.
-    fn set_part<B: Operations>(
-        &mut self,
-        m: &mut B,
-        pos: Pos,
-        n: u64,
-        offset: u64,
-        kind: Kind,
-    ) -> Result<(), Stop>
-        ensures same { B.meaning m.new ≡ B.meaning m.old }
-        ensures does { n < 2 ^ 63 → (p : Typed) (k : sem.Kind) (e : Ex) → kind_of kind ≡ k → Does (initialize
-            (B.meaning m.old) (funs_of p) (tree.Init pos n offset k e) (moment_of p self.old (B.held m.old)))
-            (moment_of p self.new (B.held m.new)) result }
-    {
-        let v = self.take();
-        match self.part_of_local(m, pos, n, offset) {
-            Err(stop) => Err(stop),
-            Ok(to) => self.store(m, kind, to, v),
         }
     }
 

@@ -5,7 +5,7 @@ use Rattle.c_tree.specs.Expressions.{called_library, called_name}
 use Rattle.c_readings.proofs.Kids.{opened}
 use Rattle.c_readings.proofs.Within.{deep, kids_within, one_within, part_there}
 use Rattle.c_readings.proofs.Calling.{enclosed, not_enclosed, no_name}
-use Rattle.c_readings.proofs.parts.+library.Goals as goal
+use Rattle.c_readings.proofs.expressions.+library.Goals as goal
 
 pub node_at-node-requires : goal.node_at-node-requires
 node_at-node-requires t c = part_there c.args.work.now c.args.k c.requires

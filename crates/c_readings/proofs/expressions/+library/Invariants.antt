@@ -1,4 +1,4 @@
-use Rattle.c_readings.proofs.parts.+library.Given as goal
+use Rattle.c_readings.proofs.expressions.+library.Given as goal
 
 abbrev pub decreases-library : goal.decreases-library
 decreases-library l = l.depth

@@ -121,10 +121,10 @@ use Rattle.c_readings.proofs.Within.{have_parts, part_there, deep, first_of_kind
 use Rattle.c_readings.proofs.Within.{kinds_kept, last_kind, node_of, others_of_kind, tagged_kind, untagged_kind}
 use Rattle.c_readings.proofs.Within.{behind_within, ends_within, first_within, kids_within, node_within, one_within}
 use Rattle.c_readings.proofs.Within.{others_within, still_within, three_within, two_within, within_kept}
-use Rattle.c_readings.proofs.parts.+parts.Goals as goal
+use Rattle.c_readings.proofs.+parts.Goals as goal
 
-pub operand-expression-requires : goal.operand-expression-requires
-operand-expression-requires t c =
+pub expressions::operand-expression-requires : goal.expressions::operand-expression-requires
+expressions::operand-expression-requires t c =
     let some = deep c.args.work.now c.args.k c.requires.part in
     let u = c.args.work.now in
     let n = c.node_at-node.result.now in (
@@ -138,105 +138,105 @@ operand-expression-requires t c =
       ),
     )
 
-pub operand-returns : goal.operand-returns
-operand-returns t c = λ x p.
+pub expressions::operand-returns : goal.expressions::operand-returns
+expressions::operand-returns t c = λ x p.
     let o = opened c.args.work.now c.args.k x c.node_at-node.result.now p c.node_at-node.ensures in
     at_node c.args.work.now _ c.node_at-node.result.now x operand_of OperandThere IsOperand _ o
     (c.expression.ensures o.token o.parts o.node)
 
-pub value_of-returns : goal.value_of-returns
-value_of-returns t c = λ x p.
+pub expressions::value_of-returns : goal.expressions::value_of-returns
+expressions::value_of-returns t c = λ x p.
     then quietly quiet_law c.args.work.now c.operand.new.work _ (reading x).operand value
     (operand_in c.operand.new.work c.in_ok-x.x) _ OperandThere IsOperand _ (c.in_ok-x.ensures x p) c.value.ensures
 
-pub expression-returns-in-Parenthesized : goal.expression-returns-in-Parenthesized
-expression-returns-in-Parenthesized t c = λ t' xs n.
+pub expressions::expression-returns-in-Parenthesized : goal.expressions::expression-returns-in-Parenthesized
+expressions::expression-returns-in-Parenthesized t c = λ t' xs n.
     subst (λ (k : NodeKind). Answers quietly c.args.work.now c.parenthesized.new.work
     (expression_of k t' xs (readings xs)) OperandThere IsOperand c.parenthesized.result)
     (sym c.in-Parenthesized.is)
     (c.parenthesized.ensures t' xs n.place (subst (λ (ks : List ℕ). AreParts c.args.work.now ks xs)
     (sym c.as_slice-kids.ensures) n.parts))
 
-pub expression-returns-in-Call : goal.expression-returns-in-Call
-expression-returns-in-Call t c = λ t' xs n.
+pub expressions::expression-returns-in-Call : goal.expressions::expression-returns-in-Call
+expressions::expression-returns-in-Call t c = λ t' xs n.
     subst (λ (k : NodeKind). Answers quietly c.args.work.now c.call.new.work
     (expression_of k t' xs (readings xs)) OperandThere IsOperand c.call.result) (sym c.in-Call.is)
     (c.call.ensures t' xs n.place (subst (λ (ks : List ℕ). AreParts c.args.work.now ks xs)
     (sym c.as_slice-kids.ensures) n.parts))
 
-pub expression-returns-in-Select : goal.expression-returns-in-Select
-expression-returns-in-Select t c = λ t' xs n.
+pub expressions::expression-returns-in-Select : goal.expressions::expression-returns-in-Select
+expressions::expression-returns-in-Select t c = λ t' xs n.
     subst (λ (k : NodeKind). Answers quietly c.args.work.now c.selected.new.work
     (expression_of k t' xs (readings xs)) OperandThere IsOperand c.selected.result) (sym c.in-Select.is)
     (c.selected.ensures t' xs n.place (subst (λ (ks : List ℕ). AreParts c.args.work.now ks xs)
     (sym c.as_slice-kids.ensures) n.parts))
 
-pub expression-returns-in-Index : goal.expression-returns-in-Index
-expression-returns-in-Index t c = λ t' xs n.
+pub expressions::expression-returns-in-Index : goal.expressions::expression-returns-in-Index
+expressions::expression-returns-in-Index t c = λ t' xs n.
     subst (λ (k : NodeKind). Answers quietly c.args.work.now c.index.new.work
     (expression_of k t' xs (readings xs)) OperandThere IsOperand c.index.result) (sym c.in-Index.is)
     (c.index.ensures t' xs n.place (subst (λ (ks : List ℕ). AreParts c.args.work.now ks xs)
     (sym c.as_slice-kids.ensures) n.parts))
 
-pub expression-returns-in-Postfix : goal.expression-returns-in-Postfix
-expression-returns-in-Postfix t c = λ t' xs n.
+pub expressions::expression-returns-in-Postfix : goal.expressions::expression-returns-in-Postfix
+expressions::expression-returns-in-Postfix t c = λ t' xs n.
     subst (λ (k : NodeKind). Answers quietly c.args.work.now c.postfix.new.work
     (expression_of k t' xs (readings xs)) OperandThere IsOperand c.postfix.result) (sym c.in-Postfix.is)
     (c.postfix.ensures t' xs n.place (subst (λ (ks : List ℕ). AreParts c.args.work.now ks xs)
     (sym c.as_slice-kids.ensures) n.parts))
 
-pub expression-returns-in-Prefix : goal.expression-returns-in-Prefix
-expression-returns-in-Prefix t c = λ t' xs n.
+pub expressions::expression-returns-in-Prefix : goal.expressions::expression-returns-in-Prefix
+expressions::expression-returns-in-Prefix t c = λ t' xs n.
     subst (λ (k : NodeKind). Answers quietly c.args.work.now c.prefixed.new.work
     (expression_of k t' xs (readings xs)) OperandThere IsOperand c.prefixed.result) (sym c.in-Prefix.is)
     (c.prefixed.ensures t' xs n.place (subst (λ (ks : List ℕ). AreParts c.args.work.now ks xs)
     (sym c.as_slice-kids.ensures) n.parts))
 
-pub expression-returns-in-SizeofExpression : goal.expression-returns-in-SizeofExpression
-expression-returns-in-SizeofExpression t c = λ t' xs n.
+pub expressions::expression-returns-in-SizeofExpression : goal.expressions::expression-returns-in-SizeofExpression
+expressions::expression-returns-in-SizeofExpression t c = λ t' xs n.
     subst (λ (k : NodeKind). Answers quietly c.args.work.now c.size_of_expression.new.work
     (expression_of k t' xs (readings xs)) OperandThere IsOperand c.size_of_expression.result)
     (sym c.in-SizeofExpression.is)
     (c.size_of_expression.ensures t' xs n.place
     (subst (λ (ks : List ℕ). AreParts c.args.work.now ks xs) (sym c.as_slice-kids.ensures) n.parts))
 
-pub expression-returns-in-SizeofType : goal.expression-returns-in-SizeofType
-expression-returns-in-SizeofType t c = λ t' xs n.
+pub expressions::expression-returns-in-SizeofType : goal.expressions::expression-returns-in-SizeofType
+expressions::expression-returns-in-SizeofType t c = λ t' xs n.
     subst (λ (k : NodeKind). Answers quietly c.args.work.now c.size_of_type.new.work
     (expression_of k t' xs (readings xs)) OperandThere IsOperand c.size_of_type.result) (sym c.in-SizeofType.is)
     (c.size_of_type.ensures t' xs n.place (subst (λ (ks : List ℕ). AreParts c.args.work.now ks xs)
     (sym c.as_slice-kids.ensures) n.parts))
 
-pub expression-returns-in-Cast : goal.expression-returns-in-Cast
-expression-returns-in-Cast t c = λ t' xs n.
+pub expressions::expression-returns-in-Cast : goal.expressions::expression-returns-in-Cast
+expressions::expression-returns-in-Cast t c = λ t' xs n.
     subst (λ (k : NodeKind). Answers quietly c.args.work.now c.cast.new.work
     (expression_of k t' xs (readings xs)) OperandThere IsOperand c.cast.result) (sym c.in-Cast.is)
     (c.cast.ensures t' xs n.place (subst (λ (ks : List ℕ). AreParts c.args.work.now ks xs)
     (sym c.as_slice-kids.ensures) n.parts))
 
-pub expression-returns-in-Infix : goal.expression-returns-in-Infix
-expression-returns-in-Infix t c = λ t' xs n.
+pub expressions::expression-returns-in-Infix : goal.expressions::expression-returns-in-Infix
+expressions::expression-returns-in-Infix t c = λ t' xs n.
     subst (λ (k : NodeKind). Answers quietly c.args.work.now c.infix.new.work
     (expression_of k t' xs (readings xs)) OperandThere IsOperand c.infix.result) (sym c.in-Infix.is)
     (c.infix.ensures t' xs n.place (subst (λ (ks : List ℕ). AreParts c.args.work.now ks xs)
     (sym c.as_slice-kids.ensures) n.parts))
 
-pub expression-returns-in-Conditional : goal.expression-returns-in-Conditional
-expression-returns-in-Conditional t c = λ t' xs n.
+pub expressions::expression-returns-in-Conditional : goal.expressions::expression-returns-in-Conditional
+expressions::expression-returns-in-Conditional t c = λ t' xs n.
     subst (λ (k : NodeKind). Answers quietly c.args.work.now c.conditional.new.work
     (expression_of k t' xs (readings xs)) OperandThere IsOperand c.conditional.result) (sym c.in-Conditional.is)
     (c.conditional.ensures t' xs n.place (subst (λ (ks : List ℕ). AreParts c.args.work.now ks xs)
     (sym c.as_slice-kids.ensures) n.parts))
 
-pub expression-returns-in-Assignment : goal.expression-returns-in-Assignment
-expression-returns-in-Assignment t c = λ t' xs n.
+pub expressions::expression-returns-in-Assignment : goal.expressions::expression-returns-in-Assignment
+expressions::expression-returns-in-Assignment t c = λ t' xs n.
     subst (λ (k : NodeKind). Answers quietly c.args.work.now c.assignment.new.work
     (expression_of k t' xs (readings xs)) OperandThere IsOperand c.assignment.result) (sym c.in-Assignment.is)
     (c.assignment.ensures t' xs n.place (subst (λ (ks : List ℕ). AreParts c.args.work.now ks xs)
     (sym c.as_slice-kids.ensures) n.parts))
 
-pub one_operand-operand-requires : goal.one_operand-operand-requires
-one_operand-operand-requires t c = (
+pub expressions::one_operand-operand-requires : goal.expressions::one_operand-operand-requires
+expressions::one_operand-operand-requires t c = (
   omega arith,
   (
     c.requires.whole,
@@ -244,16 +244,17 @@ one_operand-operand-requires t c = (
   ),
 )
 
-pub one_operand-returns-in-Some : goal.one_operand-returns-in-Some
-one_operand-returns-in-Some t c =
+pub expressions::one_operand-returns-in-Some : goal.expressions::one_operand-returns-in-Some
+expressions::one_operand-returns-in-Some t c =
     answers_one c.args.work.now _ c.args.kids.now c.in-Some.k
     (operand_of) c.args.pos OperandThere IsOperand _ c.in-Some.ensures c.operand.ensures
 
-pub one_operand-returns-in-None : goal.one_operand-returns-in-None
-one_operand-returns-in-None t c = refused_one c.args.work.now c.args.kids.now (operand_of) c.args.pos c.in-None.ensures
+pub expressions::one_operand-returns-in-None : goal.expressions::one_operand-returns-in-None
+expressions::one_operand-returns-in-None t c =
+    refused_one c.args.work.now c.args.kids.now (operand_of) c.args.pos c.in-None.ensures
 
-pub one_value-value_of-requires : goal.one_value-value_of-requires
-one_value-value_of-requires t c = (
+pub expressions::one_value-value_of-requires : goal.expressions::one_value-value_of-requires
+expressions::one_value-value_of-requires t c = (
   omega arith,
   (
     c.requires.whole,
@@ -261,79 +262,80 @@ one_value-value_of-requires t c = (
   ),
 )
 
-pub one_value-returns-in-Some : goal.one_value-returns-in-Some
-one_value-returns-in-Some t c =
+pub expressions::one_value-returns-in-Some : goal.expressions::one_value-returns-in-Some
+expressions::one_value-returns-in-Some t c =
     answers_one c.args.work.now _ c.args.kids.now c.in-Some.k
     (read_value) c.args.pos OperandThere IsOperand _ c.in-Some.ensures c.value_of.ensures
 
-pub one_value-returns-in-None : goal.one_value-returns-in-None
-one_value-returns-in-None t c = refused_one c.args.work.now c.args.kids.now (read_value) c.args.pos c.in-None.ensures
+pub expressions::one_value-returns-in-None : goal.expressions::one_value-returns-in-None
+expressions::one_value-returns-in-None t c =
+    refused_one c.args.work.now c.args.kids.now (read_value) c.args.pos c.in-None.ensures
 
-pub two_values-values_of-requires : goal.two_values-values_of-requires
-two_values-values_of-requires t c =
+pub expressions::two_values-values_of-requires : goal.expressions::two_values-values_of-requires
+expressions::two_values-values_of-requires t c =
     let h = two_within c.args.work.now c.args.kids.now c.in-Some.x.first c.in-Some.x.second c.in-Some.ensures
     c.requires.parts in
     (omega arith, (c.requires.whole, (h.0, h.1)))
 
-pub two_values-returns-in-Some : goal.two_values-returns-in-Some
-two_values-returns-in-Some t c =
+pub expressions::two_values-returns-in-Some : goal.expressions::two_values-returns-in-Some
+expressions::two_values-returns-in-Some t c =
     answers_two c.args.work.now _ c.args.kids.now c.in-Some.x.first c.in-Some.x.second
     (λ r q. both (read_value r) (read_value q)) c.args.pos PairThere IsPair _ c.in-Some.ensures c.values_of.ensures
 
-pub two_values-returns-in-None : goal.two_values-returns-in-None
-two_values-returns-in-None t c =
+pub expressions::two_values-returns-in-None : goal.expressions::two_values-returns-in-None
+expressions::two_values-returns-in-None t c =
     refused_two c.args.work.now c.args.kids.now (λ r q. both (read_value r) (read_value q)) c.args.pos c.in-None.ensures
 
-pub place_and_value-place_with_value-requires : goal.place_and_value-place_with_value-requires
-place_and_value-place_with_value-requires t c =
+pub expressions::place_and_value-place_with_value-requires : goal.expressions::place_and_value-place_with_value-requires
+expressions::place_and_value-place_with_value-requires t c =
     let h = two_within c.args.work.now c.args.kids.now c.in-Some.x.first c.in-Some.x.second c.in-Some.ensures
     c.requires.parts in
     (omega arith, (c.requires.whole, (h.0, h.1)))
 
-pub place_and_value-returns-in-Some : goal.place_and_value-returns-in-Some
-place_and_value-returns-in-Some t c =
+pub expressions::place_and_value-returns-in-Some : goal.expressions::place_and_value-returns-in-Some
+expressions::place_and_value-returns-in-Some t c =
     answers_two c.args.work.now _ c.args.kids.now c.in-Some.x.first c.in-Some.x.second
     (λ r q. both (operand_of r) (read_value q)) c.args.pos PairThere IsPair _ c.in-Some.ensures
     c.place_with_value.ensures
 
-pub place_and_value-returns-in-None : goal.place_and_value-returns-in-None
-place_and_value-returns-in-None t c =
+pub expressions::place_and_value-returns-in-None : goal.expressions::place_and_value-returns-in-None
+expressions::place_and_value-returns-in-None t c =
     refused_two c.args.work.now c.args.kids.now (λ r q. both (operand_of r) (read_value q)) c.args.pos c.in-None.ensures
 
-pub type_and_value-type_with_value-requires : goal.type_and_value-type_with_value-requires
-type_and_value-type_with_value-requires t c =
+pub expressions::type_and_value-type_with_value-requires : goal.expressions::type_and_value-type_with_value-requires
+expressions::type_and_value-type_with_value-requires t c =
     let h = two_within c.args.work.now c.args.kids.now c.in-Some.x.first c.in-Some.x.second c.in-Some.ensures
     c.requires.parts in
     (omega arith, (c.requires.whole, (h.0, h.1)))
 
-pub type_and_value-returns-in-Some : goal.type_and_value-returns-in-Some
-type_and_value-returns-in-Some t c =
+pub expressions::type_and_value-returns-in-Some : goal.expressions::type_and_value-returns-in-Some
+expressions::type_and_value-returns-in-Some t c =
     answers_two c.args.work.now _ c.args.kids.now c.in-Some.x.first c.in-Some.x.second
     (λ r q. both (type_of r) (read_value q)) c.args.pos CastThere IsCast _ c.in-Some.ensures c.type_with_value.ensures
 
-pub type_and_value-returns-in-None : goal.type_and_value-returns-in-None
-type_and_value-returns-in-None t c =
+pub expressions::type_and_value-returns-in-None : goal.expressions::type_and_value-returns-in-None
+expressions::type_and_value-returns-in-None t c =
     refused_two c.args.work.now c.args.kids.now (λ r q. both (type_of r) (read_value q)) c.args.pos c.in-None.ensures
 
-pub three_values-values_of_three-requires : goal.three_values-values_of_three-requires
-three_values-values_of_three-requires t c =
+pub expressions::three_values-values_of_three-requires : goal.expressions::three_values-values_of_three-requires
+expressions::three_values-values_of_three-requires t c =
     let h = three_within c.args.work.now c.args.kids.now c.in-Some.x.first c.in-Some.x.second c.in-Some.x.third
     c.in-Some.ensures c.requires.parts in
     (omega arith, (c.requires.whole, (h.0, (h.1, h.2))))
 
-pub three_values-returns-in-Some : goal.three_values-returns-in-Some
-three_values-returns-in-Some t c =
+pub expressions::three_values-returns-in-Some : goal.expressions::three_values-returns-in-Some
+expressions::three_values-returns-in-Some t c =
     answers_three c.args.work.now _ c.args.kids.now c.in-Some.x.first c.in-Some.x.second c.in-Some.x.third
     (λ r q o. both (read_value r) (both (read_value q) (read_value o))) c.args.pos TripleThere IsTriple _
     c.in-Some.ensures c.values_of_three.ensures
 
-pub three_values-returns-in-None : goal.three_values-returns-in-None
-three_values-returns-in-None t c =
+pub expressions::three_values-returns-in-None : goal.expressions::three_values-returns-in-None
+expressions::three_values-returns-in-None t c =
     refused_three c.args.work.now c.args.kids.now
     (λ r q o. both (read_value r) (both (read_value q) (read_value o))) c.args.pos c.in-None.ensures
 
-pub values_of-returns : goal.values_of-returns
-values_of-returns t c = λ x y p q.
+pub expressions::values_of-returns : goal.expressions::values_of-returns
+expressions::values_of-returns t c = λ x y p q.
     let u = c.args.work.now in
     let v = c.value_of.new.work in
     let w = c.value_of-2.new.work in
@@ -344,8 +346,8 @@ values_of-returns t c = λ x y p q.
     (sym (operand_kept v w c.in_ok-left.left b.grows.keeps a.there))
     (operand_there v w c.in_ok-left.left b.grows.keeps a.there, b.there) a b
 
-pub place_with_value-returns : goal.place_with_value-returns
-place_with_value-returns t c = λ x y p q.
+pub expressions::place_with_value-returns : goal.expressions::place_with_value-returns
+expressions::place_with_value-returns t c = λ x y p q.
     let u = c.args.work.now in
     let v = c.operand.new.work in
     let w = c.value_of.new.work in
@@ -356,8 +358,8 @@ place_with_value-returns t c = λ x y p q.
     (sym (operand_kept v w c.in_ok-left.left b.grows.keeps a.there))
     (operand_there v w c.in_ok-left.left b.grows.keeps a.there, b.there) a b
 
-pub values_of_three-returns : goal.values_of_three-returns
-values_of_three-returns t c = λ x y z p q r.
+pub expressions::values_of_three-returns : goal.expressions::values_of_three-returns
+expressions::values_of_three-returns t c = λ x y z p q r.
     let u = c.args.work.now in
     let v = c.value_of.new.work in
     let w = c.values_of.new.work in
@@ -369,8 +371,8 @@ values_of_three-returns t c = λ x y z p q r.
     (sym (operand_kept v w c.in_ok-first.first b.grows.keeps a.there))
     (operand_there v w c.in_ok-first.first b.grows.keeps a.there, b.there) a b
 
-pub type_with_value-returns : goal.type_with_value-returns
-type_with_value-returns t c = λ x y p q.
+pub expressions::type_with_value-returns : goal.expressions::type_with_value-returns
+expressions::type_with_value-returns t c = λ x y p q.
     let u = c.args.work.now in
     let v = c.type_of.new.work in
     let w = c.value_of.new.work in
@@ -380,24 +382,24 @@ type_with_value-returns t c = λ x y p q.
     (type_in w.nodes c.in_ok-of.of) (operand_in w c.in_ok-operand.operand) _ _ _
     (sym (b.grows.keeps.types c.in_ok-of.of a.there)) (type_there v w c.in_ok-of.of b.grows.keeps a.there, b.there) a b
 
-pub index-returns : goal.index-returns
-index-returns t c = λ t' xs e p.
+pub expressions::index-returns : goal.expressions::index-returns
+expressions::index-returns t c = λ t' xs e p.
     let u = c.args.work.now in
     let v = c.two_values.new.work in
     step_then u v _ _ (two_values c.args.pos (readings xs)) (λ x. index x.left x.right c.args.pos)
     (two_in v c.in_ok-both.both) _ OperandThere IsOperand _ (index_is t' c.args.pos e xs (readings xs))
     (c.in_ok-both.ensures xs p) c.index.ensures
 
-pub infix-returns : goal.infix-returns
-infix-returns t c = λ t' xs e p.
+pub expressions::infix-returns : goal.expressions::infix-returns
+expressions::infix-returns t c = λ t' xs e p.
     let u = c.args.work.now in
     let v = c.two_values.new.work in
     step_then u v _ _ (two_values c.args.pos (readings xs)) (λ x. infix_join c.args.op x.left x.right c.args.pos)
     (two_in v c.in_ok-both.both) _ OperandThere IsOperand _ (infix_is c.args.op t' c.args.pos e xs (readings xs))
     (c.in_ok-both.ensures xs p) c.infix_join.ensures
 
-pub conditional-returns : goal.conditional-returns
-conditional-returns t c = λ t' xs e p.
+pub expressions::conditional-returns : goal.expressions::conditional-returns
+expressions::conditional-returns t c = λ t' xs e p.
     let u = c.args.work.now in
     let v = c.three_values.new.work in
     step_then u v _ _ (three_values c.args.pos (readings xs))
@@ -405,64 +407,64 @@ conditional-returns t c = λ t' xs e p.
     (three_in v c.in_ok-all.all) _ OperandThere IsOperand _ (conditional_is t' c.args.pos e xs (readings xs))
     (c.in_ok-all.ensures xs p) c.conditional.ensures
 
-pub assignment-returns : goal.assignment-returns
-assignment-returns t c = λ t' xs e p.
+pub expressions::assignment-returns : goal.expressions::assignment-returns
+expressions::assignment-returns t c = λ t' xs e p.
     let u = c.args.work.now in
     let v = c.place_and_value.new.work in
     step_then u v _ _ (place_and_value c.args.pos (readings xs)) (λ x. assigning c.args.op x c.args.pos)
     (two_in v c.in_ok-x.x) _ OperandThere IsOperand _ (assignment_is c.args.op t' c.args.pos e xs (readings xs))
     (c.in_ok-x.ensures xs p) c.assigned.ensures
 
-pub postfix-returns : goal.postfix-returns
-postfix-returns t c = λ t' xs e p.
+pub expressions::postfix-returns : goal.expressions::postfix-returns
+expressions::postfix-returns t c = λ t' xs e p.
     let u = c.args.work.now in
     let v = c.one_operand.new.work in
     step_then u v _ _ (one_operand c.args.pos (readings xs)) (λ a. stepped c.args.op false a c.args.pos a.first)
     (operand_in v c.in_ok-a.a) _ OperandThere IsOperand _ (postfix_is c.args.op t' c.args.pos e xs (readings xs))
     (c.in_ok-a.ensures xs p) c.stepped.ensures
 
-pub step_in_front-returns : goal.step_in_front-returns
-step_in_front-returns t c = λ t' xs e p.
+pub expressions::step_in_front-returns : goal.expressions::step_in_front-returns
+expressions::step_in_front-returns t c = λ t' xs e p.
     let u = c.args.work.now in
     let v = c.one_operand.new.work in
     step_then u v _ _ (one_operand c.args.pos (readings xs)) (λ a. stepped c.args.op true a c.args.pos c.args.pos)
     (operand_in v c.in_ok-a.a) _ OperandThere IsOperand _ (step_is c.args.op t' c.args.pos e xs (readings xs))
     (c.in_ok-a.ensures xs p) c.stepped.ensures
 
-pub address-returns : goal.address-returns
-address-returns t c = λ t' xs e p.
+pub expressions::address-returns : goal.expressions::address-returns
+expressions::address-returns t c = λ t' xs e p.
     let u = c.args.work.now in
     let v = c.one_operand.new.work in
     step_then u v _ _ (one_operand c.args.pos (readings xs)) (λ a. address a c.args.pos)
     (operand_in v c.in_ok-a.a) _ OperandThere IsOperand _ (address_is t' c.args.pos e xs (readings xs))
     (c.in_ok-a.ensures xs p) c.address.ensures
 
-pub indirection-returns : goal.indirection-returns
-indirection-returns t c = λ t' xs e p.
+pub expressions::indirection-returns : goal.expressions::indirection-returns
+expressions::indirection-returns t c = λ t' xs e p.
     let u = c.args.work.now in
     let v = c.one_value.new.work in
     step_then u v _ _ (one_value c.args.pos (readings xs)) (λ a. dereference a c.args.pos c.args.pos)
     (operand_in v c.in_ok-a.a) _ OperandThere IsOperand _ (indirection_is t' c.args.pos e xs (readings xs))
     (c.in_ok-a.ensures xs p) c.dereference.ensures
 
-pub unary-returns : goal.unary-returns
-unary-returns t c = λ t' xs e p.
+pub expressions::unary-returns : goal.expressions::unary-returns
+expressions::unary-returns t c = λ t' xs e p.
     let u = c.args.work.now in
     let v = c.one_value.new.work in
     step_then u v _ _ (one_value c.args.pos (readings xs)) (λ a. unary_on c.args.op a c.args.pos)
     (operand_in v c.in_ok-a.a) _ OperandThere IsOperand _ (unary_is c.args.op t' c.args.pos e xs (readings xs))
     (c.in_ok-a.ensures xs p) c.unary_on.ensures
 
-pub cast-returns : goal.cast-returns
-cast-returns t c = λ t' xs e p.
+pub expressions::cast-returns : goal.expressions::cast-returns
+expressions::cast-returns t c = λ t' xs e p.
     let u = c.args.work.now in
     let v = c.type_and_value.new.work in
     step_then u v _ _ (type_and_value c.args.pos (readings xs)) (λ x. cast x.left x.right c.args.pos)
     (cast_in v c.in_ok-x.x) _ OperandThere IsOperand _ (cast_is t' c.args.pos e xs (readings xs))
     (c.in_ok-x.ensures xs p) c.cast.ensures
 
-pub size_of_expression-returns : goal.size_of_expression-returns
-size_of_expression-returns t c = λ t' xs e p.
+pub expressions::size_of_expression-returns : goal.expressions::size_of_expression-returns
+expressions::size_of_expression-returns t c = λ t' xs e p.
     let u = c.args.work.now in
     let v = c.unevaluated_operand.new.work in
     step_then u v _ _ (unevaluated (one_operand c.args.pos (readings xs))) (λ a. sized (operand_type a) c.args.pos)
@@ -471,37 +473,37 @@ size_of_expression-returns t c = λ t' xs e p.
     (subst (λ (k : Ty). Answers quietly v c.sized.new.self (sized k c.args.pos) OperandThere IsOperand c.sized.result)
     c.of-of.ensures.is c.sized.ensures)
 
-pub prefixed-returns-in-Step : goal.prefixed-returns-in-Step
-prefixed-returns-in-Step t c = λ t' xs e p.
+pub expressions::prefixed-returns-in-Step : goal.expressions::prefixed-returns-in-Step
+expressions::prefixed-returns-in-Step t c = λ t' xs e p.
     subst (λ (o : PrefixOperator). Answers quietly c.args.work.now c.step_in_front.new.work
     (expression_of (Kinds.Prefix o) t' xs (readings xs)) OperandThere IsOperand c.step_in_front.result)
     (sym c.in-Step.is) (c.step_in_front.ensures t' xs e p)
 
-pub prefixed-returns-in-Address : goal.prefixed-returns-in-Address
-prefixed-returns-in-Address t c = λ t' xs e p.
+pub expressions::prefixed-returns-in-Address : goal.expressions::prefixed-returns-in-Address
+expressions::prefixed-returns-in-Address t c = λ t' xs e p.
     subst (λ (o : PrefixOperator). Answers quietly c.args.work.now c.address.new.work
     (expression_of (Kinds.Prefix o) t' xs (readings xs)) OperandThere IsOperand c.address.result)
     (sym c.in-Address.is) (c.address.ensures t' xs e p)
 
-pub prefixed-returns-in-Indirection : goal.prefixed-returns-in-Indirection
-prefixed-returns-in-Indirection t c = λ t' xs e p.
+pub expressions::prefixed-returns-in-Indirection : goal.expressions::prefixed-returns-in-Indirection
+expressions::prefixed-returns-in-Indirection t c = λ t' xs e p.
     subst (λ (o : PrefixOperator). Answers quietly c.args.work.now c.indirection.new.work
     (expression_of (Kinds.Prefix o) t' xs (readings xs)) OperandThere IsOperand c.indirection.result)
     (sym c.in-Indirection.is) (c.indirection.ensures t' xs e p)
 
-pub prefixed-returns-in-Unary : goal.prefixed-returns-in-Unary
-prefixed-returns-in-Unary t c = λ t' xs e p.
+pub expressions::prefixed-returns-in-Unary : goal.expressions::prefixed-returns-in-Unary
+expressions::prefixed-returns-in-Unary t c = λ t' xs e p.
     subst (λ (o : PrefixOperator). Answers quietly c.args.work.now c.unary.new.work
     (expression_of (Kinds.Prefix o) t' xs (readings xs)) OperandThere IsOperand c.unary.result)
     (sym c.in-Unary.is) (c.unary.ensures t' xs e p)
 
-pub unevaluated_operand-returns : goal.unevaluated_operand-returns
-unevaluated_operand-returns t c = λ xs p.
+pub expressions::unevaluated_operand-returns : goal.expressions::unevaluated_operand-returns
+expressions::unevaluated_operand-returns t c = λ xs p.
     unevaluated_operand c.args.work.now c.one_operand.new.work c.back.new.self c.mark-mark.result
     (one_operand c.args.pos (readings xs)) c.in_ok-a.a c.mark-mark.ensures c.back.ensures (c.in_ok-a.ensures xs p)
 
-pub expression-returns-in-Name : goal.expression-returns-in-Name
-expression-returns-in-Name t c = λ t' xs n.
+pub expressions::expression-returns-in-Name : goal.expressions::expression-returns-in-Name
+expressions::expression-returns-in-Name t c = λ t' xs n.
     subst (λ (k : NodeKind). Answers quietly c.args.work.now c.named.new.self
     (expression_of k t' xs (readings xs)) OperandThere IsOperand c.named.result) (sym c.in-Name.is)
     (subst (λ (l : Lexeme). Answers quietly c.args.work.now c.named.new.self
@@ -512,40 +514,40 @@ expression-returns-in-Name t c = λ t' xs n.
     (named (token_of c.args.work.now m)) OperandThere IsOperand c.named.result) c.name_of-name.ensures
     (c.named.ensures)))
 
-pub expression-number-requires : goal.expression-number-requires
-expression-number-requires t c =
+pub expressions::expression-number-requires : goal.expressions::expression-number-requires
+expressions::expression-number-requires t c =
     record {
       whole = c.requires.whole;
       accepted = fits_number c.args.work.now c.args.node.now c.name_of-name.result c.name_of-name.ensures c.in-Number.is
           c.requires.node;
     }
 
-pub expression-returns-in-Number : goal.expression-returns-in-Number
-expression-returns-in-Number t c = λ t' xs n.
+pub expressions::expression-returns-in-Number : goal.expressions::expression-returns-in-Number
+expressions::expression-returns-in-Number t c = λ t' xs n.
     subst (λ (k : NodeKind). Answers quietly c.args.work.now c.number.new.self
     (expression_of k t' xs (readings xs)) OperandThere IsOperand c.number.result) (sym c.in-Number.is)
     (subst (λ (d : Doing Operand). Answers quietly c.args.work.now c.number.new.self d OperandThere IsOperand
     c.number.result) (sym (number_is c.args.work.now c.args.node.now c.name_of-name.result t' xs
     c.name_of-name.ensures n)) c.number.ensures)
 
-pub expression-character-requires : goal.expression-character-requires
-expression-character-requires t c =
+pub expressions::expression-character-requires : goal.expressions::expression-character-requires
+expressions::expression-character-requires t c =
     record {
       whole = c.requires.whole;
       accepted = fits_character c.args.work.now c.args.node.now c.name_of-name.result c.name_of-name.ensures
           c.in-Character.is c.requires.node;
     }
 
-pub expression-returns-in-Character : goal.expression-returns-in-Character
-expression-returns-in-Character t c = λ t' xs n.
+pub expressions::expression-returns-in-Character : goal.expressions::expression-returns-in-Character
+expressions::expression-returns-in-Character t c = λ t' xs n.
     subst (λ (k : NodeKind). Answers quietly c.args.work.now c.character.new.self
     (expression_of k t' xs (readings xs)) OperandThere IsOperand c.character.result) (sym c.in-Character.is)
     (subst (λ (d : Doing Operand). Answers quietly c.args.work.now c.character.new.self d OperandThere IsOperand
     c.character.result) (sym (character_is c.args.work.now c.args.node.now c.name_of-name.result t' xs
     c.name_of-name.ensures n)) c.character.ensures)
 
-pub expression-literal-requires : goal.expression-literal-requires
-expression-literal-requires t c = record {
+pub expressions::expression-literal-requires : goal.expressions::expression-literal-requires
+expressions::expression-literal-requires t c = record {
   whole = c.requires.whole;
   accepted = fits_text c.args.work.now c.args.node.now c.name_of-name.result c.name_of-name.ensures c.in-Text.is
       c.requires.node;
@@ -553,8 +555,8 @@ expression-literal-requires t c = record {
       c.requires.node;
 }
 
-pub expression-returns-in-Text : goal.expression-returns-in-Text
-expression-returns-in-Text t c = λ t' xs n.
+pub expressions::expression-returns-in-Text : goal.expressions::expression-returns-in-Text
+expressions::expression-returns-in-Text t c = λ t' xs n.
     subst (λ (k : NodeKind). Answers quietly c.args.work.now c.literal.new.self
     (expression_of k t' xs (readings xs)) OperandThere IsOperand c.literal.result) (sym c.in-Text.is)
     (subst (λ (d : Doing Operand). Answers quietly c.args.work.now c.literal.new.self d OperandThere IsOperand
@@ -564,40 +566,40 @@ expression-returns-in-Text t c = λ t' xs n.
     (c.literal.ensures xs (subst (λ (ks : List ℕ). AreParts c.args.work.now ks xs)
     (sym c.as_slice-kids.ensures) n.parts))))
 
-pub member_of-returns : goal.member_of-returns
-member_of-returns t c = λ x t' word e n p.
+pub expressions::member_of-returns : goal.expressions::member_of-returns
+expressions::member_of-returns t c = λ x t' word e n p.
     let u = c.args.work.now in
     let v = c.operand.new.work in
     step_then u v _ _ (reading x).operand (λ a. member a c.args.name.now c.args.pos)
     (operand_in v c.in_ok-a.a) _ OperandThere IsOperand _
     (direct_is t' word c.args.pos c.args.name.now e n (reading x)) (c.in_ok-a.ensures x p) c.member.ensures
 
-pub member_behind-returns : goal.member_behind-returns
-member_behind-returns t c = λ x t' word e n p.
+pub expressions::member_behind-returns : goal.expressions::member_behind-returns
+expressions::member_behind-returns t c = λ x t' word e n p.
     let u = c.args.work.now in
     let v = c.value_of.new.work in
     step_then u v _ _ (read_value (reading x)) (λ a. member_behind a c.args.name.now c.args.pos)
     (operand_in v c.in_ok-a.a) _ OperandThere IsOperand _
     (indirect_is t' word c.args.pos c.args.name.now e n (reading x)) (c.in_ok-a.ensures x p) c.member_behind.ensures
 
-pub selected-member_of-requires : goal.selected-member_of-requires
-selected-member_of-requires t c =
+pub expressions::selected-member_of-requires : goal.expressions::selected-member_of-requires
+expressions::selected-member_of-requires t c =
     let h = two_within c.args.work.now c.args.kids.now c.in-Some.x.first c.in-Some.x.second c.in-Some.ensures
     c.requires.parts in
     (omega arith, (c.requires.whole, h.0))
 
-pub selected-member_behind-requires : goal.selected-member_behind-requires
-selected-member_behind-requires t c =
+pub expressions::selected-member_behind-requires : goal.expressions::selected-member_behind-requires
+expressions::selected-member_behind-requires t c =
     let h = two_within c.args.work.now c.args.kids.now c.in-Some.x.first c.in-Some.x.second c.in-Some.ensures
     c.requires.parts in
     (omega arith, (c.requires.whole, h.0))
 
-pub selected-returns-in-None : goal.selected-returns-in-None
-selected-returns-in-None t c =
+pub expressions::selected-returns-in-None : goal.expressions::selected-returns-in-None
+expressions::selected-returns-in-None t c =
     λ t' xs e p s h. not_selected c.args.work.now c.args.kids.now c.args.how t' c.args.pos e c.in-None.ensures xs p s
 
-pub selected-returns-in-Direct : goal.selected-returns-in-Direct
-selected-returns-in-Direct t c = λ t' xs e p.
+pub expressions::selected-returns-in-Direct : goal.expressions::selected-returns-in-Direct
+expressions::selected-returns-in-Direct t c = λ t' xs e p.
     let u = c.args.work.now in
     let m = selects u c.args.kids.now c.in-Some.x.first c.in-Some.x.second c.node_at-node.result.now c.args.how t'
     c.in-Some.ensures c.node_at-node.ensures xs p in
@@ -605,8 +607,8 @@ selected-returns-in-Direct t c = λ t' xs e p.
     (sym (m.is ∙ ap (λ (o : Selection). selected o t' m.name (reading m.head)) c.in-Direct.is))
     (c.member_of.ensures m.head t' m.name e (m.text ∙ sym c.text-name.ensures) m.part)
 
-pub selected-returns-in-Indirect : goal.selected-returns-in-Indirect
-selected-returns-in-Indirect t c = λ t' xs e p.
+pub expressions::selected-returns-in-Indirect : goal.expressions::selected-returns-in-Indirect
+expressions::selected-returns-in-Indirect t c = λ t' xs e p.
     let u = c.args.work.now in
     let m = selects u c.args.kids.now c.in-Some.x.first c.in-Some.x.second c.node_at-node.result.now c.args.how t'
     c.in-Some.ensures c.node_at-node.ensures xs p in
@@ -615,16 +617,16 @@ selected-returns-in-Indirect t c = λ t' xs e p.
     ∙ ap (λ (o : Selection). selected o t' m.name (reading m.head)) c.in-Indirect.is))
     (c.member_behind.ensures m.head t' m.name e (m.text ∙ sym c.text-name.ensures) m.part)
 
-pub conditional-returns-in_err-all : goal.conditional-returns-in_err-all
-conditional-returns-in_err-all t c =
+pub expressions::conditional-returns-in_err-all : goal.expressions::conditional-returns-in_err-all
+expressions::conditional-returns-in_err-all t c =
     let p = err_from_is_err_and c.from_residual.result c.from_residual.ensures.1 in λ t' xs e q.
     rw (p.1, p.2) (step_failed c.args.work.now c.three_values.new.work c.three_values.new.work _
     (three_values c.args.pos (readings xs))
     (λ x. conditional x.left x.right.left x.right.right c.args.pos) TripleThere IsTriple OperandThere IsOperand _
     (conditional_is t' c.args.pos e xs (readings xs)) (c.in_err-all.ensures xs q))
 
-pub arguments-value_of-requires : goal.arguments-value_of-requires
-arguments-value_of-requires t c =
+pub expressions::arguments-value_of-requires : goal.expressions::arguments-value_of-requires
+expressions::arguments-value_of-requires t c =
     let v = c.loop-part.work in (
       omega arith,
       (
@@ -634,16 +636,17 @@ arguments-value_of-requires t c =
       ),
     )
 
-pub arguments-returns-in_err-x : goal.arguments-returns-in_err-x
-arguments-returns-in_err-x t c = let p = err_from_is_err_and c.from_residual.result c.from_residual.ensures.1 in λ xs q.
+pub expressions::arguments-returns-in_err-x : goal.expressions::arguments-returns-in_err-x
+expressions::arguments-returns-in_err-x t c =
+    let p = err_from_is_err_and c.from_residual.result c.from_residual.ensures.1 in λ xs q.
     let u = c.args.work.now in
     let v = c.loop-part.work in
     rw (p.1, p.2) (so_far_fails u v c.value_of.new.work xs c.in-Some.part.first c.in-Some.part.others.now
     c.loop-part.values _ (subst (λ (z : List ℕ). ReadSoFar u v xs z c.loop-part.values) c.in-Some.ensures
     (c.loop-part.invariant.reads xs q)) c.in_err-x.ensures)
 
-pub arguments-loop-part-preserved : goal.arguments-loop-part-preserved
-arguments-loop-part-preserved t c =
+pub expressions::arguments-loop-part-preserved : goal.expressions::arguments-loop-part-preserved
+expressions::arguments-loop-part-preserved t c =
     let u = c.args.work.now in
     let v = c.loop-part.work in
     let w = c.value_of.new.work in
@@ -660,16 +663,16 @@ arguments-loop-part-preserved t c =
           (c.loop-part.invariant.reads xs q)) c.in_ok-x.ensures c.in_ok-push.ensures;
     }
 
-pub arguments-returns : goal.arguments-returns
-arguments-returns t c = λ xs q.
+pub expressions::arguments-returns : goal.expressions::arguments-returns
+expressions::arguments-returns t c = λ xs q.
     let u = c.args.work.now in
     let v = c.loop-part.work in
     so_far_ends u v xs c.loop-part.values (subst
     (λ (z : List ℕ). ReadSoFar u v xs z c.loop-part.values) c.in_default.ensures
     (c.loop-part.invariant.reads xs q))
 
-pub call_of_library-returns : goal.call_of_library-returns
-call_of_library-returns t c = λ xs q.
+pub expressions::call_of_library-returns : goal.expressions::call_of_library-returns
+expressions::call_of_library-returns t c = λ xs q.
     let u = c.args.work.now in
     let v = c.arguments.new.work in
     let k = c.args.service in
@@ -681,15 +684,15 @@ call_of_library-returns t c = λ xs q.
     (library_call (slice_get services k) k (map (operand_in v) ys) c.args.pos c.args.first) OperandThere
     IsOperand c.library_call.result) c.as_slice.ensures.value c.library_call.ensures)
 
-pub call_of_value-arguments-requires : goal.call_of_value-arguments-requires
-call_of_value-arguments-requires t c =
+pub expressions::call_of_value-arguments-requires : goal.expressions::call_of_value-arguments-requires
+expressions::call_of_value-arguments-requires t c =
     let u = c.args.work.now in
     let v = c.value_of.new.work in
     let a = c.in_ok-f.ensures c.requires.called.syntax c.requires.called.is in
     (omega arith, (a.whole, within_kept u v c.args.kids.now a.grows.keeps c.requires.parts))
 
-pub call_of_value-returns : goal.call_of_value-returns
-call_of_value-returns t c = λ x xs p q.
+pub expressions::call_of_value-returns : goal.expressions::call_of_value-returns
+expressions::call_of_value-returns t c = λ x xs p q.
     let u = c.args.work.now in
     let v = c.value_of.new.work in
     let w = c.arguments.new.work in
@@ -709,8 +712,8 @@ call_of_value-returns t c = λ x xs p q.
     (call (operand_in w c.in_ok-f.f) (map (operand_in w) zs) c.args.pos) OperandThere IsOperand c.call.result)
     c.as_slice.ensures.value c.call.ensures)))
 
-pub call-call_of_library-requires : goal.call-call_of_library-requires
-call-call_of_library-requires t c =
+pub expressions::call-call_of_library-requires : goal.expressions::call-call_of_library-requires
+expressions::call-call_of_library-requires t c =
     let u = c.args.work.now in (
       omega arith,
       (
@@ -720,8 +723,8 @@ call-call_of_library-requires t c =
       ),
     )
 
-pub call-call_of_value-requires : goal.call-call_of_value-requires
-call-call_of_value-requires t c =
+pub expressions::call-call_of_value-requires : goal.expressions::call-call_of_value-requires
+expressions::call-call_of_value-requires t c =
     let u = c.args.work.now in
     let h = subst (λ (z : List ℕ). PartsWithin u c.args.depth z) c.in-Some.ensures c.requires.parts in (
       omega arith,
@@ -734,12 +737,12 @@ call-call_of_value-requires t c =
       ),
     )
 
-pub call-returns-in-None : goal.call-returns-in-None
-call-returns-in-None t c =
+pub expressions::call-returns-in-None : goal.expressions::call-returns-in-None
+expressions::call-returns-in-None t c =
     λ t' xs e p s h. no_call c.args.work.now t' c.args.pos e c.args.kids.now c.in-None.ensures xs p s
 
-pub call-returns-in-Some-service : goal.call-returns-in-Some-service
-call-returns-in-Some-service t c = λ t' xs e p.
+pub expressions::call-returns-in-Some-service : goal.expressions::call-returns-in-Some-service
+expressions::call-returns-in-Some-service t c = λ t' xs e p.
     let u = c.args.work.now in
     let m = cut u c.in-Some.part.first c.in-Some.part.others.now xs
     (subst (λ (z : List ℕ). AreParts u z xs) c.in-Some.ensures p) in
@@ -753,8 +756,8 @@ call-returns-in-Some-service t c = λ t' xs e p.
     (readings m.tail) s e o.first)
     (c.call_of_library.ensures m.tail m.others)
 
-pub call-returns-in-None-service : goal.call-returns-in-None-service
-call-returns-in-None-service t c = λ t' xs e p.
+pub expressions::call-returns-in-None-service : goal.expressions::call-returns-in-None-service
+expressions::call-returns-in-None-service t c = λ t' xs e p.
     let u = c.args.work.now in
     let m = cut u c.in-Some.part.first c.in-Some.part.others.now xs
     (subst (λ (z : List ℕ). AreParts u z xs) c.in-Some.ensures p) in
@@ -765,23 +768,23 @@ call-returns-in-None-service t c = λ t' xs e p.
     ∙ value_is t' c.args.pos m.head (readings m.tail) s e)
     (c.call_of_value.ensures m.head m.tail m.first m.others)
 
-pub expression-returns-in_default : goal.expression-returns-in_default
-expression-returns-in_default t c =
+pub expressions::expression-returns-in_default : goal.expressions::expression-returns-in_default
+expressions::expression-returns-in_default t c =
     λ t' xs n s h. no_expression c.args.node.now.kind t' c.args.node.now.pos n.place xs
     (readings xs) s c.in_default.not-Name c.in_default.not-Number c.in_default.not-Character c.in_default.not-Text
     c.in_default.not-Parenthesized c.in_default.not-Index c.in_default.not-Call c.in_default.not-Select
     c.in_default.not-Postfix c.in_default.not-Prefix c.in_default.not-SizeofExpression c.in_default.not-SizeofType
     c.in_default.not-Cast c.in_default.not-Infix c.in_default.not-Conditional c.in_default.not-Assignment
 
-pub arguments-loop-part-init : goal.arguments-loop-part-init
-arguments-loop-part-init t c = record {
+pub expressions::arguments-loop-part-init : goal.expressions::arguments-loop-part-init
+expressions::arguments-loop-part-init t c = record {
   whole = c.requires.whole;
   parts = c.requires.parts;
   reads = so_far_begins c.args.work.now c.args.kids.now c.new-values.result c.requires.whole c.new-values.ensures.items;
 }
 
-pub one_type-type_of-requires : goal.one_type-type_of-requires
-one_type-type_of-requires t c = (
+pub expressions::one_type-type_of-requires : goal.expressions::one_type-type_of-requires
+expressions::one_type-type_of-requires t c = (
   omega arith,
   (
     c.requires.whole,
@@ -789,21 +792,22 @@ one_type-type_of-requires t c = (
   ),
 )
 
-pub one_type-returns-in-Some : goal.one_type-returns-in-Some
-one_type-returns-in-Some t c =
+pub expressions::one_type-returns-in-Some : goal.expressions::one_type-returns-in-Some
+expressions::one_type-returns-in-Some t c =
     answers_one c.args.work.now _ c.args.kids.now c.in-Some.k
     (type_of) c.args.pos TypeThere IsType _ c.in-Some.ensures c.type_of.ensures
 
-pub one_type-returns-in-None : goal.one_type-returns-in-None
-one_type-returns-in-None t c = refused_one c.args.work.now c.args.kids.now (type_of) c.args.pos c.in-None.ensures
+pub expressions::one_type-returns-in-None : goal.expressions::one_type-returns-in-None
+expressions::one_type-returns-in-None t c =
+    refused_one c.args.work.now c.args.kids.now (type_of) c.args.pos c.in-None.ensures
 
-pub unevaluated_type-returns : goal.unevaluated_type-returns
-unevaluated_type-returns t c = λ xs p.
+pub expressions::unevaluated_type-returns : goal.expressions::unevaluated_type-returns
+expressions::unevaluated_type-returns t c = λ xs p.
     unevaluated_type c.args.work.now c.one_type.new.work c.back.new.self c.mark-mark.result
     (one_type c.args.pos (readings xs)) c.in_ok-of.of c.mark-mark.ensures c.back.ensures (c.in_ok-of.ensures xs p)
 
-pub size_of_type-returns : goal.size_of_type-returns
-size_of_type-returns t c = λ t' xs e p.
+pub expressions::size_of_type-returns : goal.expressions::size_of_type-returns
+expressions::size_of_type-returns t c = λ t' xs e p.
     let u = c.args.work.now in
     let v = c.unevaluated_type.new.work in
     step_then u v _ _ (unevaluated (one_type c.args.pos (readings xs))) (λ of. sized of c.args.pos)
@@ -812,24 +816,24 @@ size_of_type-returns t c = λ t' xs e p.
 
 -- ---- constants
 
-pub unevaluated_value-returns : goal.unevaluated_value-returns
-unevaluated_value-returns t c = λ x p.
+pub expressions::unevaluated_value-returns : goal.expressions::unevaluated_value-returns
+expressions::unevaluated_value-returns t c = λ x p.
     unevaluated_operand c.args.work.now c.value_of.new.work c.back.new.self c.mark-mark.result
     (read_value (reading x)) c.in_ok-x.x c.mark-mark.ensures c.back.ensures (c.in_ok-x.ensures x p)
 
-pub constant-returns : goal.constant-returns
-constant-returns t c = λ x p.
+pub expressions::constant-returns : goal.expressions::constant-returns
+expressions::constant-returns t c = λ x p.
     let v = c.unevaluated_value.new.work in
     then quietly quiet_law c.args.work.now v v (unevaluated (read_value (reading x))) steps.constant
     (operand_in v c.in_ok-x.x) _ ConstantThere (in_any IsConstant) c.constant_value.result
     (c.in_ok-x.ensures x p) c.constant_value.ensures
 
-pub length_of-array_length-requires : goal.length_of-array_length-requires
-length_of-array_length-requires t c =
+pub declarators::length_of-array_length-requires : goal.declarators::length_of-array_length-requires
+declarators::length_of-array_length-requires t c =
     let a = c.in_ok-c.ensures c.requires.part.syntax c.requires.part.is in record { whole = a.whole; small = a.there }
 
-pub length_of-returns : goal.length_of-returns
-length_of-returns t c = λ x p.
+pub declarators::length_of-returns : goal.declarators::length_of-returns
+declarators::length_of-returns t c = λ x p.
     let v = c.constant.new.work in
     then quietly quiet_law c.args.work.now v v (declarations.constant (reading x))
     (λ k. steps.array_length k.number k.first)
@@ -838,8 +842,8 @@ length_of-returns t c = λ x p.
 
 -- ---- specifiers
 
-pub specified-named_types-requires : goal.specified-named_types-requires
-specified-named_types-requires t c =
+pub types::specified-named_types-requires : goal.types::specified-named_types-requires
+types::specified-named_types-requires t c =
     let some = deep c.args.work.now c.args.k c.requires.part in
     let u = c.args.work.now in (
       omega arith,
@@ -850,8 +854,8 @@ specified-named_types-requires t c =
       ),
     )
 
-pub specified-specified-requires : goal.specified-specified-requires
-specified-specified-requires t c =
+pub types::specified-specified-requires : goal.types::specified-specified-requires
+types::specified-specified-requires t c =
     let u = c.args.work.now in
     let n = c.node_at-node.result.now in
     let h = kids_within u c.args.k n c.requires.part c.node_at-node.ensures in
@@ -863,8 +867,8 @@ specified-specified-requires t c =
           (sym c.as_slice.ensures.value) a.there;
     }
 
-pub specified-returns : goal.specified-returns
-specified-returns t c = λ x p.
+pub types::specified-returns : goal.types::specified-returns
+types::specified-returns t c = λ x p.
     let u = c.args.work.now in
     let v = c.named_types.new.work in
     let w = c.specified.new.work in
@@ -892,8 +896,8 @@ specified-returns t c = λ x p.
     (steps.specified o.token o.parts (map (type_in v.nodes) ks)) SpecifiedThere
     (in_any IsSpecified) c.specified.result) c.as_slice.ensures.value rest)))
 
-pub maybe_type-returns-in_ok-of : goal.maybe_type-returns-in_ok-of
-maybe_type-returns-in_ok-of t c = λ x p.
+pub types::maybe_type-returns-in_ok-of : goal.types::maybe_type-returns-in_ok-of
+types::maybe_type-returns-in_ok-of t c = λ x p.
     let u = c.args.work.now in
     let n = c.node_at-node.result.now in
     let o = opened u c.args.k x n p c.node_at-node.ensures in
@@ -901,8 +905,8 @@ maybe_type-returns-in_ok-of t c = λ x p.
     (ap names_type o.is ∙ names_type_is n.kind o.token o.parts ∙ c.names_type.ensures ∙ c.if-names_type.true)
     (c.in_ok-of.ensures x p)
 
-pub maybe_type-returns-in_err-of : goal.maybe_type-returns-in_err-of
-maybe_type-returns-in_err-of t c =
+pub types::maybe_type-returns-in_err-of : goal.types::maybe_type-returns-in_err-of
+types::maybe_type-returns-in_err-of t c =
     let e = err_from_is_err_and c.from_residual.result c.from_residual.ensures.1 in λ x p.
     let u = c.args.work.now in
     let n = c.node_at-node.result.now in
@@ -911,16 +915,16 @@ maybe_type-returns-in_err-of t c =
     (ap names_type o.is ∙ names_type_is n.kind o.token o.parts ∙ c.names_type.ensures ∙ c.if-names_type.true)
     (c.in_err-of.ensures x p))
 
-pub maybe_type-returns-else-names_type : goal.maybe_type-returns-else-names_type
-maybe_type-returns-else-names_type t c = λ x p.
+pub types::maybe_type-returns-else-names_type : goal.types::maybe_type-returns-else-names_type
+types::maybe_type-returns-else-names_type t c = λ x p.
     let u = c.args.work.now in
     let n = c.node_at-node.result.now in
     let o = opened u c.args.k x n p c.node_at-node.ensures in
     no_type_found u c.args.alone x c.requires.whole
     (ap names_type o.is ∙ names_type_is n.kind o.token o.parts ∙ c.names_type.ensures ∙ c.if-names_type.false)
 
-pub named_types-loop-part-init : goal.named_types-loop-part-init
-named_types-loop-part-init t c =
+pub types::named_types-loop-part-init : goal.types::named_types-loop-part-init
+types::named_types-loop-part-init t c =
     let u = c.args.work.now in
     let ts = c.new-types.result in
     let there = none_there (λ k. k < type_count u.nodes) ts.items c.new-types.ensures.items in
@@ -933,8 +937,8 @@ named_types-loop-part-init t c =
           (sym (ap (map (type_in u.nodes)) c.new-types.ensures.items)) xs q (λ s. types_begin c.args.alone xs s);
     }
 
-pub named_types-maybe_type-requires : goal.named_types-maybe_type-requires
-named_types-maybe_type-requires t c =
+pub types::named_types-maybe_type-requires : goal.types::named_types-maybe_type-requires
+types::named_types-maybe_type-requires t c =
     let v = c.loop-part.work in (
       omega arith,
       (
@@ -944,8 +948,8 @@ named_types-maybe_type-requires t c =
       ),
     )
 
-pub named_types-loop-part-preserved : goal.named_types-loop-part-preserved
-named_types-loop-part-preserved t c =
+pub types::named_types-loop-part-preserved : goal.types::named_types-loop-part-preserved
+types::named_types-loop-part-preserved t c =
     let u = c.args.work.now in
     let v = c.loop-part.work in
     let w = c.maybe_type.new.work in
@@ -977,8 +981,8 @@ named_types-loop-part-preserved t c =
           c.in_ok-push_some.ensures i j));
     }
 
-pub named_types-returns-in_err-of : goal.named_types-returns-in_err-of
-named_types-returns-in_err-of t c =
+pub types::named_types-returns-in_err-of : goal.types::named_types-returns-in_err-of
+types::named_types-returns-in_err-of t c =
     let e = err_from_is_err_and c.from_residual.result c.from_residual.ensures.1 in λ xs q.
     let v = c.loop-part.work in
     let w = c.maybe_type.new.work in
@@ -993,8 +997,8 @@ named_types-returns-in_err-of t c =
     (λ y b part i. failed quietly v w w (maybe_type alone y)
     (λ o. give (b ++ some_list o)) MaybeTypeThere IsMaybeType TypesThere AreTypes _ (c.in_err-of.ensures y part)))
 
-pub named_types-returns : goal.named_types-returns
-named_types-returns t c = λ xs q.
+pub types::named_types-returns : goal.types::named_types-returns
+types::named_types-returns t c = λ xs q.
     let v = c.loop-part.work in
     let alone = c.args.alone in
     let ts = c.loop-part.types in
@@ -1004,8 +1008,8 @@ named_types-returns t c = λ xs q.
     (TypesThere v ts) (λ ys. ys ≡ map (type_in v.nodes) ts.items)) c.in_default.ensures
     (c.loop-part.invariant.reads xs q)) c.loop-part.invariant.there (λ s b i. i)
 
-pub type_of-type_of_node-requires : goal.type_of-type_of_node-requires
-type_of-type_of_node-requires t c =
+pub types::type_of-type_of_node-requires : goal.types::type_of-type_of_node-requires
+types::type_of-type_of_node-requires t c =
     let some = deep c.args.work.now c.args.k c.requires.part in (
       omega arith,
       (
@@ -1014,14 +1018,14 @@ type_of-type_of_node-requires t c =
       ),
     )
 
-pub type_of-returns : goal.type_of-returns
-type_of-returns t c = λ x p.
+pub types::type_of-returns : goal.types::type_of-returns
+types::type_of-returns t c = λ x p.
     let o = opened c.args.work.now c.args.k x c.node_at-node.result.now p c.node_at-node.ensures in
     at_node c.args.work.now _ c.node_at-node.result.now x (λ r. r.type c.args.alone) TypeThere IsType _ o
     (c.type_of_node.ensures o.token o.parts o.node)
 
-pub type_of_node-record_specifier-requires : goal.type_of_node-record_specifier-requires
-type_of_node-record_specifier-requires t c = (
+pub types::type_of_node-record_specifier-requires : goal.types::type_of_node-record_specifier-requires
+types::type_of_node-record_specifier-requires t c = (
   omega arith,
   (
     c.requires.whole,
@@ -1029,8 +1033,8 @@ type_of_node-record_specifier-requires t c = (
   ),
 )
 
-pub type_of_node-enum_specifier-requires : goal.type_of_node-enum_specifier-requires
-type_of_node-enum_specifier-requires t c = (
+pub types::type_of_node-enum_specifier-requires : goal.types::type_of_node-enum_specifier-requires
+types::type_of_node-enum_specifier-requires t c = (
   omega arith,
   (
     c.requires.whole,
@@ -1039,8 +1043,8 @@ type_of_node-enum_specifier-requires t c = (
   ),
 )
 
-pub type_of_node-type_name-requires : goal.type_of_node-type_name-requires
-type_of_node-type_name-requires t c = (
+pub types::type_of_node-type_name-requires : goal.types::type_of_node-type_name-requires
+types::type_of_node-type_name-requires t c = (
   omega arith,
   (
     c.requires.whole,
@@ -1048,8 +1052,8 @@ type_of_node-type_name-requires t c = (
   ),
 )
 
-pub type_of_node-returns-in-TypedefName : goal.type_of_node-returns-in-TypedefName
-type_of_node-returns-in-TypedefName t c = λ t' xs n.
+pub types::type_of_node-returns-in-TypedefName : goal.types::type_of_node-returns-in-TypedefName
+types::type_of_node-returns-in-TypedefName t c = λ t' xs n.
     let u = c.args.work.now in
     subst (λ (k : NodeKind). Answers quietly u u
     (type_of_kind k t' xs (readings xs) c.args.alone) TypeThere IsType c.typedef_name.result)
@@ -1059,46 +1063,46 @@ type_of_node-returns-in-TypedefName t c = λ t' xs n.
     (subst (λ (m : Name). Answers quietly u u (typedef_name (token_of u m)) TypeThere IsType c.typedef_name.result)
     c.name_of.ensures c.typedef_name.ensures))
 
-pub type_of_node-returns-in-Record : goal.type_of_node-returns-in-Record
-type_of_node-returns-in-Record t c = λ t' xs n.
+pub types::type_of_node-returns-in-Record : goal.types::type_of_node-returns-in-Record
+types::type_of_node-returns-in-Record t c = λ t' xs n.
     subst (λ (k : NodeKind). Answers quietly c.args.work.now c.record_specifier.new.work
     (type_of_kind k t' xs (readings xs) c.args.alone) TypeThere IsType c.record_specifier.result)
     (sym c.in-Record.is)
     (c.record_specifier.ensures t' xs n.place
     (subst (λ (ks : List ℕ). AreParts c.args.work.now ks xs) (sym c.as_slice-kids.ensures) n.parts))
 
-pub type_of_node-returns-in-Enum : goal.type_of_node-returns-in-Enum
-type_of_node-returns-in-Enum t c = λ t' xs n.
+pub types::type_of_node-returns-in-Enum : goal.types::type_of_node-returns-in-Enum
+types::type_of_node-returns-in-Enum t c = λ t' xs n.
     subst (λ (k : NodeKind). Answers quietly c.args.work.now c.enum_specifier.new.work
     (type_of_kind k t' xs (readings xs) c.args.alone) TypeThere IsType c.enum_specifier.result) (sym c.in-Enum.is)
     (c.enum_specifier.ensures xs (subst (λ (ks : List ℕ). AreParts c.args.work.now ks xs)
     (sym c.as_slice-kids.ensures) n.parts))
 
-pub type_of_node-returns-in-TypeName : goal.type_of_node-returns-in-TypeName
-type_of_node-returns-in-TypeName t c = λ t' xs n.
+pub types::type_of_node-returns-in-TypeName : goal.types::type_of_node-returns-in-TypeName
+types::type_of_node-returns-in-TypeName t c = λ t' xs n.
     subst (λ (k : NodeKind). Answers quietly c.args.work.now c.type_name.new.work
     (type_of_kind k t' xs (readings xs) c.args.alone) TypeThere IsType c.type_name.result) (sym c.in-TypeName.is)
     (c.type_name.ensures t' xs n.place (subst (λ (ks : List ℕ). AreParts c.args.work.now ks xs)
     (sym c.as_slice-kids.ensures) n.parts))
 
-pub type_of_node-returns-in_default : goal.type_of_node-returns-in_default
-type_of_node-returns-in_default t c =
+pub types::type_of_node-returns-in_default : goal.types::type_of_node-returns-in_default
+types::type_of_node-returns-in_default t c =
     λ t' xs n s h. no_type c.args.node.now.kind t' c.args.node.now.pos xs
     (readings xs) c.args.alone s n.place c.in_default.not-TypedefName c.in_default.not-Record c.in_default.not-Enum
     c.in_default.not-TypeName
 
-pub unstored-returns-then-has_storage : goal.unstored-returns-then-has_storage
-unstored-returns-then-has_storage t c =
+pub types::unstored-returns-then-has_storage : goal.types::unstored-returns-then-has_storage
+types::unstored-returns-then-has_storage t c =
     λ x p. unstored_refused c.args.work.now c.specified.new.work (reading x) c.args.register c.args.pos c.in_ok-s.s
     (sym c.has_storage.ensures ∙ c.if-has_storage.true) (c.in_ok-s.ensures x p)
 
-pub unstored-returns : goal.unstored-returns
-unstored-returns t c = λ x p. unstored_done c.args.work.now c.specified.new.work
+pub types::unstored-returns : goal.types::unstored-returns
+types::unstored-returns t c = λ x p. unstored_done c.args.work.now c.specified.new.work
     (reading x) c.args.register c.args.pos c.in_ok-s.s (sym c.has_storage.ensures ∙ c.if-has_storage.false)
     (c.in_ok-s.ensures x p)
 
-pub type_name-unstored-requires : goal.type_name-unstored-requires
-type_name-unstored-requires t c = (
+pub types::type_name-unstored-requires : goal.types::type_name-unstored-requires
+types::type_name-unstored-requires t c = (
   omega arith,
   (
     c.requires.whole,
@@ -1107,8 +1111,8 @@ type_name-unstored-requires t c = (
   ),
 )
 
-pub type_name-within-requires : goal.type_name-within-requires
-type_name-within-requires t c =
+pub types::type_name-within-requires : goal.types::type_name-within-requires
+types::type_name-within-requires t c =
     let u = c.args.work.now in
     let k = c.in-Some.part.first in
     let ks = c.in-Some.part.others.now in
@@ -1117,8 +1121,8 @@ type_name-within-requires t c =
     let a = c.in_ok-s-in-Some.ensures f.syntax f.is in
     (omega arith, (a.whole, within_kept u c.unstored.new.work ks a.grows.keeps (others_within u k ks h)))
 
-pub type_name-named_type-requires : goal.type_name-named_type-requires
-type_name-named_type-requires t c =
+pub types::type_name-named_type-requires : goal.types::type_name-named_type-requires
+types::type_name-named_type-requires t c =
     let u = c.args.work.now in
     let v = c.unstored.new.work in
     let w = c.within.new.work in
@@ -1135,13 +1139,13 @@ type_name-named_type-requires t c =
       parts = subst (λ (z : List Wrap). All (WrapIsThere w.nodes) z) (sym c.as_slice.ensures.value) b.there;
     }
 
-pub type_name-returns-in-None : goal.type_name-returns-in-None
-type_name-returns-in-None t c =
+pub types::type_name-returns-in-None : goal.types::type_name-returns-in-None
+types::type_name-returns-in-None t c =
     λ t' xs e p s h. no_type_name t' c.args.pos xs (readings xs) s e
     (no_readings c.args.work.now c.args.kids.now c.in-None.ensures xs p)
 
-pub type_name-returns-in_ok-d-in-Some : goal.type_name-returns-in_ok-d-in-Some
-type_name-returns-in_ok-d-in-Some t c = λ t' xs e p.
+pub types::type_name-returns-in_ok-d-in-Some : goal.types::type_name-returns-in_ok-d-in-Some
+types::type_name-returns-in_ok-d-in-Some t c = λ t' xs e p.
     let u = c.args.work.now in
     let v = c.unstored.new.work in
     let z = c.within.new.work in
@@ -1165,15 +1169,15 @@ type_name-returns-in_ok-d-in-Some t c = λ t' xs e p.
 
 -- ---- structs and unions
 
-pub record_specifier-tagged_record-requires : goal.record_specifier-tagged_record-requires
-record_specifier-tagged_record-requires t c =
+pub types::record_specifier-tagged_record-requires : goal.types::record_specifier-tagged_record-requires
+types::record_specifier-tagged_record-requires t c =
     let u = c.args.work.now in
     let h = subst (λ (o : Option TagParts). IsTagged u o c.requires.parts.syntax) c.in-Some.is
     (c.tag_of-found.ensures c.requires.parts.syntax c.requires.parts.are) in
     (omega arith, (c.requires.whole, behind_within u c.args.kids.now _ c.requires.parts h.1))
 
-pub record_specifier-returns-in-None : goal.record_specifier-returns-in-None
-record_specifier-returns-in-None t c = λ t' xs e p.
+pub types::record_specifier-returns-in-None : goal.types::record_specifier-returns-in-None
+types::record_specifier-returns-in-None t c = λ t' xs e p.
     let u = c.args.work.now in
     answers_at quietly u c.untagged.new.work (record_specifier c.args.kind c.args.alone t' xs (readings xs))
     (untagged c.args.kind (readings xs) c.args.pos) TypeThere IsType c.untagged.result
@@ -1181,8 +1185,8 @@ record_specifier-returns-in-None t c = λ t' xs e p.
     (subst (λ (o : Option TagParts). IsTagged u o xs) c.in-None.is (c.tag_of-found.ensures xs p)))
     (c.untagged.ensures xs p)
 
-pub record_specifier-returns-in-Some : goal.record_specifier-returns-in-Some
-record_specifier-returns-in-Some t c = λ t' xs e p.
+pub types::record_specifier-returns-in-Some : goal.types::record_specifier-returns-in-Some
+types::record_specifier-returns-in-Some t c = λ t' xs e p.
     let u = c.args.work.now in
     let h = subst (λ (o : Option TagParts). IsTagged u o xs) c.in-Some.is (c.tag_of-found.ensures xs p) in
     let n = token_of u c.in-Some.tag.name in
@@ -1192,8 +1196,8 @@ record_specifier-returns-in-Some t c = λ t' xs e p.
     (λ s k. record_tagged c.args.kind c.args.alone t' n c.args.pos xs s e h.0)
     (c.tagged_record.ensures (tail_of xs) h.1)
 
-pub untagged-filled-requires : goal.untagged-filled-requires
-untagged-filled-requires t c =
+pub types::untagged-filled-requires : goal.types::untagged-filled-requires
+types::untagged-filled-requires t c =
     let a = c.in_ok-tag.ensures in (
       omega arith,
       (
@@ -1203,8 +1207,8 @@ untagged-filled-requires t c =
       ),
     )
 
-pub untagged-returns : goal.untagged-returns
-untagged-returns t c = λ xs p.
+pub types::untagged-returns : goal.types::untagged-returns
+types::untagged-returns t c = λ xs p.
     let u = c.args.work.now in
     let v = c.new_tag.new.work in
     let a = c.in_ok-tag.ensures in
@@ -1212,8 +1216,8 @@ untagged-returns t c = λ xs p.
     (λ m. filled c.args.kind m (readings xs) c.args.pos c.args.pos) _ (IsTagOf c.args.kind c.in_ok-tag.tag) TypeThere
     IsType c.filled.result a (c.filled.ensures xs (parts_kept u v c.args.kids.now xs a.grows.keeps p))
 
-pub tagged_record-returns-then-is_empty : goal.tagged_record-returns-then-is_empty
-tagged_record-returns-then-is_empty t c = λ xs p.
+pub types::tagged_record-returns-then-is_empty : goal.types::tagged_record-returns-then-is_empty
+types::tagged_record-returns-then-is_empty t c = λ xs p.
     let u = c.args.work.now in
     let e = empty_list c.args.members.now (eqb-true (length c.args.members.now) 0
     (sym c.is_empty.ensures ∙ c.if-is_empty.true)) in
@@ -1221,8 +1225,8 @@ tagged_record-returns-then-is_empty t c = λ xs p.
     (tagged_record c.args.kind c.args.alone (token_of u c.args.name) rs c.args.pos) TypeThere IsType
     c.named_record.result) (sym (no_readings u c.args.members.now e xs p)) c.named_record.ensures
 
-pub tagged_record-filled-requires : goal.tagged_record-filled-requires
-tagged_record-filled-requires t c =
+pub types::tagged_record-filled-requires : goal.types::tagged_record-filled-requires
+types::tagged_record-filled-requires t c =
     let a = c.in_ok-tag.ensures in (
       omega arith,
       (
@@ -1232,8 +1236,8 @@ tagged_record-filled-requires t c =
       ),
     )
 
-pub tagged_record-returns : goal.tagged_record-returns
-tagged_record-returns t c = λ xs p.
+pub types::tagged_record-returns : goal.types::tagged_record-returns
+types::tagged_record-returns t c = λ xs p.
     let u = c.args.work.now in
     let v = c.named_tag.new.work in
     let n = token_of u c.args.name in
@@ -1248,8 +1252,8 @@ tagged_record-returns t c = λ xs p.
     (IsTagOf c.args.kind c.in_ok-tag.tag) TypeThere IsType c.filled.result a
     (c.filled.ensures xs (parts_kept u v c.args.members.now xs a.grows.keeps p)))
 
-pub filled-all_members-requires : goal.filled-all_members-requires
-filled-all_members-requires t c =
+pub types::filled-all_members-requires : goal.types::filled-all_members-requires
+types::filled-all_members-requires t c =
     let a = c.in_ok-begin_tag.ensures in (
       omega arith,
       (
@@ -1259,20 +1263,20 @@ filled-all_members-requires t c =
       ),
     )
 
-pub filled-complete_tag-requires : goal.filled-complete_tag-requires
-filled-complete_tag-requires t c =
+pub types::filled-complete_tag-requires : goal.types::filled-complete_tag-requires
+types::filled-complete_tag-requires t c =
     let a = c.in_ok-begin_tag.ensures in
     let h = within_kept c.args.work.now c.begin_tag.new.work c.args.kids.now a.grows.keeps c.requires.parts in
     let b = c.in_ok-members.ensures h.syntax h.are in
     record { whole = b.whole; members = b.there.there }
 
-pub filled-tagged-requires : goal.filled-tagged-requires
-filled-tagged-requires t c =
+pub types::filled-tagged-requires : goal.types::filled-tagged-requires
+types::filled-tagged-requires t c =
     let m = some_members c.all_members.new.work c.in_ok-members.members.all.items in
     (c.in_ok-complete_tag.ensures m.0 m.1).whole
 
-pub filled-returns-in_err-begin_tag : goal.filled-returns-in_err-begin_tag
-filled-returns-in_err-begin_tag t c =
+pub types::filled-returns-in_err-begin_tag : goal.types::filled-returns-in_err-begin_tag
+types::filled-returns-in_err-begin_tag t c =
     let q = err_from_is_err_and c.from_residual.result c.from_residual.ensures.1 in λ xs p.
     let u = c.args.work.now in
     let v = c.begin_tag.new.work in
@@ -1280,8 +1284,8 @@ filled-returns-in_err-begin_tag t c =
     AreAllMembers _ (failed quietly u v v (begin_tag c.args.tag c.args.at) (λ x. all_members (readings xs) [])
     NothingThere IsNothing AllMembersThere AreAllMembers _ c.in_err-begin_tag.ensures))
 
-pub filled-returns-in_err-members : goal.filled-returns-in_err-members
-filled-returns-in_err-members t c =
+pub types::filled-returns-in_err-members : goal.types::filled-returns-in_err-members
+types::filled-returns-in_err-members t c =
     let q = err_from_is_err_and c.from_residual-in_err-members.result c.from_residual-in_err-members.ensures.1 in
     λ xs p.
     let u = c.args.work.now in
@@ -1292,8 +1296,8 @@ filled-returns-in_err-members t c =
     AllMembersThere AreAllMembers _ a
     (c.in_err-members.ensures xs (parts_kept u v c.args.kids.now xs a.grows.keeps p)))
 
-pub filled-returns-in_err-complete_tag : goal.filled-returns-in_err-complete_tag
-filled-returns-in_err-complete_tag t c =
+pub types::filled-returns-in_err-complete_tag : goal.types::filled-returns-in_err-complete_tag
+types::filled-returns-in_err-complete_tag t c =
     let q = err_from_is_err_and c.from_residual-in_err-complete_tag.result
     c.from_residual-in_err-complete_tag.ensures.1 in
     λ xs p.
@@ -1308,8 +1312,8 @@ filled-returns-in_err-complete_tag t c =
     (also_then quietly quiet_law u v w (begin_tag c.args.tag c.args.at) (all_members (readings xs) []) _ _
     AllMembersThere AreAllMembers (Ok ms) a b) (λ s ys h i. c.in_err-complete_tag.ensures ys i))
 
-pub filled-returns : goal.filled-returns
-filled-returns t c = λ xs p.
+pub types::filled-returns : goal.types::filled-returns
+types::filled-returns t c = λ xs p.
     let u = c.args.work.now in
     let v = c.begin_tag.new.work in
     let w = c.all_members.new.work in
@@ -1324,8 +1328,8 @@ filled-returns t c = λ xs p.
     (c.in_ok-complete_tag.ensures some.0 some.1) (λ s ys h i. c.in_ok-complete_tag.ensures ys i)
     c.tagged.ensures.there c.tagged.ensures.is
 
-pub all_members-loop-part-init : goal.all_members-loop-part-init
-all_members-loop-part-init t c =
+pub types::all_members-loop-part-init : goal.types::all_members-loop-part-init
+types::all_members-loop-part-init t c =
     let u = c.args.work.now in
     let ms = c.new-members.result in
     let there = no_members_there u ms c.new-members.ensures.all c.new-members.ensures.names in
@@ -1338,8 +1342,8 @@ all_members-loop-part-init t c =
           (subst (λ (z : List Member). AreMembers u z []) (sym c.new-members.ensures.all) tt) xs q (λ s. refl);
     }
 
-pub all_members-member-requires : goal.all_members-member-requires
-all_members-member-requires t c =
+pub types::all_members-member-requires : goal.types::all_members-member-requires
+types::all_members-member-requires t c =
     let v = c.loop-part.work in (
       omega arith,
       (
@@ -1352,8 +1356,8 @@ all_members-member-requires t c =
       ),
     )
 
-pub all_members-loop-part-preserved : goal.all_members-loop-part-preserved
-all_members-loop-part-preserved t c =
+pub types::all_members-loop-part-preserved : goal.types::all_members-loop-part-preserved
+types::all_members-loop-part-preserved t c =
     let v = c.loop-part.work in
     let w = c.member.new.work in
     let k = c.in-Some.part.first in
@@ -1376,8 +1380,8 @@ all_members-loop-part-preserved t c =
           (c.loop-part.invariant.reads xs q)) (λ y b part i. c.in_ok-members.ensures y b part i);
     }
 
-pub all_members-returns-in_err-members : goal.all_members-returns-in_err-members
-all_members-returns-in_err-members t c =
+pub types::all_members-returns-in_err-members : goal.types::all_members-returns-in_err-members
+types::all_members-returns-in_err-members t c =
     let e = err_from_is_err_and c.from_residual.result c.from_residual.ensures.1 in λ xs q.
     let v = c.loop-part.work in
     let w = c.member.new.work in
@@ -1389,8 +1393,8 @@ all_members-returns-in_err-members t c =
     (AreMembers v ms.all.items)) c.in-Some.ensures (c.loop-part.invariant.reads xs q))
     (λ y b part i. c.in_err-members.ensures y b part i))
 
-pub all_members-returns : goal.all_members-returns
-all_members-returns t c = λ xs q.
+pub types::all_members-returns : goal.types::all_members-returns
+types::all_members-returns t c = λ xs q.
     let v = c.loop-part.work in
     let ms = c.loop-part.members in
     fold_ends c.args.work.now v (all_members (readings xs) []) members_on (AllMembersThere v ms)
@@ -1399,8 +1403,8 @@ all_members-returns t c = λ xs q.
     (AreMembers v ms.all.items)) c.in_default.ensures (c.loop-part.invariant.reads xs q))
     c.loop-part.invariant.there (λ s b i. i)
 
-pub member-unstored-requires : goal.member-unstored-requires
-member-unstored-requires t c =
+pub types::member-unstored-requires : goal.types::member-unstored-requires
+types::member-unstored-requires t c =
     let some = deep c.args.work.now c.args.k c.requires.part in
     let u = c.args.work.now in
     let h = subst (λ (z : List ℕ). PartsWithin u (c.args.depth - 1) z) (sym c.as_slice-kids.ensures)
@@ -1413,8 +1417,8 @@ member-unstored-requires t c =
       ),
     )
 
-pub member-member_declarators-requires : goal.member-member_declarators-requires
-member-member_declarators-requires t c =
+pub types::member-member_declarators-requires : goal.types::member-member_declarators-requires
+types::member-member_declarators-requires t c =
     let some = deep c.args.work.now c.args.k c.requires.part in
     let u = c.args.work.now in
     let v = c.unstored.new.work in
@@ -1438,14 +1442,14 @@ member-member_declarators-requires t c =
       ),
     )
 
-pub member-overflow_sub-depth : goal.member-overflow_sub-depth
-member-overflow_sub-depth t c = let some = deep c.args.work.now c.args.k c.requires.part in omega arith
+pub types::member-overflow_sub-depth : goal.types::member-overflow_sub-depth
+types::member-overflow_sub-depth t c = let some = deep c.args.work.now c.args.k c.requires.part in omega arith
 
-pub member-overflow_sub-depth-in-Some : goal.member-overflow_sub-depth-in-Some
-member-overflow_sub-depth-in-Some t c = let some = deep c.args.work.now c.args.k c.requires.part in omega arith
+pub types::member-overflow_sub-depth-in-Some : goal.types::member-overflow_sub-depth-in-Some
+types::member-overflow_sub-depth-in-Some t c = let some = deep c.args.work.now c.args.k c.requires.part in omega arith
 
-pub member-returns-in-None : goal.member-returns-in-None
-member-returns-in-None t c = λ x ms p a.
+pub types::member-returns-in-None : goal.types::member-returns-in-None
+types::member-returns-in-None t c = λ x ms p a.
     let u = c.args.work.now in
     let n = c.node_at-node.result.now in
     let o = opened u c.args.k x n p c.node_at-node.ensures in
@@ -1454,8 +1458,8 @@ member-returns-in-None t c = λ x ms p a.
     (λ s h. no_member o.token n.pos o.parts (readings o.parts) ms s o.node.place
     (no_readings u n.kids (sym c.as_slice-kids.ensures ∙ c.in-None.ensures) o.parts o.node.parts))
 
-pub member-returns : goal.member-returns
-member-returns t c = λ x ms p a.
+pub types::member-returns : goal.types::member-returns
+types::member-returns t c = λ x ms p a.
     let u = c.args.work.now in
     let v = c.unstored.new.work in
     let w = c.member_declarators.new.work in
@@ -1480,8 +1484,8 @@ member-returns t c = λ x ms p a.
     (λ y i. c.member_declarators.ensures y m.tail ms i (parts_kept u v c.in-Some.part.others.now m.tail keeps m.others)
     (members_kept u v c.args.members.all.items ms keeps c.requires.members.there a))))
 
-pub member_declarators-loop-part-init : goal.member_declarators-loop-part-init
-member_declarators-loop-part-init t c =
+pub types::member_declarators-loop-part-init : goal.types::member_declarators-loop-part-init
+types::member_declarators-loop-part-init t c =
     let u = c.args.work.now in
     let ms = c.args.members in
     record {
@@ -1493,8 +1497,8 @@ member_declarators-loop-part-init t c =
           (AllMembersThere u ms) (AreMembers u ms.all.items) zs c.requires.whole c.requires.members a xs q (λ s. refl);
     }
 
-pub member_declarators-member_declarator-requires : goal.member_declarators-member_declarator-requires
-member_declarators-member_declarator-requires t c =
+pub types::member_declarators-member_declarator-requires : goal.types::member_declarators-member_declarator-requires
+types::member_declarators-member_declarator-requires t c =
     let v = c.loop-part.work in
     let i = c.loop-part.invariant in (
       omega arith,
@@ -1511,8 +1515,8 @@ member_declarators-member_declarator-requires t c =
       ),
     )
 
-pub member_declarators-loop-part-preserved : goal.member_declarators-loop-part-preserved
-member_declarators-loop-part-preserved t c =
+pub types::member_declarators-loop-part-preserved : goal.types::member_declarators-loop-part-preserved
+types::member_declarators-loop-part-preserved t c =
     let u = c.args.work.now in
     let v = c.loop-part.work in
     let w = c.member_declarator.new.work in
@@ -1540,8 +1544,8 @@ member_declarators-loop-part-preserved t c =
           (specified_kept u v c.args.s y inv.keeps c.requires.specified i) part l);
     }
 
-pub member_declarators-returns-in_err-all : goal.member_declarators-returns-in_err-all
-member_declarators-returns-in_err-all t c =
+pub types::member_declarators-returns-in_err-all : goal.types::member_declarators-returns-in_err-all
+types::member_declarators-returns-in_err-all t c =
     let e = err_from_is_err_and c.from_residual.result c.from_residual.ensures.1 in λ y xs zs i q j.
     let u = c.args.work.now in
     let v = c.loop-part.work in
@@ -1555,8 +1559,8 @@ member_declarators-returns-in_err-all t c =
     (AllMembersThere v ms) (AreMembers v ms.all.items)) c.in-Some.ensures (inv.reads y xs zs i q j))
     (λ o b part l. c.in_err-all.ensures y o b (specified_kept u v c.args.s y inv.keeps c.requires.specified i) part l))
 
-pub member_declarators-returns : goal.member_declarators-returns
-member_declarators-returns t c = λ y xs zs i q j.
+pub types::member_declarators-returns : goal.types::member_declarators-returns
+types::member_declarators-returns t c = λ y xs zs i q j.
     let u = c.args.work.now in
     let v = c.loop-part.work in
     let ms = c.loop-part.all in
@@ -1567,8 +1571,8 @@ member_declarators-returns t c = λ y xs zs i q j.
     (AllMembersThere v ms) (AreMembers v ms.all.items)) c.in_default.ensures (inv.reads y xs zs i q j))
     inv.there (λ s b l. l)
 
-pub member_declarator-add_member-requires : goal.member_declarator-add_member-requires
-member_declarator-add_member-requires t c =
+pub types::member_declarator-add_member-requires : goal.types::member_declarator-add_member-requires
+types::member_declarator-add_member-requires t c =
     let u = c.args.work.now in
     let v = c.derived.new.work in
     let a = c.in_ok-d.ensures c.requires.part.syntax c.requires.part.is in
@@ -1579,8 +1583,8 @@ member_declarator-add_member-requires t c =
       members = all_members_kept u v c.args.members a.grows.keeps c.requires.members;
     }
 
-pub member_declarator-returns : goal.member_declarator-returns
-member_declarator-returns t c = λ x y ms i p a.
+pub types::member_declarator-returns : goal.types::member_declarator-returns
+types::member_declarator-returns t c = λ x y ms i p a.
     let u = c.args.work.now in
     let v = c.derived.new.work in
     let w = c.add_member.new.work in
@@ -1592,32 +1596,32 @@ member_declarator-returns t c = λ x y ms i p a.
 
 -- ---- enumerations
 
-pub enum_specifier-tagged_enumeration-requires : goal.enum_specifier-tagged_enumeration-requires
-enum_specifier-tagged_enumeration-requires t c =
+pub types::enum_specifier-tagged_enumeration-requires : goal.types::enum_specifier-tagged_enumeration-requires
+types::enum_specifier-tagged_enumeration-requires t c =
     let u = c.args.work.now in
     let p = c.requires.parts in
     let h = subst (λ (o : Option TagParts). IsTagged u o p.parts.syntax) c.in-Some.is
     (c.tag_of-found.ensures p.parts.syntax p.parts.are) in
     (omega arith, (c.requires.whole, tagged_kind u c.args.kids.now _ _ p h.0 h.1))
 
-pub enum_specifier-listed-requires : goal.enum_specifier-listed-requires
-enum_specifier-listed-requires t c =
+pub types::enum_specifier-listed-requires : goal.types::enum_specifier-listed-requires
+types::enum_specifier-listed-requires t c =
     let u = c.args.work.now in
     let p = c.requires.parts in
     let h = subst (λ (o : Option TagParts). IsTagged u o p.parts.syntax) c.in-None.is
     (c.tag_of-found.ensures p.parts.syntax p.parts.are) in
     (omega arith, (c.requires.whole, untagged_kind u c.args.kids.now p h))
 
-pub enum_specifier-returns-in-None : goal.enum_specifier-returns-in-None
-enum_specifier-returns-in-None t c = λ xs p.
+pub types::enum_specifier-returns-in-None : goal.types::enum_specifier-returns-in-None
+types::enum_specifier-returns-in-None t c = λ xs p.
     let u = c.args.work.now in
     answers_at quietly u c.listed.new.work (enum_specifier xs (readings xs))
     (listed (readings xs)) TypeThere IsType c.listed.result
     (λ s k. enum_untagged xs (readings xs) s (subst (λ (o : Option TagParts). IsTagged u o xs) c.in-None.is
     (c.tag_of-found.ensures xs p))) (c.listed.ensures xs p)
 
-pub enum_specifier-returns-in-Some : goal.enum_specifier-returns-in-Some
-enum_specifier-returns-in-Some t c = λ xs p.
+pub types::enum_specifier-returns-in-Some : goal.types::enum_specifier-returns-in-Some
+types::enum_specifier-returns-in-Some t c = λ xs p.
     let u = c.args.work.now in
     let h = subst (λ (o : Option TagParts). IsTagged u o xs) c.in-Some.is (c.tag_of-found.ensures xs p) in
     let n = token_of u c.in-Some.tag.name in
@@ -1625,8 +1629,8 @@ enum_specifier-returns-in-Some t c = λ xs p.
     (tagged_enumeration n (readings (tail_of xs))) TypeThere IsType c.tagged_enumeration.result
     (λ s k. enum_tagged n xs s h.0) (c.tagged_enumeration.ensures (tail_of xs) h.1)
 
-pub tagged_enumeration-returns-then-is_empty : goal.tagged_enumeration-returns-then-is_empty
-tagged_enumeration-returns-then-is_empty t c = λ xs p.
+pub types::tagged_enumeration-returns-then-is_empty : goal.types::tagged_enumeration-returns-then-is_empty
+types::tagged_enumeration-returns-then-is_empty t c = λ xs p.
     let u = c.args.work.now in
     let e = empty_list c.args.list.now (eqb-true (length c.args.list.now) 0
     (sym c.is_empty.ensures ∙ c.if-is_empty.true)) in
@@ -1634,8 +1638,8 @@ tagged_enumeration-returns-then-is_empty t c = λ xs p.
     (tagged_enumeration (token_of u c.args.name) rs) TypeThere IsType c.named_enum.result)
     (sym (no_readings u c.args.list.now e xs p)) c.named_enum.ensures
 
-pub tagged_enumeration-listed-requires : goal.tagged_enumeration-listed-requires
-tagged_enumeration-listed-requires t c =
+pub types::tagged_enumeration-listed-requires : goal.types::tagged_enumeration-listed-requires
+types::tagged_enumeration-listed-requires t c =
     let a = c.in_ok-new_enumeration.ensures in (
       omega arith,
       (
@@ -1645,8 +1649,8 @@ tagged_enumeration-listed-requires t c =
       ),
     )
 
-pub tagged_enumeration-returns : goal.tagged_enumeration-returns
-tagged_enumeration-returns t c = λ xs p.
+pub types::tagged_enumeration-returns : goal.types::tagged_enumeration-returns
+types::tagged_enumeration-returns t c = λ xs p.
     let u = c.args.work.now in
     let v = c.new_enumeration.new.work in
     let n = token_of u c.args.name in
@@ -1659,18 +1663,18 @@ tagged_enumeration-returns t c = λ xs p.
     (listed (readings xs)) _ _ TypeThere IsType c.listed.result a
     (c.listed.ensures xs (parts_kept u v c.args.list.now xs a.grows.keeps p)))
 
-pub listed-int_type-requires : goal.listed-int_type-requires
-listed-int_type-requires t c =
+pub types::listed-int_type-requires : goal.types::listed-int_type-requires
+types::listed-int_type-requires t c =
     (c.in_ok-enumerators.ensures c.requires.parts.parts.syntax c.requires.parts.parts.are).whole
 
-pub listed-returns : goal.listed-returns
-listed-returns t c = λ xs p.
+pub types::listed-returns : goal.types::listed-returns
+types::listed-returns t c = λ xs p.
     also_then quietly quiet_law c.args.work.now c.enumerators.new.work c.int_type.new.work
     (enumerators (readings xs) (pos 0)) (give int) _ _ TypeThere IsType c.int_type.result
     (c.in_ok-enumerators.ensures xs p) c.int_type.ensures
 
-pub enumerators-loop-part-init : goal.enumerators-loop-part-init
-enumerators-loop-part-init t c =
+pub types::enumerators-loop-part-init : goal.types::enumerators-loop-part-init
+types::enumerators-loop-part-init t c =
     let u = c.args.work.now in
     record {
       whole = c.requires.whole;
@@ -1679,8 +1683,8 @@ enumerators-loop-part-init t c =
           (NumberThere u (pos 0)) (λ z. z ≡ pos 0) (pos 0) c.requires.whole tt refl xs q (λ s. refl);
     }
 
-pub enumerators-enumerator-requires : goal.enumerators-enumerator-requires
-enumerators-enumerator-requires t c =
+pub types::enumerators-enumerator-requires : goal.types::enumerators-enumerator-requires
+types::enumerators-enumerator-requires t c =
     let v = c.loop-part.work in (
       omega arith,
       (
@@ -1691,8 +1695,8 @@ enumerators-enumerator-requires t c =
       ),
     )
 
-pub enumerators-loop-part-preserved : goal.enumerators-loop-part-preserved
-enumerators-loop-part-preserved t c =
+pub types::enumerators-loop-part-preserved : goal.types::enumerators-loop-part-preserved
+types::enumerators-loop-part-preserved t c =
     let v = c.loop-part.work in
     let w = c.enumerator.new.work in
     let k = c.in-Some.part.first in
@@ -1713,8 +1717,8 @@ enumerators-loop-part-preserved t c =
           (Unit {0}) (λ y. y ≡ n)) c.in-Some.ensures (c.loop-part.invariant.reads xs q)) c.in_ok-next.ensures);
     }
 
-pub enumerators-returns-in_err-next : goal.enumerators-returns-in_err-next
-enumerators-returns-in_err-next t c =
+pub types::enumerators-returns-in_err-next : goal.types::enumerators-returns-in_err-next
+types::enumerators-returns-in_err-next t c =
     let e = err_from_is_err_and c.from_residual.result c.from_residual.ensures.1 in λ xs q.
     let v = c.loop-part.work in
     let w = c.enumerator.new.work in
@@ -1724,8 +1728,8 @@ enumerators-returns-in_err-next t c =
     (subst (λ (z : List ℕ). SoFar c.args.work.now v z (enumerators (readings xs) (pos 0)) enumerators_on
     (Unit {0}) (λ y. y ≡ n)) c.in-Some.ensures (c.loop-part.invariant.reads xs q)) c.in_err-next.ensures)
 
-pub enumerators-returns : goal.enumerators-returns
-enumerators-returns t c = λ xs q.
+pub types::enumerators-returns : goal.types::enumerators-returns
+types::enumerators-returns t c = λ xs q.
     let v = c.loop-part.work in
     let n = to_z w128 c.loop-part.next-bits in
     fold_ends c.args.work.now v (enumerators (readings xs) (pos 0)) enumerators_on (Unit {0}) (λ z. z ≡ n)
@@ -1733,8 +1737,8 @@ enumerators-returns t c = λ xs q.
     (subst (λ (z : List ℕ). SoFar c.args.work.now v z (enumerators (readings xs) (pos 0)) enumerators_on (Unit {0})
     (λ y. y ≡ n)) c.in_default.ensures (c.loop-part.invariant.reads xs q)) tt (λ s b i. tt)
 
-pub enumerator-valued-requires : goal.enumerator-valued-requires
-enumerator-valued-requires t c =
+pub types::enumerator-valued-requires : goal.types::enumerator-valued-requires
+types::enumerator-valued-requires t c =
     let some = deep c.args.work.now c.args.k c.requires.part.part in
     let u = c.args.work.now in (
       omega arith,
@@ -1745,8 +1749,8 @@ enumerator-valued-requires t c =
       ),
     )
 
-pub enumerator-returns : goal.enumerator-returns
-enumerator-returns t c = λ x p.
+pub types::enumerator-returns : goal.types::enumerator-returns
+types::enumerator-returns t c = λ x p.
     let u = c.args.work.now in
     let w = c.valued.new.work in
     let n = c.node_at-node.result.now in
@@ -1760,8 +1764,8 @@ enumerator-returns t c = λ x p.
     (in_any IsNumber) c.valued.result) (to_z-of_z w128 c.args.next c.ranges.next)
     (c.valued.ensures o.parts (subst (λ (ks : List ℕ). AreParts u ks o.parts) (sym c.as_slice.ensures) o.node.parts))))
 
-pub valued-constant-requires : goal.valued-constant-requires
-valued-constant-requires t c = (
+pub types::valued-constant-requires : goal.types::valued-constant-requires
+types::valued-constant-requires t c = (
   omega arith,
   (
     c.requires.whole,
@@ -1770,15 +1774,15 @@ valued-constant-requires t c = (
   ),
 )
 
-pub valued-enumerate-requires-in-Some : goal.valued-enumerate-requires-in-Some
-valued-enumerate-requires-in-Some t c =
+pub types::valued-enumerate-requires-in-Some : goal.types::valued-enumerate-requires-in-Some
+types::valued-enumerate-requires-in-Some t c =
     let u = c.args.work.now in
     let f = first_within u c.in-Some.part.first c.in-Some.part.others.now
     (subst (λ (z : List ℕ). PartsWithin u c.args.depth z) c.in-Some.ensures c.requires.parts) in
     (c.in_ok-c-in-Some.ensures f.syntax f.is).whole
 
-pub valued-returns-in-None : goal.valued-returns-in-None
-valued-returns-in-None t c = λ xs p.
+pub types::valued-returns-in-None : goal.types::valued-returns-in-None
+types::valued-returns-in-None t c = λ xs p.
     let u = c.args.work.now in
     let n = token_of u c.args.name in
     answers_at quietly u c.enumerate.new.work (enumerator n (readings xs) c.args.next)
@@ -1787,8 +1791,8 @@ valued-returns-in-None t c = λ xs p.
     (subst (λ (z : ℤ). Answers quietly u c.enumerate.new.work (enumerate n z n.pos) NumberThere
     (in_any IsNumber) c.enumerate.result) (to_z-of_z w128 c.args.next c.ranges.next) c.enumerate.ensures)
 
-pub valued-returns-in_ok-c-in-Some : goal.valued-returns-in_ok-c-in-Some
-valued-returns-in_ok-c-in-Some t c = λ xs p.
+pub types::valued-returns-in_ok-c-in-Some : goal.types::valued-returns-in_ok-c-in-Some
+types::valued-returns-in_ok-c-in-Some t c = λ xs p.
     let u = c.args.work.now in
     let v = c.constant.new.work in
     let w = c.enumerate-in-Some.new.work in
@@ -1810,8 +1814,8 @@ valued-returns-in_ok-c-in-Some t c = λ xs p.
 
 -- ---- declarators
 
-pub derived-declarator-requires : goal.derived-declarator-requires
-derived-declarator-requires t c =
+pub declarators::derived-declarator-requires : goal.declarators::derived-declarator-requires
+declarators::derived-declarator-requires t c =
     let some = deep c.args.work.now c.args.k c.requires.part in (
       omega arith,
       (
@@ -1820,14 +1824,14 @@ derived-declarator-requires t c =
       ),
     )
 
-pub derived-returns : goal.derived-returns
-derived-returns t c = λ x p.
+pub declarators::derived-returns : goal.declarators::derived-returns
+declarators::derived-returns t c = λ x p.
     let o = opened c.args.work.now c.args.k x c.node_at-node.result.now p c.node_at-node.ensures in
     at_node c.args.work.now _ c.node_at-node.result.now x (λ r. r.derived) DerivedThere ShowsDerived _ o
     (c.declarator.ensures o.token o.parts o.node)
 
-pub declarator-enclosed-requires : goal.declarator-enclosed-requires
-declarator-enclosed-requires t c = (
+pub declarators::declarator-enclosed-requires : goal.declarators::declarator-enclosed-requires
+declarators::declarator-enclosed-requires t c = (
   omega arith,
   (
     c.requires.whole,
@@ -1835,8 +1839,8 @@ declarator-enclosed-requires t c = (
   ),
 )
 
-pub declarator-pointer-requires : goal.declarator-pointer-requires
-declarator-pointer-requires t c = (
+pub declarators::declarator-pointer-requires : goal.declarators::declarator-pointer-requires
+declarators::declarator-pointer-requires t c = (
   omega arith,
   (
     c.requires.whole,
@@ -1844,8 +1848,8 @@ declarator-pointer-requires t c = (
   ),
 )
 
-pub declarator-array-requires : goal.declarator-array-requires
-declarator-array-requires t c = (
+pub declarators::declarator-array-requires : goal.declarators::declarator-array-requires
+declarators::declarator-array-requires t c = (
   omega arith,
   (
     c.requires.whole,
@@ -1853,8 +1857,8 @@ declarator-array-requires t c = (
   ),
 )
 
-pub declarator-function-requires : goal.declarator-function-requires
-declarator-function-requires t c = (
+pub declarators::declarator-function-requires : goal.declarators::declarator-function-requires
+declarators::declarator-function-requires t c = (
   omega arith,
   (
     c.requires.whole,
@@ -1863,8 +1867,8 @@ declarator-function-requires t c = (
   ),
 )
 
-pub declarator-open_array-requires : goal.declarator-open_array-requires
-declarator-open_array-requires t c = (
+pub declarators::declarator-open_array-requires : goal.declarators::declarator-open_array-requires
+declarators::declarator-open_array-requires t c = (
   omega arith,
   (
     c.requires.whole,
@@ -1872,8 +1876,8 @@ declarator-open_array-requires t c = (
   ),
 )
 
-pub declarator-returns-in-DeclaredName : goal.declarator-returns-in-DeclaredName
-declarator-returns-in-DeclaredName t c = λ t' xs n.
+pub declarators::declarator-returns-in-DeclaredName : goal.declarators::declarator-returns-in-DeclaredName
+declarators::declarator-returns-in-DeclaredName t c = λ t' xs n.
     let u = c.args.work.now in
     let m = name_of c.args.node.now in
     subst (λ (k : NodeKind). Answers quietly u u (declarator_of k t' xs (readings xs)) DerivedThere ShowsDerived
@@ -1886,50 +1890,51 @@ declarator-returns-in-DeclaredName t c = λ t' xs n.
     (declared_is u c.args.node.now t' xs n c.in-DeclaredName.is)) c.requires.whole
     (c.new.ensures.name ∙ ap (λ (z : Name). Some z) c.name_of.ensures) c.new.ensures.wraps))
 
-pub declarator-returns-in-ParenthesizedDeclarator : goal.declarator-returns-in-ParenthesizedDeclarator
-declarator-returns-in-ParenthesizedDeclarator t c = λ t' xs n.
+pub declarators::declarator-returns-in-ParenthesizedDeclarator :
+    goal.declarators::declarator-returns-in-ParenthesizedDeclarator
+declarators::declarator-returns-in-ParenthesizedDeclarator t c = λ t' xs n.
     subst (λ (k : NodeKind). Answers quietly c.args.work.now c.enclosed.new.work
     (declarator_of k t' xs (readings xs)) DerivedThere ShowsDerived c.enclosed.result)
     (sym c.in-ParenthesizedDeclarator.is)
     (c.enclosed.ensures t' xs n.place (subst (λ (ks : List ℕ). AreParts c.args.work.now ks xs)
     (sym c.as_slice-kids.ensures) n.parts))
 
-pub declarator-returns-in-Pointer : goal.declarator-returns-in-Pointer
-declarator-returns-in-Pointer t c = λ t' xs n.
+pub declarators::declarator-returns-in-Pointer : goal.declarators::declarator-returns-in-Pointer
+declarators::declarator-returns-in-Pointer t c = λ t' xs n.
     subst (λ (k : NodeKind). Answers quietly c.args.work.now c.pointer.new.work
     (declarator_of k t' xs (readings xs)) DerivedThere ShowsDerived c.pointer.result) (sym c.in-Pointer.is)
     (c.pointer.ensures t' xs n.place (subst (λ (ks : List ℕ). AreParts c.args.work.now ks xs)
     (sym c.as_slice-kids.ensures) n.parts))
 
-pub declarator-returns-in-Array : goal.declarator-returns-in-Array
-declarator-returns-in-Array t c = λ t' xs n.
+pub declarators::declarator-returns-in-Array : goal.declarators::declarator-returns-in-Array
+declarators::declarator-returns-in-Array t c = λ t' xs n.
     subst (λ (k : NodeKind). Answers quietly c.args.work.now c.array.new.work
     (declarator_of k t' xs (readings xs)) DerivedThere ShowsDerived c.array.result) (sym c.in-Array.is)
     (c.array.ensures t' xs n.place (subst (λ (ks : List ℕ). AreParts c.args.work.now ks xs)
     (sym c.as_slice-kids.ensures) n.parts))
 
-pub declarator-returns-in-Function : goal.declarator-returns-in-Function
-declarator-returns-in-Function t c = λ t' xs n.
+pub declarators::declarator-returns-in-Function : goal.declarators::declarator-returns-in-Function
+declarators::declarator-returns-in-Function t c = λ t' xs n.
     subst (λ (k : NodeKind). Answers quietly c.args.work.now c.function.new.work
     (declarator_of k t' xs (readings xs)) DerivedThere ShowsDerived c.function.result) (sym c.in-Function.is)
     (c.function.ensures t' xs n.place (subst (λ (ks : List ℕ). AreParts c.args.work.now ks xs)
     (sym c.as_slice-kids.ensures) n.parts))
 
-pub declarator-returns-in-OpenArray : goal.declarator-returns-in-OpenArray
-declarator-returns-in-OpenArray t c = λ t' xs n.
+pub declarators::declarator-returns-in-OpenArray : goal.declarators::declarator-returns-in-OpenArray
+declarators::declarator-returns-in-OpenArray t c = λ t' xs n.
     subst (λ (k : NodeKind). Answers quietly c.args.work.now c.open_array.new.work
     (declarator_of k t' xs (readings xs)) DerivedThere ShowsDerived c.open_array.result) (sym c.in-OpenArray.is)
     (c.open_array.ensures t' xs (subst (λ (ks : List ℕ). AreParts c.args.work.now ks xs)
     (sym c.as_slice-kids.ensures) n.parts))
 
-pub declarator-returns-in_default : goal.declarator-returns-in_default
-declarator-returns-in_default t c =
+pub declarators::declarator-returns-in_default : goal.declarators::declarator-returns-in_default
+declarators::declarator-returns-in_default t c =
     λ t' xs n s h. no_declarator c.args.node.now.kind t' c.args.node.now.pos n.place xs
     (readings xs) s c.in_default.not-DeclaredName c.in_default.not-ParenthesizedDeclarator c.in_default.not-Pointer
     c.in_default.not-OpenArray c.in_default.not-Array c.in_default.not-Function
 
-pub enclosed-derived-requires : goal.enclosed-derived-requires
-enclosed-derived-requires t c = (
+pub declarators::enclosed-derived-requires : goal.declarators::enclosed-derived-requires
+declarators::enclosed-derived-requires t c = (
   omega arith,
   (
     c.requires.whole,
@@ -1938,13 +1943,13 @@ enclosed-derived-requires t c = (
   ),
 )
 
-pub enclosed-returns-in-None : goal.enclosed-returns-in-None
-enclosed-returns-in-None t c =
+pub declarators::enclosed-returns-in-None : goal.declarators::enclosed-returns-in-None
+declarators::enclosed-returns-in-None t c =
     λ t' xs e p s h. not_enclosed t' c.args.pos xs (readings xs) s e
     (no_readings c.args.work.now c.args.kids.now c.in-None.ensures xs p)
 
-pub enclosed-returns-in-Some : goal.enclosed-returns-in-Some
-enclosed-returns-in-Some t c = λ t' xs e p.
+pub declarators::enclosed-returns-in-Some : goal.declarators::enclosed-returns-in-Some
+declarators::enclosed-returns-in-Some t c = λ t' xs e p.
     let u = c.args.work.now in
     let m = behind u c.args.kids.now c.in-Some.part.first c.in-Some.part.others.now c.in-Some.ensures xs p in
     answers_at quietly u c.derived.new.work (declarator_of Kinds.ParenthesizedDeclarator t' xs (readings xs))
@@ -1952,8 +1957,8 @@ enclosed-returns-in-Some t c = λ t' xs e p.
     (λ s k. enclosed_is t' xs (reading m.head) (readings m.tail) (readings xs) s m.read)
     (c.derived.ensures m.head m.first)
 
-pub within-derived-requires : goal.within-derived-requires
-within-derived-requires t c = (
+pub declarators::within-derived-requires : goal.declarators::within-derived-requires
+declarators::within-derived-requires t c = (
   omega arith,
   (
     c.requires.whole,
@@ -1962,22 +1967,22 @@ within-derived-requires t c = (
   ),
 )
 
-pub within-returns-in-None : goal.within-returns-in-None
-within-returns-in-None t c = λ xs p.
+pub declarators::within-returns-in-None : goal.declarators::within-returns-in-None
+declarators::within-returns-in-None t c = λ xs p.
     let u = c.args.work.now in
     subst (λ (rs : List Reading). Answers quietly u u (within rs) DerivedThere ShowsDerived (Ok c.new.result))
     (sym (no_readings u c.args.kids.now c.in-None.ensures xs p))
     (nothing_done u c.new.result None no_derived refl c.requires.whole c.new.ensures.name c.new.ensures.wraps)
 
-pub within-returns-in-Some : goal.within-returns-in-Some
-within-returns-in-Some t c = λ xs p.
+pub declarators::within-returns-in-Some : goal.declarators::within-returns-in-Some
+declarators::within-returns-in-Some t c = λ xs p.
     let u = c.args.work.now in
     let m = behind u c.args.kids.now c.in-Some.part.first c.in-Some.part.others.now c.in-Some.ensures xs p in
     subst (λ (rs : List Reading). Answers quietly u c.derived.new.work
     (within rs) DerivedThere ShowsDerived c.derived.result) (sym m.read) (c.derived.ensures m.head m.first)
 
-pub pointer-within-requires : goal.pointer-within-requires
-pointer-within-requires t c = (
+pub declarators::pointer-within-requires : goal.declarators::pointer-within-requires
+declarators::pointer-within-requires t c = (
   omega arith,
   (
     c.requires.whole,
@@ -1986,13 +1991,13 @@ pointer-within-requires t c = (
   ),
 )
 
-pub pointer-returns-in-None : goal.pointer-returns-in-None
-pointer-returns-in-None t c =
+pub declarators::pointer-returns-in-None : goal.declarators::pointer-returns-in-None
+declarators::pointer-returns-in-None t c =
     λ t' xs e p s h. no_pointer t' c.args.pos xs (readings xs) s e
     (no_readings c.args.work.now c.args.kids.now c.in-None.ensures xs p)
 
-pub pointer-returns-in_ok-all-in-Some : goal.pointer-returns-in_ok-all-in-Some
-pointer-returns-in_ok-all-in-Some t c = λ t' xs e p.
+pub declarators::pointer-returns-in_ok-all-in-Some : goal.declarators::pointer-returns-in_ok-all-in-Some
+declarators::pointer-returns-in_ok-all-in-Some t c = λ t' xs e p.
     let u = c.args.work.now in
     let v = c.within.new.work in
     let m = behind u c.args.kids.now c.in-Some.part.first c.in-Some.part.others.now c.in-Some.ensures xs p in
@@ -2007,8 +2012,8 @@ pointer-returns-in_ok-all-in-Some t c = λ t' xs e p.
     (meant.Point (parts_const xs)) c.in_ok-all-in-Some.ensures.name c.in_ok-all-in-Some.ensures.wraps tt
     (λ s. sym (c.parts_const-qualified.ensures xs p.stand)) (c.in_ok-d-in-Some.ensures m.tail m.others))
 
-pub open_array-returns : goal.open_array-returns
-open_array-returns t c = λ t' xs p.
+pub declarators::open_array-returns : goal.declarators::open_array-returns
+declarators::open_array-returns t c = λ t' xs p.
     let u = c.args.work.now in
     let v = c.within.new.work in
     answers_at quietly u v (declarator_of Kinds.OpenArray t' xs (readings xs))
@@ -2017,32 +2022,32 @@ open_array-returns t c = λ t' xs p.
     (part_done u v (within (readings xs)) c.in_ok-d.d c.in_ok-all.all (Row 0)
     (meant.Row 0) c.in_ok-all.ensures.name c.in_ok-all.ensures.wraps tt (λ s. refl) (c.in_ok-d.ensures xs p))
 
-pub array-row-requires : goal.array-row-requires
-array-row-requires t c =
+pub declarators::array-row-requires : goal.declarators::array-row-requires
+declarators::array-row-requires t c =
     let h = ends_within c.args.work.now c.args.kids.now c.in-Some.x.before.now c.in-Some.x.last
     c.in-Some.ensures c.requires.parts in
     (omega arith, (c.requires.whole, (h.0, h.1)))
 
-pub array-returns-in-None : goal.array-returns-in-None
-array-returns-in-None t c =
+pub declarators::array-returns-in-None : goal.declarators::array-returns-in-None
+declarators::array-returns-in-None t c =
     λ t' xs e p s h. no_array t' c.args.pos xs (readings xs) s e
     (no_readings c.args.work.now c.args.kids.now c.in-None.ensures xs p)
 
-pub array-returns-in-Some : goal.array-returns-in-Some
-array-returns-in-Some t c = λ t' xs e p.
+pub declarators::array-returns-in-Some : goal.declarators::array-returns-in-Some
+declarators::array-returns-in-Some t c = λ t' xs e p.
     let u = c.args.work.now in
     let m = ended u c.args.kids.now c.in-Some.x.before.now c.in-Some.x.last c.in-Some.ensures xs p in
     answers_at quietly u c.row.new.work (declarator_of Kinds.Array t' xs (readings xs))
     (row_of (readings m.first) (reading m.part)) DerivedThere ShowsDerived c.row.result (λ s k. m.array t' s)
     (c.row.ensures m.first m.part m.are m.is)
 
-pub row-length_of-requires : goal.row-length_of-requires
-row-length_of-requires t c =
+pub declarators::row-length_of-requires : goal.declarators::row-length_of-requires
+declarators::row-length_of-requires t c =
     let a = c.in_ok-d.ensures c.requires.parts.syntax c.requires.parts.are in
     (omega arith, (a.whole, still_within c.args.work.now c.within.new.work c.args.count a.grows.keeps c.requires.count))
 
-pub row-returns : goal.row-returns
-row-returns t c = λ xs y p q.
+pub declarators::row-returns : goal.declarators::row-returns
+declarators::row-returns t c = λ xs y p q.
     let u = c.args.work.now in
     let v = c.within.new.work in
     let w = c.length_of.new.work in
@@ -2051,29 +2056,29 @@ row-returns t c = λ xs y p q.
     (Row c.in_ok-n.n) (λ k. meant.Row k) _ (in_any IsCount w c.in_ok-n.n) c.in_ok-all.ensures.name
     c.in_ok-all.ensures.wraps tt (λ s k i. i) a (c.in_ok-n.ensures y (part_kept u v c.args.count y a.grows.keeps q))
 
-pub function-function_with-requires : goal.function-function_with-requires
-function-function_with-requires t c =
+pub declarators::function-function_with-requires : goal.declarators::function-function_with-requires
+declarators::function-function_with-requires t c =
     let u = c.args.work.now in
     let x = c.in-Some.x in
     let p = c.requires.parts in
     let h = ends_within u c.args.kids.now x.before.now x.last c.in-Some.ensures p.parts in
     (omega arith, (c.requires.whole, (h.0, last_kind u c.args.kids.now x.before.now x.last c.in-Some.ensures p)))
 
-pub function-returns-in-None : goal.function-returns-in-None
-function-returns-in-None t c =
+pub declarators::function-returns-in-None : goal.declarators::function-returns-in-None
+declarators::function-returns-in-None t c =
     λ t' xs e p s h. no_function t' c.args.pos xs (readings xs) s e
     (no_readings c.args.work.now c.args.kids.now c.in-None.ensures xs p)
 
-pub function-returns-in-Some : goal.function-returns-in-Some
-function-returns-in-Some t c = λ t' xs e p.
+pub declarators::function-returns-in-Some : goal.declarators::function-returns-in-Some
+declarators::function-returns-in-Some t c = λ t' xs e p.
     let u = c.args.work.now in
     let m = ended u c.args.kids.now c.in-Some.x.before.now c.in-Some.x.last c.in-Some.ensures xs p in
     answers_at quietly u c.function_with.new.work (declarator_of Kinds.Function t' xs (readings xs))
     (function_of (readings m.first) (reading m.part)) DerivedThere ShowsDerived c.function_with.result
     (λ s k. m.function t' s) (c.function_with.ensures m.first m.part m.are m.is)
 
-pub function_with-prototype-requires : goal.function_with-prototype-requires
-function_with-prototype-requires t c =
+pub declarators::function_with-prototype-requires : goal.declarators::function_with-prototype-requires
+declarators::function_with-prototype-requires t c =
     let a = c.in_ok-d.ensures c.requires.parts.syntax c.requires.parts.are in (
       omega arith,
       (
@@ -2083,8 +2088,8 @@ function_with-prototype-requires t c =
       ),
     )
 
-pub function_with-returns : goal.function_with-returns
-function_with-returns t c = λ xs y p q.
+pub declarators::function_with-returns : goal.declarators::function_with-returns
+declarators::function_with-returns t c = λ xs y p q.
     let u = c.args.work.now in
     let v = c.within.new.work in
     let w = c.prototype.new.work in
@@ -2097,8 +2102,8 @@ function_with-returns t c = λ xs y p q.
 
 -- ---- parameters
 
-pub prototype-parameter_list-requires : goal.prototype-parameter_list-requires
-prototype-parameter_list-requires t c =
+pub declarators::prototype-parameter_list-requires : goal.declarators::prototype-parameter_list-requires
+declarators::prototype-parameter_list-requires t c =
     let some = deep c.args.work.now c.args.k c.requires.part.part in
     let u = c.args.work.now in
     let n = c.node_at-node.result.now in
@@ -2113,8 +2118,8 @@ prototype-parameter_list-requires t c =
       ),
     )
 
-pub prototype-close-requires : goal.prototype-close-requires
-prototype-close-requires t c =
+pub declarators::prototype-close-requires : goal.declarators::prototype-close-requires
+declarators::prototype-close-requires t c =
     let u = c.args.work.now in
     let a = c.in_ok-enter.ensures in
     let h = within_kept u c.enter.new.work c.as_slice.result.now a.grows.keeps
@@ -2122,8 +2127,8 @@ prototype-close-requires t c =
     (kids_within u c.args.k c.node_at-node.result.now c.requires.part.part c.node_at-node.ensures)) in
     (c.in_ok-params.ensures h.syntax h.are).whole
 
-pub prototype-returns : goal.prototype-returns
-prototype-returns t c = λ x p.
+pub declarators::prototype-returns : goal.declarators::prototype-returns
+declarators::prototype-returns t c = λ x p.
     let u = c.args.work.now in
     let v = c.enter.new.work in
     let w = c.parameter_list.new.work in
@@ -2138,8 +2143,8 @@ prototype-returns t c = λ x p.
     (prototype_done u v w z (readings o.parts) c.in_ok-params.params c.in_ok-scope.scope found refl refl a
     (c.in_ok-params.ensures o.parts kids) c.in_ok-scope.ensures)
 
-pub parameter_list-loop-part-init : goal.parameter_list-loop-part-init
-parameter_list-loop-part-init t c =
+pub declarators::parameter_list-loop-part-init : goal.declarators::parameter_list-loop-part-init
+declarators::parameter_list-loop-part-init t c =
     let u = c.args.work.now in
     let ps = c.new-params.result in
     let there = none_there (ParamIsThere u.nodes) ps.items c.new-params.ensures.items in
@@ -2155,8 +2160,8 @@ parameter_list-loop-part-init t c =
           ∙ params_begin only xs s);
     }
 
-pub parameter_list-parameter-requires : goal.parameter_list-parameter-requires
-parameter_list-parameter-requires t c =
+pub declarators::parameter_list-parameter-requires : goal.declarators::parameter_list-parameter-requires
+declarators::parameter_list-parameter-requires t c =
     let v = c.loop-part.work in (
       omega arith,
       (
@@ -2167,8 +2172,8 @@ parameter_list-parameter-requires t c =
       ),
     )
 
-pub parameter_list-declare_parameter-requires : goal.parameter_list-declare_parameter-requires
-parameter_list-declare_parameter-requires t c =
+pub declarators::parameter_list-declare_parameter-requires : goal.declarators::parameter_list-declare_parameter-requires
+declarators::parameter_list-declare_parameter-requires t c =
     let v = c.loop-part.work in
     let f = (first_of_kind v Kinds.Parameter c.in-Some.part.first c.in-Some.part.others.now
     (subst (λ (z : List ℕ). PartsThat (AreOf Kinds.Parameter) v c.args.depth z) c.in-Some.ensures
@@ -2176,8 +2181,8 @@ parameter_list-declare_parameter-requires t c =
     let a = c.in_ok-p.ensures f.syntax f.is in
     record { whole = a.whole; there = a.there }
 
-pub parameter_list-returns-then-p : goal.parameter_list-returns-then-p
-parameter_list-returns-then-p t c = λ xs q.
+pub declarators::parameter_list-returns-then-p : goal.declarators::parameter_list-returns-then-p
+declarators::parameter_list-returns-then-p t c = λ xs q.
     let v = c.loop-part.work in
     params_stop c.args.work.now v c.parameter.new.work c.in-Some.part.first c.in-Some.part.others.now
     c.is_lone-only.result (parameter_list 0 (length (readings xs) == 1) (readings xs)) c.loop-part.params
@@ -2186,8 +2191,8 @@ parameter_list-returns-then-p t c = λ xs q.
     (parameter_list 0 (length (readings xs) == 1) (readings xs)) c.loop-part.params.items) c.in-Some.ensures
     (c.loop-part.invariant.reads xs q)) c.in_ok-p.ensures
 
-pub parameter_list-loop-part-preserved : goal.parameter_list-loop-part-preserved
-parameter_list-loop-part-preserved t c =
+pub declarators::parameter_list-loop-part-preserved : goal.declarators::parameter_list-loop-part-preserved
+declarators::parameter_list-loop-part-preserved t c =
     let v = c.loop-part.work in
     let w = c.parameter.new.work in
     let z = c.declare_parameter.new.work in
@@ -2211,8 +2216,8 @@ parameter_list-loop-part-preserved t c =
           c.in_ok-declare_parameter.ensures.more;
     }
 
-pub parameter_list-returns : goal.parameter_list-returns
-parameter_list-returns t c = λ xs q.
+pub declarators::parameter_list-returns : goal.declarators::parameter_list-returns
+declarators::parameter_list-returns t c = λ xs q.
     let v = c.loop-part.work in
     let ps = c.loop-part.params in
     let d = parameter_list 0 (length (readings xs) == 1) (readings xs) in
@@ -2222,8 +2227,8 @@ parameter_list-returns t c = λ xs q.
     (Are v ps.items) (λ ys. ys) ParamsThere AreParams ps (params_end c.is_lone-only.result) soFar soFar.done.there
     (λ s b i. i)
 
-pub parameter-parameter_at-requires : goal.parameter-parameter_at-requires
-parameter-parameter_at-requires t c =
+pub declarators::parameter-parameter_at-requires : goal.declarators::parameter-parameter_at-requires
+declarators::parameter-parameter_at-requires t c =
     let some = deep c.args.work.now c.args.k c.requires.part.part in
     let u = c.args.work.now in (
       omega arith,
@@ -2234,8 +2239,8 @@ parameter-parameter_at-requires t c =
       ),
     )
 
-pub parameter-returns : goal.parameter-returns
-parameter-returns t c = λ x p.
+pub declarators::parameter-returns : goal.declarators::parameter-returns
+declarators::parameter-returns t c = λ x p.
     let u = c.args.work.now in
     let w = c.parameter_at.new.work in
     let n = c.node_at-node.result.now in
@@ -2248,8 +2253,8 @@ parameter-returns t c = λ x p.
     (c.parameter_at.ensures o.parts (subst (λ (ks : List ℕ). AreParts u ks o.parts)
     (sym c.as_slice.ensures) o.node.parts)))
 
-pub parameter_at-unstored-requires : goal.parameter_at-unstored-requires
-parameter_at-unstored-requires t c = (
+pub declarators::parameter_at-unstored-requires : goal.declarators::parameter_at-unstored-requires
+declarators::parameter_at-unstored-requires t c = (
   omega arith,
   (
     c.requires.whole,
@@ -2258,8 +2263,8 @@ parameter_at-unstored-requires t c = (
   ),
 )
 
-pub parameter_at-within-requires : goal.parameter_at-within-requires
-parameter_at-within-requires t c =
+pub declarators::parameter_at-within-requires : goal.declarators::parameter_at-within-requires
+declarators::parameter_at-within-requires t c =
     let u = c.args.work.now in
     let k = c.in-Some.part.first in
     let ks = c.in-Some.part.others.now in
@@ -2268,8 +2273,8 @@ parameter_at-within-requires t c =
     let a = c.in_ok-s-in-Some.ensures f.syntax f.is in
     (omega arith, (a.whole, within_kept u c.unstored.new.work ks a.grows.keeps (others_within u k ks h)))
 
-pub parameter_at-parameter_from-requires : goal.parameter_at-parameter_from-requires
-parameter_at-parameter_from-requires t c =
+pub declarators::parameter_at-parameter_from-requires : goal.declarators::parameter_at-parameter_from-requires
+declarators::parameter_at-parameter_from-requires t c =
     let u = c.args.work.now in
     let v = c.unstored.new.work in
     let w = c.within.new.work in
@@ -2286,13 +2291,13 @@ parameter_at-parameter_from-requires t c =
       parts = b.there;
     }
 
-pub parameter_at-returns-in-None : goal.parameter_at-returns-in-None
-parameter_at-returns-in-None t c =
+pub declarators::parameter_at-returns-in-None : goal.declarators::parameter_at-returns-in-None
+declarators::parameter_at-returns-in-None t c =
     λ xs p s h. no_parameter (token_of c.args.work.now c.args.first) (readings xs) c.args.only s
     (no_readings c.args.work.now c.args.kids.now c.in-None.ensures xs p)
 
-pub parameter_at-returns-in_ok-d-in-Some : goal.parameter_at-returns-in_ok-d-in-Some
-parameter_at-returns-in_ok-d-in-Some t c = λ xs p.
+pub declarators::parameter_at-returns-in_ok-d-in-Some : goal.declarators::parameter_at-returns-in_ok-d-in-Some
+declarators::parameter_at-returns-in_ok-d-in-Some t c = λ xs p.
     let u = c.args.work.now in
     let v = c.unstored.new.work in
     let z = c.within.new.work in
@@ -2315,8 +2320,8 @@ parameter_at-returns-in_ok-d-in-Some t c = λ xs p.
 
 -- ---- refusals of parts
 
-pub member-returns-in_err-s-in-Some : goal.member-returns-in_err-s-in-Some
-member-returns-in_err-s-in-Some t c =
+pub types::member-returns-in_err-s-in-Some : goal.types::member-returns-in_err-s-in-Some
+types::member-returns-in_err-s-in-Some t c =
     let e = err_from_is_err_and c.from_residual.result c.from_residual.ensures.1 in
     λ x ms p a.
     let u = c.args.work.now in
@@ -2339,8 +2344,8 @@ member-returns-in_err-s-in-Some t c =
     (λ y. member_declarators y (readings m.tail) ms) SpecifiedThere
     (in_any IsSpecified) AllMembersThere AreAllMembers _ (c.in_err-s-in-Some.ensures m.head m.first))))
 
-pub open_array-returns-in_err-d : goal.open_array-returns-in_err-d
-open_array-returns-in_err-d t c =
+pub declarators::open_array-returns-in_err-d : goal.declarators::open_array-returns-in_err-d
+declarators::open_array-returns-in_err-d t c =
     let e = err_from_is_err_and c.from_residual.result c.from_residual.ensures.1 in λ t' xs p.
     let u = c.args.work.now in
     let v = c.within.new.work in
@@ -2351,8 +2356,8 @@ open_array-returns-in_err-d t c =
     (λ y. give (wrapped (meant.Row 0) y)) DerivedThere ShowsDerived DerivedThere ShowsDerived _
     (c.in_err-d.ensures xs p)))
 
-pub pointer-returns-in_err-d-in-Some : goal.pointer-returns-in_err-d-in-Some
-pointer-returns-in_err-d-in-Some t c =
+pub declarators::pointer-returns-in_err-d-in-Some : goal.declarators::pointer-returns-in_err-d-in-Some
+declarators::pointer-returns-in_err-d-in-Some t c =
     let e = err_from_is_err_and c.from_residual.result c.from_residual.ensures.1 in λ t' xs i p.
     let u = c.args.work.now in
     let v = c.within.new.work in
@@ -2365,8 +2370,8 @@ pointer-returns-in_err-d-in-Some t c =
     (λ y. give (wrapped (meant.Point (parts_const xs)) y)) DerivedThere ShowsDerived DerivedThere ShowsDerived _
     (c.in_err-d-in-Some.ensures m.tail m.others)))
 
-pub parameter_at-returns-in_err-s-in-Some : goal.parameter_at-returns-in_err-s-in-Some
-parameter_at-returns-in_err-s-in-Some t c =
+pub declarators::parameter_at-returns-in_err-s-in-Some : goal.declarators::parameter_at-returns-in_err-s-in-Some
+declarators::parameter_at-returns-in_err-s-in-Some t c =
     let e = err_from_is_err_and c.from_residual.result c.from_residual.ensures.1 in λ xs p.
     let u = c.args.work.now in
     let v = c.unstored.new.work in
@@ -2380,8 +2385,8 @@ parameter_at-returns-in_err-s-in-Some t c =
     (λ x. within (readings m.tail) >>= λ y. parameter_from c.args.only x l y) SpecifiedThere
     (in_any IsSpecified) ParamThere (in_any IsParam) _ (c.in_err-s-in-Some.ensures m.head m.first)))
 
-pub parameter_at-returns-in_err-d-in-Some : goal.parameter_at-returns-in_err-d-in-Some
-parameter_at-returns-in_err-d-in-Some t c =
+pub declarators::parameter_at-returns-in_err-d-in-Some : goal.declarators::parameter_at-returns-in_err-d-in-Some
+declarators::parameter_at-returns-in_err-d-in-Some t c =
     let e = err_from_is_err_and c.from_residual-in_err-d-in-Some.result c.from_residual-in_err-d-in-Some.ensures.1 in
     λ xs p.
     let u = c.args.work.now in
@@ -2398,8 +2403,8 @@ parameter_at-returns-in_err-d-in-Some t c =
     (λ x y. parameter_from c.args.only x l y) _ _ DerivedThere ShowsDerived ParamThere (in_any IsParam) _ a
     (c.in_err-d-in-Some.ensures m.tail (parts_kept u v c.in-Some.part.others.now m.tail a.grows.keeps m.others))))
 
-pub parameter_list-returns-in_err-p : goal.parameter_list-returns-in_err-p
-parameter_list-returns-in_err-p t c =
+pub declarators::parameter_list-returns-in_err-p : goal.declarators::parameter_list-returns-in_err-p
+declarators::parameter_list-returns-in_err-p t c =
     let e = err_from_is_err_and c.from_residual.result c.from_residual.ensures.1 in λ xs q.
     let v = c.loop-part.work in
     rw (e.1, e.2) (params_fail c.args.work.now v c.parameter.new.work c.in-Some.part.first c.in-Some.part.others.now
@@ -2408,8 +2413,9 @@ parameter_list-returns-in_err-p t c =
     (parameter_list 0 (length (readings xs) == 1) (readings xs)) c.loop-part.params.items) c.in-Some.ensures
     (c.loop-part.invariant.reads xs q)) c.in_err-p.ensures)
 
-pub parameter_list-returns-in_err-declare_parameter : goal.parameter_list-returns-in_err-declare_parameter
-parameter_list-returns-in_err-declare_parameter t c =
+pub declarators::parameter_list-returns-in_err-declare_parameter :
+    goal.declarators::parameter_list-returns-in_err-declare_parameter
+declarators::parameter_list-returns-in_err-declare_parameter t c =
     let e = err_from_is_err_and c.from_residual-in_err-declare_parameter.result
     c.from_residual-in_err-declare_parameter.ensures.1 in λ xs q.
     let v = c.loop-part.work in
@@ -2421,8 +2427,8 @@ parameter_list-returns-in_err-declare_parameter t c =
     (parameter_list 0 (length (readings xs) == 1) (readings xs)) c.loop-part.params.items) c.in-Some.ensures
     (c.loop-part.invariant.reads xs q)) c.in_ok-p.ensures c.in_err-declare_parameter.ensures.answers)
 
-pub prototype-returns-in_err-params : goal.prototype-returns-in_err-params
-prototype-returns-in_err-params t c =
+pub declarators::prototype-returns-in_err-params : goal.declarators::prototype-returns-in_err-params
+declarators::prototype-returns-in_err-params t c =
     let e = err_from_is_err_and c.from_residual-in_err-params.result c.from_residual-in_err-params.ensures.1 in λ x p.
     let u = c.args.work.now in
     let v = c.enter.new.work in
@@ -2435,8 +2441,8 @@ prototype-returns-in_err-params t c =
     rw (e.1, e.2) (at_node u w n x (λ r. r.prototype) PrototypeThere ShowsPrototype (Err _) o
     (prototype_failed u v w (readings o.parts) _ a (c.in_err-params.ensures o.parts kids)))
 
-pub prototype-returns-in_err-scope : goal.prototype-returns-in_err-scope
-prototype-returns-in_err-scope t c =
+pub declarators::prototype-returns-in_err-scope : goal.declarators::prototype-returns-in_err-scope
+declarators::prototype-returns-in_err-scope t c =
     let e = err_from_is_err_and c.from_residual-in_err-scope.result c.from_residual-in_err-scope.ensures.1 in λ x p.
     let u = c.args.work.now in
     let v = c.enter.new.work in
@@ -2451,8 +2457,8 @@ prototype-returns-in_err-scope t c =
     (prototype_unclosed u v w z (readings o.parts) c.in_ok-params.params _ a
     (c.in_ok-params.ensures o.parts kids) c.in_err-scope.ensures))
 
-pub specified-returns-in_err-named : goal.specified-returns-in_err-named
-specified-returns-in_err-named t c =
+pub types::specified-returns-in_err-named : goal.types::specified-returns-in_err-named
+types::specified-returns-in_err-named t c =
     let e = err_from_is_err_and c.from_residual.result c.from_residual.ensures.1 in λ x p.
     let u = c.args.work.now in
     let v = c.named_types.new.work in
@@ -2473,8 +2479,9 @@ specified-returns-in_err-named t c =
     (λ ts. steps.specified o.token o.parts ts) TypesThere AreTypes SpecifiedThere (in_any IsSpecified) _
     (c.in_err-named.ensures o.parts kids))))
 
-pub tagged_enumeration-returns-in_err-new_enumeration : goal.tagged_enumeration-returns-in_err-new_enumeration
-tagged_enumeration-returns-in_err-new_enumeration t c =
+pub types::tagged_enumeration-returns-in_err-new_enumeration :
+    goal.types::tagged_enumeration-returns-in_err-new_enumeration
+types::tagged_enumeration-returns-in_err-new_enumeration t c =
     let i = err_from_is_err_and c.from_residual.result c.from_residual.ensures.1 in λ xs p.
     let u = c.args.work.now in
     let v = c.new_enumeration.new.work in
@@ -2486,8 +2493,8 @@ tagged_enumeration-returns-in_err-new_enumeration t c =
     (failed quietly u v v (new_enumeration_of n)
     (λ y. listed (readings xs)) NothingThere IsNothing TypeThere IsType _ c.in_err-new_enumeration.ensures))
 
-pub type_name-returns-in_err-s-in-Some : goal.type_name-returns-in_err-s-in-Some
-type_name-returns-in_err-s-in-Some t c =
+pub types::type_name-returns-in_err-s-in-Some : goal.types::type_name-returns-in_err-s-in-Some
+types::type_name-returns-in_err-s-in-Some t c =
     let i = err_from_is_err_and c.from_residual.result c.from_residual.ensures.1 in λ t' xs e p.
     let u = c.args.work.now in
     let v = c.unstored.new.work in
@@ -2502,8 +2509,8 @@ type_name-returns-in_err-s-in-Some t c =
     (λ x. within (readings m.tail) >>= λ y. steps.named_type x.of y.wraps c.args.pos) SpecifiedThere
     (in_any IsSpecified) TypeThere IsType _ (c.in_err-s-in-Some.ensures m.head m.first)))
 
-pub type_name-returns-in_err-d-in-Some : goal.type_name-returns-in_err-d-in-Some
-type_name-returns-in_err-d-in-Some t c =
+pub types::type_name-returns-in_err-d-in-Some : goal.types::type_name-returns-in_err-d-in-Some
+types::type_name-returns-in_err-d-in-Some t c =
     let i = err_from_is_err_and c.from_residual-in_err-d-in-Some.result c.from_residual-in_err-d-in-Some.ensures.1 in
     λ t' xs e p.
     let u = c.args.work.now in
@@ -2521,8 +2528,8 @@ type_name-returns-in_err-d-in-Some t c =
     (λ x y. steps.named_type x.of y.wraps c.args.pos) _ _ DerivedThere ShowsDerived TypeThere IsType _ a
     (c.in_err-d-in-Some.ensures m.tail (parts_kept u v c.in-Some.part.others.now m.tail a.grows.keeps m.others))))
 
-pub valued-returns-in_err-c-in-Some : goal.valued-returns-in_err-c-in-Some
-valued-returns-in_err-c-in-Some t c =
+pub types::valued-returns-in_err-c-in-Some : goal.types::valued-returns-in_err-c-in-Some
+types::valued-returns-in_err-c-in-Some t c =
     let e = err_from_is_err_and c.from_residual.result c.from_residual.ensures.1 in λ xs p.
     let u = c.args.work.now in
     let v = c.constant.new.work in
@@ -2537,54 +2544,54 @@ valued-returns-in_err-c-in-Some t c =
 
 -- ---- nodes that are there
 
-pub operand-node_at-node-requires : goal.operand-node_at-node-requires
-operand-node_at-node-requires t c = part_there c.args.work.now c.args.k c.requires.part
+pub expressions::operand-node_at-node-requires : goal.expressions::operand-node_at-node-requires
+expressions::operand-node_at-node-requires t c = part_there c.args.work.now c.args.k c.requires.part
 
-pub specified-node_at-node-requires : goal.specified-node_at-node-requires
-specified-node_at-node-requires t c = part_there c.args.work.now c.args.k c.requires.part
+pub types::specified-node_at-node-requires : goal.types::specified-node_at-node-requires
+types::specified-node_at-node-requires t c = part_there c.args.work.now c.args.k c.requires.part
 
-pub maybe_type-node_at-node-requires : goal.maybe_type-node_at-node-requires
-maybe_type-node_at-node-requires t c = part_there c.args.work.now c.args.k c.requires.part
+pub types::maybe_type-node_at-node-requires : goal.types::maybe_type-node_at-node-requires
+types::maybe_type-node_at-node-requires t c = part_there c.args.work.now c.args.k c.requires.part
 
-pub type_of-node_at-node-requires : goal.type_of-node_at-node-requires
-type_of-node_at-node-requires t c = part_there c.args.work.now c.args.k c.requires.part
+pub types::type_of-node_at-node-requires : goal.types::type_of-node_at-node-requires
+types::type_of-node_at-node-requires t c = part_there c.args.work.now c.args.k c.requires.part
 
-pub member-node_at-node-requires : goal.member-node_at-node-requires
-member-node_at-node-requires t c = part_there c.args.work.now c.args.k c.requires.part
+pub types::member-node_at-node-requires : goal.types::member-node_at-node-requires
+types::member-node_at-node-requires t c = part_there c.args.work.now c.args.k c.requires.part
 
-pub enumerator-node_at-node-requires : goal.enumerator-node_at-node-requires
-enumerator-node_at-node-requires t c = part_there c.args.work.now c.args.k c.requires.part.part
+pub types::enumerator-node_at-node-requires : goal.types::enumerator-node_at-node-requires
+types::enumerator-node_at-node-requires t c = part_there c.args.work.now c.args.k c.requires.part.part
 
-pub derived-node_at-node-requires : goal.derived-node_at-node-requires
-derived-node_at-node-requires t c = part_there c.args.work.now c.args.k c.requires.part
+pub declarators::derived-node_at-node-requires : goal.declarators::derived-node_at-node-requires
+declarators::derived-node_at-node-requires t c = part_there c.args.work.now c.args.k c.requires.part
 
-pub prototype-node_at-node-requires : goal.prototype-node_at-node-requires
-prototype-node_at-node-requires t c = part_there c.args.work.now c.args.k c.requires.part.part
+pub declarators::prototype-node_at-node-requires : goal.declarators::prototype-node_at-node-requires
+declarators::prototype-node_at-node-requires t c = part_there c.args.work.now c.args.k c.requires.part.part
 
-pub parameter-node_at-node-requires : goal.parameter-node_at-node-requires
-parameter-node_at-node-requires t c = part_there c.args.work.now c.args.k c.requires.part.part
+pub declarators::parameter-node_at-node-requires : goal.declarators::parameter-node_at-node-requires
+declarators::parameter-node_at-node-requires t c = part_there c.args.work.now c.args.k c.requires.part.part
 
-pub selected-node_at-node-requires : goal.selected-node_at-node-requires
-selected-node_at-node-requires t c =
+pub expressions::selected-node_at-node-requires : goal.expressions::selected-node_at-node-requires
+expressions::selected-node_at-node-requires t c =
     let h = two_within c.args.work.now c.args.kids.now c.in-Some.x.first c.in-Some.x.second c.in-Some.ensures
     c.requires.parts in
     part_there c.args.work.now c.in-Some.x.second h.1
 
-pub call-node_at-node-requires : goal.call-node_at-node-requires
-call-node_at-node-requires t c =
+pub expressions::call-node_at-node-requires : goal.expressions::call-node_at-node-requires
+expressions::call-node_at-node-requires t c =
     let u = c.args.work.now in
     part_there u c.in-Some.part.first
     (first_within u c.in-Some.part.first c.in-Some.part.others.now
     (subst (λ (z : List ℕ). PartsWithin u c.args.depth z) c.in-Some.ensures c.requires.parts))
 
-pub call-library-service-requires : goal.call-library-service-requires
-call-library-service-requires t c =
+pub expressions::call-library-service-requires : goal.expressions::call-library-service-requires
+expressions::call-library-service-requires t c =
     let u = c.args.work.now in
     first_within u c.in-Some.part.first c.in-Some.part.others.now
     (subst (λ (z : List ℕ). PartsWithin u c.args.depth z) c.in-Some.ensures c.requires.parts)
 
-pub record_specifier-tag_of-found-requires : goal.record_specifier-tag_of-found-requires
-record_specifier-tag_of-found-requires t c = have_parts c.args.work.now c.args.kids.now c.requires.parts
+pub types::record_specifier-tag_of-found-requires : goal.types::record_specifier-tag_of-found-requires
+types::record_specifier-tag_of-found-requires t c = have_parts c.args.work.now c.args.kids.now c.requires.parts
 
-pub enum_specifier-tag_of-found-requires : goal.enum_specifier-tag_of-found-requires
-enum_specifier-tag_of-found-requires t c = have_parts c.args.work.now c.args.kids.now c.requires.parts.parts
+pub types::enum_specifier-tag_of-found-requires : goal.types::enum_specifier-tag_of-found-requires
+types::enum_specifier-tag_of-found-requires t c = have_parts c.args.work.now c.args.kids.now c.requires.parts.parts

@@ -5,7 +5,7 @@ use Rattle.c_tree.specs.Expressions.{called_library, library_number}
 use Rattle.c_elaborator.specs.declared.work.Name.{Name}
 use Rattle.c_elaborator.specs.Parts.{token_of}
 use Rattle.c_readings.proofs.Calling.{named_alone, named_with}
-use Rattle.c_readings.proofs.parts.named_library.Goals as goal
+use Rattle.c_readings.proofs.expressions.named_library.Goals as goal
 
 pub returns-then-is_empty : goal.returns-then-is_empty
 returns-then-is_empty c = λ t xs h s k.
