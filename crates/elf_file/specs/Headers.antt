@@ -1,8 +1,9 @@
 -- The headers of an image's file, field by field as in the ELF64 object file format, and where its six parts stand.
 use Rattle.std.specs.Prelude.{ℕ, ◌+◌, ◌*◌, ◌/◌, Bool, List, [], ◌∷◌, ◌++◌, if◌then◌else◌}
-use Rattle.elf_file.specs.declared.field.Field.{Field}
-use Rattle.elf_file.specs.declared.field.Field.TheVariants.{Half, Word, Xword}
+use Rattle.elf_words.specs.declared.field.Field.{Field}
+use Rattle.elf_words.specs.declared.field.Field.TheVariants.{Half, Word, Xword}
 use Rattle.elf_file.specs.declared.headers.Headers.{Headers}
+unfoldable pub use Rattle.elf_words.specs.Count.{count_words}
 
 -- ---- where the parts stand
 
@@ -112,7 +113,7 @@ section_headers h =
 
 -- ---- the words of .ck_image
 
--- version, entry, then base and length of text, data, table, heap and stack
+-- version, entry, then base and length of text, data, table, heap and stack; behind these may stand the count
 unfoldable pub image_words : ℕ → ℕ × ℕ → Headers → List Field
 image_words version table h =
     Xword version ∷ Xword h.entry
@@ -122,10 +123,6 @@ image_words version table h =
     ∷ Xword h.heap.0 ∷ Xword h.heap.1
     ∷ Xword h.stack.0 ∷ Xword h.stack.1
     ∷ []
-
--- and behind these, in version 2, the count
-unfoldable pub count_words : Bool → ℕ → List Field
-count_words counted count = if counted then Xword count ∷ [] else []
 
 -- ---- the names of the sections
 

@@ -1,22 +1,10 @@
-//! Numbers of stated widths, little endian, as an ELF64 file has them.
+//! Numbers of stated widths, little endian, as an ELF64 file has them: how they are read.
 
-ghost use Rattle.std.specs.Prelude.{◌≡◌, ◌+◌, ◌++◌, ◌≤◌, ◌==◌, length, OnOk};
-ghost use Rattle.elf_file.specs.Fields.{width_of, value_of, bytes_of, number, half_at, word_at, xword_at, meets};
-ghost use Rattle.elf_file.specs.Fields.{spelled, size_of};
+ghost use Rattle.std.specs.Prelude.{◌≡◌, ◌+◌, ◌≤◌, ◌==◌, length};
+ghost use Rattle.elf_file.specs.Fields.{width_of, value_of, number, half_at, word_at, xword_at, meets, size_of};
 
 use byteorder::{ByteOrder, LittleEndian};
-use std::alloc::AllocError;
-
-/// A number of a file (ELF64, "Data representation").
-#[derive(Clone, Copy)]
-pub enum Field {
-    /// Two bytes.
-    Half(u16),
-    /// Four bytes.
-    Word(u32),
-    /// Eight bytes: an extended word, an address or an offset. The value may be one that no eight bytes have.
-    Xword(u128),
-}
+use elf_words::Field;
 
 /// The half word at a place.
 #[tactic(auto, unfolding(crate::specs::Fields::number))]
@@ -48,29 +36,6 @@ pub fn xword_at(bytes: &[u8], place: usize) -> u64
     LittleEndian::read_u64(rest)
 }
 
-impl Field {
-    fn width(self) -> usize
-        ensures value { result ≡ width_of self }
-        ensures most { result ≤ 8 }
-    {
-        match self {
-            Field::Half(_) => 2,
-            Field::Word(_) => 4,
-            Field::Xword(_) => 8,
-        }
-    }
-
-    fn value(self) -> u128
-        ensures { result ≡ value_of self }
-    {
-        match self {
-            Field::Half(value) => value as u128,
-            Field::Word(value) => value as u128,
-            Field::Xword(value) => value,
-        }
-    }
-}
-
 /// Whether the bytes begin with these fields.
 #[tactic(auto, using(crate::proofs::Runs::size_of_more, crate::proofs::Runs::meets_all))]
 pub fn meets(bytes: &[u8], fields: &[Field]) -> bool
@@ -98,21 +63,4 @@ fn begins_with(bytes: &[u8], field: Field) -> bool
         Field::Word(value) => word_at(bytes, 0) == value,
         Field::Xword(value) => xword_at(bytes, 0) as u128 == value,
     }
-}
-
-/// Appends the fields.
-#[tactic(auto, unfolding(crate::specs::Fields::spelled))]
-pub fn put(out: &mut Vec<u8>, fields: &[Field]) -> Result<(), AllocError>
-    ensures { OnOk result (out.new.items ≡ out.old.items ++ spelled fields.now) }
-{
-    for field in fields {
-        put_field(out, *field)?;
-    }
-    Ok(())
-}
-
-fn put_field(out: &mut Vec<u8>, field: Field) -> Result<(), AllocError>
-    ensures { OnOk result (out.new.items ≡ out.old.items ++ bytes_of field) }
-{
-    out.extend_from_slice(&field.value().to_le_bytes()[..field.width()])
 }

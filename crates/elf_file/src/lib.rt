@@ -4,7 +4,8 @@
 //!
 //! Promise: reading gives the image or the first refusal in order, and what was written of an image is read as that
 //! image.
-//! Definitions (`specs/`): `Image`, `File`, `Headers`, `Parts`, `Reading`, `Refusal`.
+//! Definitions (`specs/`): `Fields`, `Count` of `elf_words`; here `Image`, `File`, `Headers`, `Parts`, `Reading`,
+//! `Refusal`.
 //! Main lemmas (`proofs/`): `Found`, `Again`.
 #![tactic(auto)]
 

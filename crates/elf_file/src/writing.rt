@@ -2,20 +2,20 @@
 
 ghost use Rattle.std.specs.Prelude.{◌≡◌, ◌<◌, ◌^◌, ◌*◌, ◌++◌, length, All, OnOk, IfOk, Ok};
 ghost use Rattle.elf_file.specs.Headers.{e_ident, section_names, words_size, file_header, program_headers};
-ghost use Rattle.elf_file.specs.Headers.{section_headers, count_words};
+ghost use Rattle.elf_file.specs.Headers.{section_headers};
 ghost use Rattle.elf_file.specs.Fields.{spelled, Fit};
 ghost use Rattle.elf_file.specs.Image.{reloc_fields, line_fields, KeepsRules};
 ghost use Rattle.elf_file.specs.File.{headers_of, words_fields, relocs_bytes, lines_bytes, padding, file_of};
 ghost use Rattle.elf_file.specs.File.{FitsFields};
 ghost use Rattle.elf_file.specs.Reading.{reading};
 
-use crate::field::Field::{Word, Xword};
-use crate::field::{Field, put};
 use crate::headers::{
     Headers, IDENT, NAMES, file_header, image_words, program_headers, section_headers,
 };
 use crate::image::{Image, Line, Reloc};
 use ck_base::NoMemory;
+use elf_words::Field::{Word, Xword};
+use elf_words::{Field, put, put_count};
 use std::alloc::{AllocError, Global};
 
 /// The headers of an image's file.
@@ -57,7 +57,7 @@ fn put_padding(out: &mut Vec<u8>, size: u64) -> Result<(), AllocError>
     out.extend_from_slice(&zeros[..gap])
 }
 
-#[tactic(auto, unfolding(crate::specs::Fields::Fit))]
+#[tactic(auto, unfolding(elf_words::specs::Fields::Fit))]
 fn reloc_fields(r: Reloc) -> [Field; 5]
     ensures value { result ≡ reloc_fields r }
     ensures fits { Fit (reloc_fields r) }
@@ -71,7 +71,7 @@ fn reloc_fields(r: Reloc) -> [Field; 5]
     ]
 }
 
-#[tactic(auto, unfolding(crate::specs::Fields::Fit))]
+#[tactic(auto, unfolding(elf_words::specs::Fields::Fit))]
 fn line_fields(l: Line) -> [Field; 4]
     ensures value { result ≡ line_fields l }
     ensures fits { Fit (line_fields l) }
@@ -138,18 +138,6 @@ fn put_parts(out: &mut Vec<u8>, h: Headers, i: &Image) -> Result<(), AllocError>
     put_padding(out, h.relocs_size)?;
     put_lines(out, i.lines.as_slice())?;
     put_padding(out, h.lines_size)
-}
-
-/// Appends the count, where the image's words have it.
-#[tactic(auto, unfolding(crate::specs::Headers::count_words, crate::specs::Fields::spelled, crate::specs::Fields::Fit))]
-fn put_count(out: &mut Vec<u8>, counted: bool, count: u64) -> Result<(), AllocError>
-    ensures bytes { OnOk result (out.new.items ≡ out.old.items ++ spelled (count_words counted count)) }
-    ensures fits { Fit (count_words counted count) }
-{
-    if !counted {
-        return Ok(());
-    }
-    put(out, &[Xword(count as u128)])
 }
 
 /// Appends the image's words, and the zero bytes behind them.
