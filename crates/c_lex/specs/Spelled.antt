@@ -4,16 +4,8 @@ use Rattle.std.specs.Prelude.{List, [], ◌∷◌, length, take, drop, codes, Op
 use Rattle.std.specs.Str.{byte}
 use Rattle.ck_base.specs.Tokens.{is_among, line_feed}
 use Rattle.ck_base.specs.Literals.{value_of, leading_digits, simple_escape}
-
--- the base that the first bytes of an integer constant choose
-unfoldable pub base_at : List ℕ → ℕ
-base_at [] = 10
-base_at (b ∷ []) = if b == byte "0" then 8 else 10
-base_at (b ∷ x ∷ bs) = if b == byte "0" then (if x == byte "x" || x == byte "X" then 16 else 8) else 10
-
--- the digits in that base, and the suffix behind them
-abbrev pub digits_at : List ℕ → List ℕ
-digits_at text = if base_at text == 16 then drop 2 text else text
+pub use Rattle.c_spellings.specs.Bases.{digits_at}
+unfoldable pub use Rattle.c_spellings.specs.Bases.{base_at}
 
 -- a value below 2 ^ 64 has a type where this holds: a decimal constant without `u` needs a signed one
 abbrev pub has_type : ℕ → Bool → Bool → Bool

@@ -10,6 +10,7 @@ ghost use Rattle.ck_base.specs.Lexes.{IsLongest, BeginsNoToken};
 ghost use Rattle.c_lex.specs.Fronts.{beginning as kind_at, MeasuresFront, MeasuresQuoted};
 ghost use Rattle.c_lex.specs.Fronts.{begins_left_out as left_out_begins};
 
+use c_spellings::{is_double, is_single, is_triple};
 use ck_base::TokenKind;
 
 // A letter or `_` (C11 6.4.2.1).
@@ -92,41 +93,6 @@ fn quoted_length(quote: u8, bytes: &[u8]) -> Option<usize>
             None => None,
         },
         _ => None,
-    }
-}
-
-#[tactic(auto, unfolding(ck_base::specs::Tokens::punctuators))]
-fn is_single(a: u8) -> bool
-    ensures { result ≡ among punctuators (a ∷ []) }
-{
-    b"[](){}.&*+-~!/%<>^|?:;=,".contains(&a)
-}
-
-#[tactic(auto, unfolding(ck_base::specs::Tokens::punctuators))]
-fn is_double(a: u8, b: u8) -> bool
-    ensures { result ≡ among punctuators (a ∷ b ∷ []) }
-{
-    match a {
-        b'-' => b == b'>' || b == b'-' || b == b'=',
-        b'+' => b == b'+' || b == b'=',
-        b'&' => b == b'&' || b == b'=',
-        b'|' => b == b'|' || b == b'=',
-        b'<' => b == b'<' || b == b'=',
-        b'>' => b == b'>' || b == b'=',
-        b'=' | b'!' | b'*' | b'/' | b'%' | b'^' => b == b'=',
-        _ => false,
-    }
-}
-
-#[tactic(auto, unfolding(ck_base::specs::Tokens::punctuators))]
-fn is_triple(a: u8, b: u8, c: u8) -> bool
-    ensures { result ≡ among punctuators (a ∷ b ∷ c ∷ []) }
-{
-    match a {
-        b'<' => b == b'<' && c == b'=',
-        b'>' => b == b'>' && c == b'=',
-        b'.' => b == b'.' && c == b'.',
-        _ => false,
     }
 }
 

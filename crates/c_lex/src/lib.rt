@@ -3,7 +3,8 @@
 //!
 //! Promise: `Tokens::next` gives the longest token, the end, or the first place that breaks the rules; a file has one
 //! reading.
-//! Definitions (`specs/`): `Lexes`, `Tokens` and `Literals` of `ck_base`; here `Fronts`, `Spelled`, `Reader`.
+//! Definitions (`specs/`): `Lexes`, `Tokens` and `Literals` of `ck_base`, `Bases` of `c_spellings`; here `Fronts`,
+//! `Spelled`, `Reader`.
 //! Main lemmas (`proofs/`): `Longest`, `OneReading`.
 #![tactic(auto)]
 

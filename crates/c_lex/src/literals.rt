@@ -13,6 +13,7 @@ ghost use Rattle.c_lex.specs.Spelled.{base_at, digits_at, suffix_at, has_type as
 ghost use Rattle.c_lex.specs.Spelled.{escape_at, character_at};
 
 use crate::forms::is_among;
+use c_spellings::digits_of;
 use ck_base::{Integer, NoMemory, TokenKind};
 
 // The value of a digit of either case, or 36.
@@ -89,19 +90,6 @@ fn suffix_of(suffix: &[u8]) -> Option<(bool, u8)>
         Some((true, 2))
     } else {
         None
-    }
-}
-
-// The base of an integer constant, and its digits with the suffix.
-#[tactic(auto, unfolding(crate::specs::Spelled::base_at))]
-fn digits_of(text: &[u8]) -> (u8, &[u8])
-    ensures base { result.0 ≡ base_at text.now }
-    ensures digits { result.1.now ≡ digits_at text.now }
-{
-    match text {
-        [zero, x, digits @ ..] if *zero == b'0' && (*x == b'x' || *x == b'X') => (16, digits),
-        [zero, ..] if *zero == b'0' => (8, text),
-        _ => (10, text),
     }
 }
 
