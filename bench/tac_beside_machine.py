@@ -25,12 +25,11 @@ import whole_programs
 from calls import ROOT
 
 NAME = "tac_beside_machine"
-USES = ("ck_base ck_int c_tree cap_layout bounds_place obj_mem tac_ir tac_run c_mean rv_select typed_build "
-        "cheric_build "
+USES = ("ck_base ck_int c_tree cap_layout program_needs bounds_place obj_mem tac_ir tac_run c_mean rv_select "
+        "typed_build cheric_build "
         "cap_machine elf_file image_load")
 # What the copy of typed_build offers beside its own: the steps from three-address code to an image.
 OFFERS = """
-pub use counts::count_of;
 pub use frames::frames_of;
 pub use homes::places_of;
 pub use written::{Selected, Written, write_program};

@@ -6,7 +6,7 @@ use Rattle.obj_mem.specs.Legal.{ObjectNeed, owned_of, alignment_of, room_of, IsA
 use Rattle.obj_mem.specs.Legal.{placed_at, AreAligned}
 use Rattle.bounds_place.specs.Rows.{need, place_of, behind, bases_from, end_from}
 use Rattle.bounds_place.specs.Placing.{AllWithin}
-use Rattle.bounds_place.proofs.Lengths.{rounded_below}
+use Rattle.program_needs.proofs.Lengths.{rounded_below}
 
 pub alignment_from : (n : ObjectNeed) → 16 ≤ alignment_of n
 alignment_from n = omega arith

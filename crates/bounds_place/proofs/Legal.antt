@@ -19,7 +19,7 @@ use Rattle.obj_mem.specs.declared.map.Map.{Map}
 use Rattle.obj_mem.specs.declared.map.Frame.{Frame}
 use Rattle.obj_mem.specs.Legal.{ObjectNeed, FunctionNeed, owned_of, alignment_of, room_of, AreFrames, IsEntry, IsLegal}
 use Rattle.obj_mem.specs.Needs.{global_need, literal_need, function_needs, needs_of}
-use Rattle.bounds_place.specs.declared.needs.Need.{Need}
+use Rattle.program_needs.specs.declared.needs.Need.{Need}
 use Rattle.bounds_place.specs.declared.sizes.Sizes.{Sizes}
 use Rattle.bounds_place.specs.Rows.{need, room, bases_from, end_from}
 use Rattle.bounds_place.specs.Parts.{IsTable, AreData, HasParts}

@@ -2,6 +2,5 @@ pub mod Lengths
 pub mod Behind
 pub mod Entries
 pub mod Legal
-pub mod Locals
 pub mod Ranges
 pub mod Steps

@@ -3,7 +3,7 @@ use Rattle.std.proofs.Common.{◌≡◌, ℕ, zero, suc, ◌+◌, ◌<◌, ◌�
 use Rattle.std.proofs.Common.{arith, subst}
 use Rattle.std.specs.Prelude.{sum_by, slice_index_or}
 use Rattle.std.proofs.lemmas.List.Sums.{sum_by-cons}
-use Rattle.bounds_place.specs.declared.needs.Need.{Need}
+use Rattle.program_needs.specs.declared.needs.Need.{Need}
 use Rattle.bounds_place.specs.Rows.{room, place_of, behind, bases_from, end_from}
 
 -- what was placed and what is left are the whole row, and what is left has room up to the limit

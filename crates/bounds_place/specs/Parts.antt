@@ -6,7 +6,7 @@ use Rattle.c_tree.specs.Layout.{size_limit}
 use Rattle.obj_mem.specs.declared.map.Map.{Map}
 use Rattle.obj_mem.specs.declared.map.Frame.{Frame}
 use Rattle.bounds_place.specs.Rows.{room}
-use Rattle.bounds_place.specs.declared.needs.Need.{Need}
+use Rattle.program_needs.specs.declared.needs.Need.{Need}
 use Rattle.bounds_place.specs.declared.sizes.Sizes.{Sizes}
 
 -- the length of a table of so many entries

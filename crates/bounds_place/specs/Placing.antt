@@ -7,19 +7,15 @@ use Rattle.ck_base.specs.declared.refusal.Refusal.{Refusal}
 use Rattle.ck_base.specs.declared.refusal.Refusal.TheVariants as refusal
 use Rattle.c_tree.specs.Layout.{size_limit}
 use Rattle.c_tree.specs.declared.typed.Typed.{Typed}
-use Rattle.c_tree.specs.declared.typed.CType.{CType}
-use Rattle.c_tree.specs.declared.typed.FunDef.{FunDef}
 use Rattle.obj_mem.specs.declared.map.Map.{Map}
 use Rattle.obj_mem.specs.declared.map.Frame.{Frame}
 use Rattle.obj_mem.specs.Legal.{Needs, room_of, AreApart, objects_of, AreFrames, IsLegal}
-use Rattle.obj_mem.specs.Needs.{local_needs, global_need, literal_need, function_needs, needs_of}
+use Rattle.obj_mem.specs.Needs.{global_need, literal_need, function_needs, needs_of}
 use Rattle.obj_mem.specs.Table.{table_length}
 use Rattle.bounds_place.specs.declared.sizes.Sizes.{Sizes}
+pub use Rattle.program_needs.specs.Needs.{locals_exceed}
 
 -- ---- the limit of 67,108,864 bytes
-
-abbrev pub locals_exceed : List CType → FunDef → Bool
-locals_exceed types f = nat_lt size_limit (room_of (local_needs types f))
 
 abbrev pub data_room : Typed → ℕ
 data_room p = room_of (map (global_need p.types) p.globals) + room_of (map literal_need p.literals)

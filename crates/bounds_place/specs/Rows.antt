@@ -1,25 +1,8 @@
 -- Objects one behind the other.
-use Rattle.std.specs.Prelude.{ℕ, ◌+◌, ◌-◌, ◌^◌, min, List, [], ◌∷◌}
+use Rattle.std.specs.Prelude.{ℕ, ◌+◌, List, [], ◌∷◌}
 use Rattle.cap_concentrate.specs.Rounding.{rounded_up}
-use Rattle.obj_mem.specs.Legal.{ObjectNeed, owned_of, alignment_of}
-use Rattle.cap_layout.specs.declared.answers.Owned.{Owned}
-use Rattle.bounds_place.specs.declared.needs.Need.{Need}
-
--- the owned length and the alignment that an object asks for
-abbrev pub need : ObjectNeed → Need
-need n = record { owned = owned_of n; align = alignment_of n }
-
--- the same, as the frames of functions count it
-abbrev pub owned_need : ObjectNeed → Owned
-owned_need n = record { length = owned_of n; align = alignment_of n }
-
--- what it takes at most, wherever it stands
-abbrev pub room : Need → ℕ
-room n = n.owned + n.align
-
--- a sum as 64 bits count it: it stops at their greatest number
-abbrev pub counted : ℕ → ℕ
-counted n = min n (2 ^ 64 - 1)
+use Rattle.program_needs.specs.declared.needs.Need.{Need}
+pub use Rattle.program_needs.specs.Needs.{need, owned_need, room, counted}
 
 -- the first place for an object that is not before `next`, and the end of the object there
 abbrev pub place_of : ℕ → Need → ℕ

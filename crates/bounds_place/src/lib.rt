@@ -6,11 +6,9 @@
 //! Main lemmas (`proofs/`): `Legal`, `Steps`.
 #![tactic(auto)]
 
-mod needs;
 mod placing;
 mod rows;
 mod sizes;
 
-pub use needs::local_needs;
 pub use placing::{exceeds_limit, place};
 pub use sizes::{Sizes, USUAL, is_heap, is_stack};

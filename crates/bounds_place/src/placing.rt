@@ -10,7 +10,6 @@ ghost use Rattle.bounds_place.specs.Parts.{IsTable, AreData, HasParts};
 ghost use Rattle.bounds_place.specs.Placing.{data_room, exceeds, IsRefusal, AreOffsets, IsPlacing};
 ghost use Rattle.bounds_place.specs.Sizes.{in_range};
 
-use crate::needs::{LIMIT, Need, global_needs, literal_needs, room, some_locals_exceed};
 use crate::rows::row;
 use crate::sizes::Sizes;
 use c_tree::Typed;
@@ -18,6 +17,7 @@ use cap_concentrate::rounded_length;
 use cap_layout::Layouts;
 use ck_base::{Pos, Refusal, Sequence};
 use obj_mem::{Frame, Map, Slot};
+use program_needs::{LIMIT, Need, global_needs, literal_needs, room, some_locals_exceed};
 use std::alloc::{AllocError, Global};
 
 /// Where the heap begins, which has the stack behind it.

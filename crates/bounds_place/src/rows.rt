@@ -3,7 +3,7 @@ ghost use Rattle.std.specs.Prelude.{◌≡◌, ◌+◌, ◌^◌, ◌<◌, ◌≤
 ghost use Rattle.cap_concentrate.specs.Rounding.{rounded_up};
 ghost use Rattle.bounds_place.specs.Rows.{room, bases_from, end_from};
 
-use crate::needs::Need;
+use program_needs::Need;
 use std::alloc::{AllocError, Global};
 
 /// The places of objects, and their end.

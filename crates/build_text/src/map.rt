@@ -3,7 +3,6 @@
 ghost use Rattle.std.specs.Prelude.{◌≡◌, List, ◌++◌, ◌<◌, ◌≤◌, ◌^◌, length, slice_get, Some, OnOk, IfOk, codes};
 ghost use Rattle.std.specs.Prelude.{decimal};
 ghost use Rattle.std.specs.List.{filter};
-ghost use Rattle.cap_concentrate.specs.Rounding.{owned};
 ghost use Rattle.c_tree.specs.declared.typed.CType.{CType};
 ghost use Rattle.cap_layout.specs.Kept.{AreLayoutsOf};
 ghost use Rattle.obj_mem.specs.Legal.{owned_of};
@@ -13,11 +12,11 @@ ghost use Rattle.build_text.specs.Map.{name_at, pos_text, pair_end, part_line, f
 ghost use Rattle.build_text.specs.Map.{literal_line, slot_line, slot_line_of, frame_lines, map_text};
 
 use c_tree::{FunDef, GlobalDef, Literal, Typed, VarDef};
-use cap_concentrate::rounded_length;
 use cap_layout::Layouts;
 use ck_base::{NoMemory, Pos, Span};
 use itoa::Buffer;
 use obj_mem::{Frame, Map, Slot};
+use program_needs::{owned_by, owned_length};
 use std::alloc::Global;
 
 /// The bytes of a name, as far as they stand in the file.
@@ -128,25 +127,6 @@ fn push_functions(
         push_function_at(into, file, functions, entries, k)?;
     }
     Ok(())
-}
-
-/// The owned length of a length.
-fn owned_length(length: u64) -> u64
-    requires { length < 2 ^ 63 }
-    ensures { result ≡ owned length }
-{
-    rounded_length(length)
-}
-
-/// The owned length of a global.
-fn owned_by(layouts: &Layouts, p: &Typed, global: &GlobalDef) -> u64
-    requires { AreLayoutsOf p.now.types layouts.now }
-    ensures { result ≡ owned_of (global_need p.now.types global.now) }
-{
-    match layouts.layout(p, global.of) {
-        Ok(layout) => owned_length(layout.size),
-        Err(_) => owned_length(0),
-    }
 }
 
 /// Appends the line of a global of this length, with its base.

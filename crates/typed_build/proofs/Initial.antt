@@ -9,7 +9,7 @@ use Rattle.c_tree.specs.declared.typed.FunDef.{FunDef}
 use Rattle.c_tree.specs.declared.typed.Typed.{Typed}
 use Rattle.cap_concentrate.specs.Rounding.{owned}
 use Rattle.cap_concentrate.proofs.Owned.{owned_short, owned_near}
-use Rattle.bounds_place.proofs.Lengths.{alignment_most}
+use Rattle.program_needs.proofs.Lengths.{alignment_most}
 use Rattle.obj_mem.specs.Legal.{AllInRange, AreApart, objects_of}
 use Rattle.obj_mem.specs.Needs.{Legal, global_need, literal_need, weight_in, function_needs}
 use Rattle.obj_mem.specs.Table.{table_length, entry_count}

@@ -12,7 +12,6 @@ pub mod Framing
 pub mod Coding
 pub mod Contained
 pub mod ContainedCode
-pub mod Counting
 pub mod Growing
 pub mod Checked
 pub mod SameBuilt

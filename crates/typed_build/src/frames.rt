@@ -9,11 +9,11 @@ ghost use Rattle.tac_ir.specs.Within.{FunctionCosts};
 ghost use Rattle.tac_ir.specs.declared.code.TacFun.{TacFun as Function};
 ghost use Rattle.typed_build.specs.Frames.{HasHomes, HaveHomes, FrameFits, FramesFit};
 
-use bounds_place::local_needs;
 use c_tree::{FunDef, Typed};
 use cap_layout::Layouts;
 use ck_base::NoMemory;
 use obj_mem::Frame;
+use program_needs::local_needs;
 use purecap_abi::frame;
 use reg_alloc::Places;
 use std::alloc::Global;

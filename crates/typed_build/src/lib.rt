@@ -8,7 +8,6 @@
 #![tactic(auto)]
 
 mod building;
-mod counts;
 mod frames;
 mod homes;
 mod image;

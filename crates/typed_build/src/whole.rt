@@ -13,7 +13,6 @@ ghost use Rattle.typed_build.specs.Programs.{HasProgram};
 ghost use Rattle.typed_build.specs.Registers.{HavePlaces, UsesRegisters};
 
 use crate::building::Built;
-use crate::counts::count_of;
 use crate::frames::frames_of;
 use crate::homes::places_of;
 use crate::written::{Selected, Written, write_program};
@@ -22,6 +21,7 @@ use c_tree::Typed;
 use cap_layout::Layouts;
 use ck_base::{NoMemory, Refusal};
 use image_starts::images_fit;
+use program_needs::count_of;
 use reg_alloc::Places;
 use rv_select::{Items, select};
 use std::alloc::Global;

@@ -1,7 +1,7 @@
 use Rattle.std.proofs.Common.{◌≡◌, take}
 use Rattle.std.specs.Prelude.{sum_by}
-use Rattle.bounds_place.specs.Rows.{room, counted}
-use Rattle.bounds_place.proofs.needs.room.Given as goal
+use Rattle.program_needs.specs.Needs.{room, counted}
+use Rattle.program_needs.proofs.needs.room.Given as goal
 
 abbrev pub invariant-loop-n : goal.invariant-loop-n
 invariant-loop-n l = l.total ≡ counted (sum_by room (take l.n-index l.needs))

@@ -1,9 +1,9 @@
 use Rattle.std.proofs.Common.{ap, ◌∙◌}
 use Rattle.std.specs.Prelude.{sum_by}
 use Rattle.std.proofs.lemmas.List.{take_all}
-use Rattle.bounds_place.specs.Rows.{counted}
-use Rattle.bounds_place.proofs.Locals.{var_room, sum_locals}
-use Rattle.bounds_place.proofs.needs.local_room.Goals as goal
+use Rattle.program_needs.specs.Needs.{counted}
+use Rattle.program_needs.proofs.Locals.{var_room, sum_locals}
+use Rattle.program_needs.proofs.needs.local_room.Goals as goal
 
 pub returns : goal.returns
 returns c =

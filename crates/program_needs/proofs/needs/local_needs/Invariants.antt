@@ -1,8 +1,8 @@
 use Rattle.std.proofs.Common.{◌≡◌, take, map}
 use Rattle.std.specs.List.{filter}
 use Rattle.obj_mem.specs.Needs.{local_need, is_object}
-use Rattle.bounds_place.specs.Rows.{owned_need}
-use Rattle.bounds_place.proofs.needs.local_needs.Given as goal
+use Rattle.program_needs.specs.Needs.{owned_need}
+use Rattle.program_needs.proofs.needs.local_needs.Given as goal
 
 abbrev pub invariant-loop-v : goal.invariant-loop-v
 invariant-loop-v l = l.needs.items ≡ map owned_need

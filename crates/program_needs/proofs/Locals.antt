@@ -7,7 +7,7 @@ use Rattle.c_tree.specs.declared.typed.CType.{CType}
 use Rattle.c_tree.specs.declared.typed.VarDef.{VarDef}
 use Rattle.obj_mem.specs.Legal.{room_of}
 use Rattle.obj_mem.specs.Needs.{local_need, is_object}
-use Rattle.bounds_place.specs.Rows.{need, room}
+use Rattle.program_needs.specs.Needs.{need, room}
 
 -- what a local takes at most
 abbrev pub var_room : List CType → VarDef → ℕ

@@ -1,16 +1,16 @@
-// What objects ask of their places.
+//! What objects ask of their places.
+
 ghost use Rattle.std.specs.Prelude.{◌≡◌, ℕ, ◌+◌, ◌^◌, ◌<◌, ◌≤◌, ◌≡◌, map, OnOk, IfOk, sum_by, nat_lt, length};
 ghost use Rattle.std.specs.List.{list_any};
 ghost use Rattle.cap_concentrate.specs.Rounding.{alignment, owned};
 ghost use Rattle.c_tree.specs.Layout.{object_alignment, size_limit};
 ghost use Rattle.cap_layout.specs.Answers.{greatest_align};
 ghost use Rattle.cap_layout.specs.Kept.{AreLayoutsOf};
-ghost use Rattle.obj_mem.specs.Legal.{room_of};
+ghost use Rattle.obj_mem.specs.Legal.{room_of, owned_of};
 ghost use Rattle.obj_mem.specs.Needs.{need_of, global_need, literal_need, local_needs};
-ghost use Rattle.bounds_place.specs.Rows.{need, room, counted, owned_need};
-ghost use Rattle.bounds_place.specs.Placing.{data_room, locals_exceed, exceeds};
+ghost use Rattle.program_needs.specs.Needs.{need, room, counted, owned_need, locals_exceed};
 
-use c_tree::{FunDef, Typed};
+use c_tree::{FunDef, GlobalDef, Typed};
 use cap_concentrate::{alignment_mask, rounded_length};
 use cap_layout::{Layouts, Owned};
 use std::alloc::{AllocError, Global};
@@ -35,9 +35,9 @@ fn alignment_of(length: u64) -> u64
     !alignment_mask(length) + 1
 }
 
-// The owned length of a length.
+/// The owned length of a length.
 #[tactic(auto, using(crate::proofs::Lengths::owned_fits))]
-fn owned_of(length: u64) -> u64
+pub fn owned_length(length: u64) -> u64
     requires { length < 2 ^ 63 }
     ensures { result ≡ owned length }
 {
@@ -51,7 +51,7 @@ fn need_for(length: u64, align: u64) -> Need
     ensures align { result.align ≡ object_alignment align length }
 {
     Need {
-        owned: owned_of(length),
+        owned: owned_length(length),
         align: align.max(alignment_of(length)).max(16),
     }
 }
@@ -64,6 +64,17 @@ fn need_of(layouts: &Layouts, p: &Typed, t: u32) -> Need
     match layouts.layout(p, t) {
         Ok(l) => need_for(l.size, l.align),
         Err(_) => need_for(0, 1),
+    }
+}
+
+/// The owned length of a global.
+pub fn owned_by(layouts: &Layouts, p: &Typed, global: &GlobalDef) -> u64
+    requires { AreLayoutsOf p.now.types layouts.now }
+    ensures { result ≡ owned_of (global_need p.now.types global.now) }
+{
+    match layouts.layout(p, global.of) {
+        Ok(layout) => owned_length(layout.size),
+        Err(_) => owned_length(0),
     }
 }
 
