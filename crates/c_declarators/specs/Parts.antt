@@ -22,7 +22,7 @@ use Rattle.c_expressions.specs.Nodes.{type_in, type_count}
 use Rattle.c_elaborator.specs.declared.work.Work.{Work}
 use Rattle.c_elaborator.specs.declared.work.Name.{Name}
 use Rattle.c_elaborator.specs.Parts.{token_of}
-pub use Rattle.c_constants.specs.Constants.{in_any, ConstantThere, IsConstant, CountThere, IsCount}
+pub use Rattle.c_plain_rules.specs.Constants.{in_any, ConstantThere, IsConstant, CountThere, IsCount}
 use Rattle.c_declarators.specs.declared.parts.Specified.{Specified}
 use Rattle.c_declarators.specs.declared.parts.Param.{Param}
 use Rattle.c_declarators.specs.declared.parts.Prototype.{Prototype}

@@ -11,7 +11,7 @@ use Rattle.c_tree.specs.Scopes.{give, need, look, some_or, ◌>>=◌, ◌>>◌}
 use Rattle.c_tree.specs.Readings.{Storage, Plain, Internal, External, Defining_type, Specified, Wrap}
 use Rattle.c_tree.specs.Declarators as meant
 use Rattle.c_tree.specs.Declarators.{formed, judge, Formed}
-pub use Rattle.c_constants.specs.Constants.{constant, array_length}
+pub use Rattle.c_plain_rules.specs.Constants.{constant, array_length}
 use Rattle.c_declarators.specs.declared.parts.Derived.{Derived}
 use Rattle.c_declarators.specs.declared.words.Words.{Words}
 use Rattle.c_declarators.specs.Words.{type_words, storage_words, word_type}

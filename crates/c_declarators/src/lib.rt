@@ -1,7 +1,7 @@
 //! What declaration specifiers, tags, enumerators, declarators, members and parameters make of their parts (C11 6.7).
 //!
 //! Promise: each gives what the definition's rule gives, or the first refusal.
-//! Definitions (`specs/`): `Declarators` of `c_tree`; `Constants` of `c_constants`; here `Steps`, `Forming`.
+//! Definitions (`specs/`): `Declarators` of `c_tree`; `Constants` of `c_plain_rules`; here `Steps`, `Forming`.
 //! Main lemmas (`proofs/`): `Deriving`, `Tagging`.
 #![tactic(auto)]
 
@@ -18,7 +18,7 @@ mod tags;
 mod typing;
 mod words;
 
-pub use c_constants::{Constant, array_length, constant_value};
+pub use c_plain_rules::{Constant, array_length, constant_value};
 pub use forming::{adjusted, form};
 pub use judging::judge;
 pub use members::{Members, add_member};

@@ -20,7 +20,7 @@ use Rattle.c_copy.specs.Copying.{AreNumbers}
 use Rattle.c_copy.proofs.Renumbering.{actions_renumbered}
 use Rattle.c_passing.specs.Routines.{IsPassedProgram}
 use Rattle.c_finish.specs.declared.file_end.Parts.{Parts}
-use Rattle.c_file_rules.specs.MainFunction.{IsMain}
+use Rattle.c_plain_rules.specs.MainFunction.{IsMain}
 use Rattle.c_finish.specs.Finished.{IsFinished, Finished, IsShown, IsWritten, IsSyntax, IsProgram, HaveNumbers}
 use Rattle.c_finish.specs.Finished.{AreObjects, AreRoutines, program_with, IsAssembled, AreParts, EndsIn}
 use Rattle.c_finish.proofs.Bodies.{BodiesIn}

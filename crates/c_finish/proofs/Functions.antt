@@ -20,8 +20,8 @@ use Rattle.c_elaborator.specs.declared.work.Work.{Work}
 use Rattle.c_elaborator.specs.declared.work.Definition.{Definition}
 use Rattle.c_elaborator.specs.Work.{Shows, Seen, option_seen, body_seen, seen_of, definition_of}
 use Rattle.c_copy.proofs.Items.{get-push}
-use Rattle.c_file_rules.proofs.Backwards.{at_some}
-use Rattle.c_file_rules.proofs.Shown.{IsFunction}
+use Rattle.c_plain_rules.proofs.Backwards.{at_some}
+use Rattle.c_plain_rules.proofs.Shown.{IsFunction}
 use Rattle.c_finish.specs.Finished.{new_actions, AreRoutines, IsRoutine, BodiesThere}
 use Rattle.c_finish.proofs.Globals.{flat_taken}
 

@@ -19,8 +19,8 @@ use Rattle.c_elaborator.specs.declared.work.Filling.{Filling}
 use Rattle.c_elaborator.specs.declared.work.Work.{Work}
 use Rattle.c_elaborator.specs.Work.{Shows, aiming_of, filling_of}
 use Rattle.c_elaborator.specs.Work as works
-use Rattle.c_file_rules.proofs.Backwards.{at_some}
-use Rattle.c_file_rules.proofs.Shown.{static_is, statics_count}
+use Rattle.c_plain_rules.proofs.Backwards.{at_some}
+use Rattle.c_plain_rules.proofs.Shown.{static_is, statics_count}
 use Rattle.c_finish.specs.Finished.{filled, IsShown, IsFaultless, IsNear, AreNear}
 use Rattle.c_finish.specs.Tables.{last_filling}
 

@@ -24,7 +24,7 @@ use Rattle.c_copy.specs.declared.numbers.Numbers.{Numbers}
 use Rattle.c_copy.specs.Copying.{AreNumbers, expr_with}
 use Rattle.c_copy.specs.Standing.{ActionStands}
 use Rattle.c_passing.specs.Passes.{VarWithin, FormWithin}
-use Rattle.c_file_rules.specs.MainFunction.{IsMain}
+use Rattle.c_plain_rules.specs.MainFunction.{IsMain}
 use Rattle.c_finish.specs.declared.file_end.Parts.{Parts}
 
 -- the lists stand for the program that the file is

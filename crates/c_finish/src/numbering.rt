@@ -4,12 +4,12 @@ ghost use Rattle.std.specs.Prelude.{IfOk, ◌≡◌, ◌+◌, ◌<◌, ℕ, leng
 ghost use Rattle.c_tree.specs.Scopes.{State};
 ghost use Rattle.c_tree.specs.Programs.{numbers_of, is_there};
 ghost use Rattle.c_elaborator.specs.Work.{Shows, definition_of};
-ghost use Rattle.c_file_rules.specs.Tables.{HasDefinitions};
+ghost use Rattle.c_plain_rules.specs.Tables.{HasDefinitions};
 ghost use Rattle.c_finish.specs.Finished.{HaveNumbers};
 
 use c_copy::Numbers;
 use c_elaborator::Work;
-use c_file_rules::{count, definition};
+use c_plain_rules::{count, definition};
 use ck_base::NoMemory;
 
 fn one_more(test: bool, n: u32) -> u32

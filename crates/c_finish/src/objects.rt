@@ -17,7 +17,7 @@ ghost use Rattle.c_finish.specs.Tables.{HasFillings};
 use crate::tables::filling;
 use c_copy::Numbers;
 use c_elaborator::{Bounds, Filling, Start, Work};
-use c_file_rules::{count, global_at};
+use c_plain_rules::{count, global_at};
 use c_tree::{GlobalDef, Link};
 use ck_base::{NoMemory, Sequence};
 

@@ -3,12 +3,12 @@
 ghost use Rattle.std.specs.Prelude.{◌≡◌, ◌<◌, Some, IfOk, OnOk, length};
 ghost use Rattle.c_tree.specs.Scopes.{State};
 ghost use Rattle.c_elaborator.specs.Work.{Shows};
-ghost use Rattle.c_file_rules.specs.Tables.{HasDefinitions};
+ghost use Rattle.c_plain_rules.specs.Tables.{HasDefinitions};
 ghost use Rattle.c_finish.specs.Finished.{IsShown, AreRoutines, IsRoutine, AddsRoutine, BodiesThere};
 ghost use Rattle.c_elaborator.specs.Work.{definition_of};
 
 use c_elaborator::{Definition, Work};
-use c_file_rules::{count, definition, function_at};
+use c_plain_rules::{count, definition, function_at};
 use c_tree::{FunDef, VarDef};
 use ck_base::{NoMemory, Sequence};
 use std::alloc::Global;

@@ -3,12 +3,12 @@
 
 ghost use Rattle.std.specs.Prelude.{◌≡◌, ◌<◌, Some, IfOk, None, length, option_map, slice_set, slice_get};
 ghost use Rattle.c_elaborator.specs.Work.{UseIsThere};
-ghost use Rattle.c_file_rules.specs.Tables.{AreUses, HasDefinitions};
+ghost use Rattle.c_plain_rules.specs.Tables.{AreUses, HasDefinitions};
 ghost use Rattle.c_finish.specs.Finished.{IsShown};
 ghost use Rattle.c_finish.specs.Tables.{HasFillings, last_filling, IsBlank, AddsUse};
 
 use c_elaborator::{Filling, Use, Used, Work};
-use c_file_rules::{Uses, count, definition_at, entry};
+use c_plain_rules::{Uses, count, definition_at, entry};
 use ck_base::{NoMemory, Pos};
 use std::alloc::Global;
 

@@ -28,21 +28,21 @@ use Rattle.c_expressions.proofs.Keeping as keeping
 use Rattle.c_expressions.specs.Answers.{Given, Refuses}
 use Rattle.c_initializers.specs.declared.slots.Slot.{Slot}
 use Rattle.c_initializers.specs.declared.slots.Filled.{Filled}
-use Rattle.c_object_parts.specs.declared.members.Place.{Place}
+use Rattle.c_plain_rules.specs.declared.members.Place.{Place}
 use Rattle.c_initializers.specs.declared.covering.Extent.{Extent}
 use Rattle.c_initializers.specs.Covering.{covers_place}
 use Rattle.c_initializers.specs.Slots.{slot_in, slots_in, IsSlotThere, AreSlotsThere, HasSlots, AddsSlots, chosen}
 use Rattle.c_initializers.specs.Slots.{place_of, extent_of, scalars_given, IsFilledIn, string_filled, begins_at}
 use Rattle.c_initializers.specs.Slots.{is_needed, needed}
 use Rattle.c_initializers.specs.Slots.{HaveExtents, every_slot_of, SlotsThere, AreSlots}
-use Rattle.c_object_parts.specs.Members.{ArePartsOf}
+use Rattle.c_plain_rules.specs.Members.{ArePartsOf}
 use Rattle.c_elaborator.specs.declared.work.Work.{Work}
 use Rattle.c_elaborator.specs.Answers.{Done, Quiet, quietly}
 use Rattle.c_elaborator.specs.Work.{Shows}
 use Rattle.c_elaborator.proofs.Growing.{quiet_nodes, shows_nodes}
 use Rattle.c_elaborator.proofs.Sequencing.{still_same}
 use Rattle.std.specs.Global.{Vec}
-use Rattle.c_object_parts.proofs.MemberLaws.{drop-next, shifted, slice_get-map}
+use Rattle.c_plain_rules.proofs.MemberLaws.{drop-next, shifted, slice_get-map}
 
 -- ---- values that stay while the nodes grow
 

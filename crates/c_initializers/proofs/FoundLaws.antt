@@ -14,7 +14,7 @@ use Rattle.c_tree.specs.Statics as statics
 use Rattle.c_tree.specs.Statics.{Number, There, Entry, nothing_found, known_value, ask_for, start_slot, start_slots}
 use Rattle.c_initializers.specs.Found.{Start, with_found, found_of, pendings, asked_of, all_asked, AddsFound, Waits}
 use Rattle.c_initializers.specs.Found.{FoundThere, IsFound, found_seen}
-use Rattle.c_object_parts.proofs.MemberLaws.{drop-next}
+use Rattle.c_plain_rules.proofs.MemberLaws.{drop-next}
 use Rattle.c_tree.specs.declared.typed.Typed.{Typed}
 use Rattle.c_types.specs.declared.scopes.Scopes.{Scopes}
 use Rattle.c_types.specs.Stands.{Stands}
@@ -26,9 +26,9 @@ use Rattle.c_elaborator.specs.Answers.{Done, Keeps, freely}
 use Rattle.c_tree.specs.Scopes.{Aiming, size}
 use Rattle.c_expressions.specs.declared.nodes.Nodes.{Nodes}
 use Rattle.c_initializers.specs.declared.slots.Slot.{Slot}
-use Rattle.c_object_parts.specs.declared.bytes.Placed.{Placed}
+use Rattle.c_plain_rules.specs.declared.bytes.Placed.{Placed}
 use Rattle.c_initializers.specs.declared.starts.Value.TheVariants as values
-use Rattle.c_object_parts.specs.Placing.{placed_of}
+use Rattle.c_plain_rules.specs.Placing.{placed_of}
 use Rattle.c_initializers.specs.Starts.{start_of as value_start}
 use Rattle.c_initializers.specs.declared.starts.Known.{Known}
 use Rattle.c_initializers.specs.declared.statics.Found.{Found}

@@ -19,12 +19,12 @@ use Rattle.c_node_facts.specs.declared.classes.Class.{Class}
 use Rattle.c_node_facts.specs.declared.classes.Class.TheVariants as classes
 use Rattle.c_expressions.specs.Classes.{class_type}
 use Rattle.c_elaborator.specs.declared.work.Work.{Work}
-use Rattle.c_object_parts.specs.declared.members.Place.{Place}
-use Rattle.c_object_parts.specs.declared.members.Record.{Record}
+use Rattle.c_plain_rules.specs.declared.members.Place.{Place}
+use Rattle.c_plain_rules.specs.declared.members.Record.{Record}
 use Rattle.c_initializers.specs.Places.{stripped, AreNear}
-use Rattle.c_object_parts.specs.Members.{place_in, members_of, IsRecordOf, IsClose}
-use Rattle.c_object_parts.proofs.MemberLaws.{slice_get-map}
-pub use Rattle.c_object_parts.proofs.MemberLaws.{drop-next}
+use Rattle.c_plain_rules.specs.Members.{place_in, members_of, IsRecordOf, IsClose}
+use Rattle.c_plain_rules.proofs.MemberLaws.{slice_get-map}
+pub use Rattle.c_plain_rules.proofs.MemberLaws.{drop-next}
 use Rattle.c_initializers.specs.declared.places.Places.TheVariants.{Elements, Members, Alone}
 
 -- ---- types without the words `const` before them

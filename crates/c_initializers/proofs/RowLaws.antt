@@ -16,14 +16,14 @@ use Rattle.c_node_facts.specs.declared.classes.Class.TheVariants as classes
 use Rattle.c_expressions.specs.Classes.{class_type}
 use Rattle.c_elaborator.specs.declared.work.Work.{Work}
 use Rattle.c_elaborator.specs.Work.{Shows}
-use Rattle.c_object_parts.specs.declared.members.Place.{Place}
+use Rattle.c_plain_rules.specs.declared.members.Place.{Place}
 use Rattle.c_initializers.specs.declared.scalars.Row.{Row}
-use Rattle.c_object_parts.specs.Members.{place_in, IsPlaceThere, IsTagCount}
+use Rattle.c_plain_rules.specs.Members.{place_in, IsPlaceThere, IsTagCount}
 use Rattle.c_initializers.specs.Rows.{IsRowThere, row_scalars, rows_scalars, row_steps, rows_steps, AddsRows, Walks}
 use Rattle.c_initializers.specs.declared.covering.Extent.{Extent}
 use Rattle.c_initializers.specs.Slots.{is_needed, needed}
 use Rattle.c_initializers.proofs.StepLaws.{steps-push}
-use Rattle.c_object_parts.proofs.MemberLaws.{drop-next}
+use Rattle.c_plain_rules.proofs.MemberLaws.{drop-next}
 use Rattle.c_initializers.proofs.PlaceLaws.{scalars-all, all-none}
 
 pub first-part : (n step at : ℕ) (f : ℕ → List (ℕ × Ty)) → 0 < n →

@@ -15,7 +15,7 @@ use Rattle.c_elaborator.specs.Work.{Shows, aiming_of, pending_of}
 use Rattle.c_initializers.specs.declared.slots.Slot.{Slot}
 use Rattle.c_initializers.specs.declared.starts.Known.{Known}
 use Rattle.c_initializers.specs.declared.statics.Found.{Found}
-use Rattle.c_object_parts.specs.Placing.{placed_of}
+use Rattle.c_plain_rules.specs.Placing.{placed_of}
 use Rattle.c_initializers.specs.Slots.{slot_in, slots_in}
 use Rattle.c_initializers.specs.Starts.{known_of}
 

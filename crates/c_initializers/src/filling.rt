@@ -17,7 +17,7 @@ use crate::sizes::size_of;
 use crate::slots::Slot;
 use c_elaborator::Work;
 use c_expressions::{Class, Leaf, Nodes};
-use c_object_parts::Place;
+use c_plain_rules::Place;
 use ck_base::{NoMemory, Pos, Refusal};
 
 /// How many scalars lists and strings may initialise in locals.

@@ -17,7 +17,7 @@ use crate::sizes::size_of;
 use crate::starts::{Known, Pointer, Value, is_exact, is_near};
 use c_elaborator::{Bounds, Work};
 use c_expressions::Class;
-use c_object_parts::{Place, all_members, record_of};
+use c_plain_rules::{Place, all_members, record_of};
 use c_tree::{RecordKind, Target};
 use cap_layout::owned;
 use ck_base::NoMemory;

@@ -23,7 +23,7 @@ use crate::slots::{Filled, Slot};
 use crate::statics::{Found, pointers_end, start_slots};
 use c_elaborator::{Filling, Name, Start, Work};
 use c_expressions::Nodes;
-use c_object_parts::initial_bytes;
+use c_plain_rules::initial_bytes;
 use ck_base::{NoMemory, Pos, Refusal};
 
 // An object of static storage duration gets another type.

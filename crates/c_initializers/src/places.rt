@@ -7,7 +7,7 @@ ghost use Rattle.c_initializers.specs.Places.{place_at, ArePlaces};
 use crate::sizes::{size_of, stripped};
 use c_elaborator::Work;
 use c_expressions::Class;
-use c_object_parts::{Place, first_members};
+use c_plain_rules::{Place, first_members};
 use ck_base::NoMemory;
 
 /// The parts that the items of a list in braces initialise, one after another.

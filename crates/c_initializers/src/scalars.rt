@@ -5,7 +5,7 @@ ghost use Rattle.c_tree.specs.Initializers.{scalars, scalars_of, tag_scalars, re
 ghost use Rattle.c_tree.specs.Types.{Tagged};
 ghost use Rattle.c_expressions.specs.Nodes.{IsWhole, type_in, type_count};
 ghost use Rattle.c_initializers.specs.Covering.{IsCursor, StaysCursor};
-ghost use Rattle.c_object_parts.specs.Members.{ArePartsOf};
+ghost use Rattle.c_plain_rules.specs.Members.{ArePartsOf};
 ghost use Rattle.c_initializers.specs.Rows.{Fits, IsRowThere, row_scalars, type_steps, row_steps, AddsRows, Walks};
 ghost use Rattle.c_initializers.specs.Sizes.{IsSized};
 ghost use Rattle.c_initializers.specs.Slots.{is_needed, needed};
@@ -14,7 +14,7 @@ use crate::covering::{Cursor, Extent};
 use crate::sizes::size_of;
 use c_elaborator::Work;
 use c_expressions::Class;
-use c_object_parts::{Place, all_members, tag_count};
+use c_plain_rules::{Place, all_members, tag_count};
 use ck_base::NoMemory;
 
 /// Parts of one type at equal distances, the scalars of which are to be listed.

@@ -9,7 +9,7 @@ ghost use Rattle.c_elaborator.specs.Answers.{Answers, freely};
 ghost use Rattle.c_elaborator.specs.Work.{Shows, aiming_of, pending_of};
 ghost use Rattle.c_initializers.specs.Found.{FoundThere, IsFound, Knows, AddsFound, Waits, found_seen, found_of};
 ghost use Rattle.c_initializers.specs.Found.{asked_of, pendings};
-ghost use Rattle.c_object_parts.specs.Placing.{pointers_end};
+ghost use Rattle.c_plain_rules.specs.Placing.{pointers_end};
 ghost use Rattle.c_initializers.specs.Slots.{AreSlotsThere, slot_in, slots_in};
 ghost use Rattle.c_initializers.specs.Starts.{known_of};
 
@@ -18,7 +18,7 @@ use crate::sizes::size_of;
 use crate::slots::Slot;
 use crate::starts::{Known, Value};
 use c_elaborator::{Bounds, Start, Waiting, Work};
-use c_object_parts::Placed;
+use c_plain_rules::Placed;
 use c_tree::Target;
 use ck_base::{NO_CONSTANT, NoMemory, Pos, Refusal};
 

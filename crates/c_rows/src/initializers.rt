@@ -1,6 +1,6 @@
 //! The bytes with which objects of static storage duration begin.
 
-use c_object_parts::{Placed, initial_bytes};
+use c_plain_rules::{Placed, initial_bytes};
 use std::alloc::Global;
 
 const NUMBERS: [Placed; 3] = [

@@ -39,8 +39,8 @@ use Rattle.c_elaborator.proofs.Sequencing.{quiet_law, free_law, freed, then as a
 use Rattle.c_elaborator.proofs.Sequencing.{answers_at}
 use Rattle.c_elaborator.proofs.Sequencing.{keeps_then, still_same, need_true}
 use Rattle.c_elaborator.specs.declared.items.Items.{Items}
-use Rattle.c_control.specs.declared.loops.Head.{Head}
-use Rattle.c_control.specs.declared.switches.Cases.{Cases}
+use Rattle.c_plain_rules.specs.declared.loops.Head.{Head}
+use Rattle.c_plain_rules.specs.declared.switches.Cases.{Cases}
 use Rattle.c_statements.specs.declared.labels.Controlling.{Controlling}
 use Rattle.c_elaborator.specs.Items.{ValuesThere, ActionThere, ActionsThere, IsOnlyAction, ItemsThere, OnlyThere}
 use Rattle.c_elaborator.specs.Items.{IsItems}
@@ -49,7 +49,7 @@ use Rattle.c_statements.specs.Statements.{evaluate_one, IsJump, jump_form, jumpi
 use Rattle.c_statements.specs.Statements.{IsMaybe, maybe_term, HeadThere, IsHead, head_in, ForHead, SwitchedOn}
 use Rattle.c_statements.specs.Statements.{IsPromoted, SwitchedThere, IsSwitched, switched_on, CasesThere, IsCases}
 use Rattle.c_statements.specs.Statements.{cases_in}
-use Rattle.c_control.specs.Control.{for_of, switch_of}
+use Rattle.c_plain_rules.specs.Control.{for_of, switch_of}
 use Rattle.c_elaborator.proofs.Going.{none_there, one_there, then_from, items_kept, actions_there, term_there}
 
 -- the statement of a kind is added to this work

@@ -23,10 +23,10 @@ use Rattle.c_elaborator.specs.declared.work.Work.{Work}
 use Rattle.c_elaborator.specs.Answers.{Done, Answers, quietly, freely, action_in}
 use Rattle.c_elaborator.specs.Parts.{IsPart, AreParts}
 use Rattle.c_elaborator.proofs.Sequencing.{free_law, freed, then, failed, gave, answers_at, need_true, need_false}
-use Rattle.c_control.specs.declared.switches.Cases.{Cases}
+use Rattle.c_plain_rules.specs.declared.switches.Cases.{Cases}
 use Rattle.c_elaborator.specs.declared.items.Items.{Items}
 use Rattle.c_elaborator.specs.Items.{ActionsThere, ItemsThere, IsItems, items_in}
-use Rattle.c_control.specs.Control.{AddsLabel, labels_in}
+use Rattle.c_plain_rules.specs.Control.{AddsLabel, labels_in}
 use Rattle.c_statements.specs.Statements.{LabelThere, IsLabel, CasesThere, IsCases, cases_in}
 use Rattle.c_statements.proofs.Gather.{items_joined, there_both}
 use Rattle.c_elaborator.proofs.Going.{then_from, items_kept, actions_there}

@@ -25,7 +25,7 @@ use crate::four::{FourParts, four};
 use crate::heads::for_head;
 use crate::labels::{labelled, switched};
 use crate::simple::{evaluate, jump, return_at, test};
-use c_control::{Cases, for_kind, in_a_loop, in_a_switch, switch_kind, with_items};
+use c_plain_rules::{Cases, for_kind, in_a_loop, in_a_switch, switch_kind, with_items};
 use c_elaborator::{Context, Items, Work, does, enter, join, leave, no_items};
 use c_readings::{first_of, node_at, only, three, two};
 use c_tree::{Node, NodeKind, StmtKind};

@@ -1,6 +1,6 @@
 use Rattle.std.proofs.Common.{refl, subst}
 use Rattle.c_tree.specs.Passed.{call_name, calls_in}
-use Rattle.c_file_rules.specs.MainFunction.{IsMain}
+use Rattle.c_plain_rules.specs.MainFunction.{IsMain}
 use Rattle.c_finish.proofs.Ending.{no_main}
 use Rattle.c_finish.proofs.file_end.ending.Goals as goal
 

@@ -1,7 +1,7 @@
 use Rattle.std.proofs.Common.{◌∙◌, sym, ap}
 use Rattle.c_tree.specs.Passed.{call_name, calls_in}
 use Rattle.c_tree.specs.Programs.{ended}
-use Rattle.c_file_rules.specs.Faults.{found}
+use Rattle.c_plain_rules.specs.Faults.{found}
 use Rattle.c_finish.proofs.Ending.{ends_without_fault}
 use Rattle.c_finish.proofs.file_end.parts_at_end.Goals as goal
 

@@ -1,8 +1,8 @@
 use Rattle.std.proofs.Common.{◌≡◌, ◌<◌, length, sym, ap, ◌∙◌, arith}
 use Rattle.c_tree.specs.Scopes.{RoutineState}
 use Rattle.c_tree.specs.Programs.{numbers_of, is_there}
-use Rattle.c_file_rules.proofs.Backwards.{at_some}
-use Rattle.c_file_rules.proofs.Shown.{routines_count, body_there}
+use Rattle.c_plain_rules.proofs.Backwards.{at_some}
+use Rattle.c_plain_rules.proofs.Shown.{routines_count, body_there}
 use Rattle.c_finish.proofs.Counting.{low_step, count_zero, count_step, count_behind, filled_push, filled_all}
 use Rattle.c_finish.proofs.Counting.{pushed_count, nothing_filled}
 use Rattle.c_finish.proofs.numbering.numbers_of_functions.Goals as goal

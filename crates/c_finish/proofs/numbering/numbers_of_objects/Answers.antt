@@ -2,8 +2,8 @@ use Rattle.std.proofs.Common.{◌≡◌, ◌<◌, length, sym, ap, ◌∙◌, ar
 use Rattle.c_tree.specs.Scopes.{StaticState}
 use Rattle.c_tree.specs.Programs.{numbers_of}
 use Rattle.c_types.specs.Members.{is_defined}
-use Rattle.c_file_rules.proofs.Backwards.{at_some}
-use Rattle.c_file_rules.proofs.Shown.{statics_count}
+use Rattle.c_plain_rules.proofs.Backwards.{at_some}
+use Rattle.c_plain_rules.proofs.Shown.{statics_count}
 use Rattle.c_finish.proofs.Counting.{low_step, count_zero, count_step, count_behind, filled_push, filled_all}
 use Rattle.c_finish.proofs.Counting.{pushed_count, nothing_filled}
 use Rattle.c_finish.proofs.numbering.numbers_of_objects.Goals as goal

@@ -1,6 +1,6 @@
 use Rattle.std.proofs.Common.{sym, ap, ◌∙◌}
 use Rattle.c_types.specs.Members.{is_defined}
-use Rattle.c_file_rules.proofs.Backwards.{at_some}
+use Rattle.c_plain_rules.proofs.Backwards.{at_some}
 use Rattle.c_finish.proofs.Globals.{objects_push, objects_skip}
 use Rattle.c_finish.proofs.objects.add_object.Goals as goal
 

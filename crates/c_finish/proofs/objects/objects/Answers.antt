@@ -2,7 +2,7 @@ use Rattle.std.proofs.Common.{◌≡◌, ◌<◌, length, ap, ◌∙◌, arith}
 use Rattle.std.specs.Prelude.{flat_map}
 use Rattle.std.proofs.lemmas.List.{take_all}
 use Rattle.c_tree.specs.Programs.{object_of}
-use Rattle.c_file_rules.proofs.Shown.{statics_count}
+use Rattle.c_plain_rules.proofs.Shown.{statics_count}
 use Rattle.c_finish.proofs.objects.objects.Goals as goal
 
 pub loop-k-preserved : goal.loop-k-preserved

@@ -1,5 +1,5 @@
 use Rattle.std.proofs.Common.{◌∙◌}
-use Rattle.c_file_rules.proofs.Shown.{function_is}
+use Rattle.c_plain_rules.proofs.Shown.{function_is}
 use Rattle.c_finish.proofs.Firsts.{definition_met}
 use Rattle.c_finish.proofs.Functions.{routine_is}
 use Rattle.c_finish.proofs.routines.routine.Goals as goal

@@ -1,5 +1,5 @@
 use Rattle.std.proofs.Common.{◌≡◌, ◌<◌, length, ap, ◌∙◌, arith}
-use Rattle.c_file_rules.proofs.Shown.{routines_count}
+use Rattle.c_plain_rules.proofs.Shown.{routines_count}
 use Rattle.c_finish.proofs.Functions.{no_routines, routines_all, no_bodies}
 use Rattle.c_finish.proofs.routines.routines.Goals as goal
 

@@ -1,6 +1,6 @@
 use Rattle.std.proofs.Common.{◌-◌, length, drop, refl, sym, ap, subst, ◌∙◌}
 use Rattle.std.specs.Prelude.{slice_get}
-use Rattle.c_file_rules.specs.Tables.{HasUses}
+use Rattle.c_plain_rules.specs.Tables.{HasUses}
 use Rattle.c_finish.proofs.Firsts.{no_uses, at_end, one_back, at_begin, use_fits}
 use Rattle.c_finish.proofs.tables.first_uses.Goals as goal
 

@@ -1,5 +1,5 @@
 use Rattle.std.proofs.Common.{◌≡◌, ◌-◌, length, drop}
-use Rattle.c_file_rules.specs.Tables.{HasUses}
+use Rattle.c_plain_rules.specs.Tables.{HasUses}
 use Rattle.c_finish.proofs.tables.first_uses.Given as goal
 
 abbrev pub invariant-loop-i : goal.invariant-loop-i

@@ -1,8 +1,8 @@
 use Rattle.std.proofs.Common.{◌≡◌, ◌<◌, ◌≤◌, Some, length, take, sym, ap, subst, ◌∙◌, arith}
 use Rattle.std.specs.Prelude.{slice_get}
 use Rattle.std.proofs.lemmas.List.{take_all}
-use Rattle.c_file_rules.specs.Tables.{LastDefinitions}
-use Rattle.c_file_rules.proofs.Shown.{routines_count}
+use Rattle.c_plain_rules.specs.Tables.{LastDefinitions}
+use Rattle.c_plain_rules.proofs.Shown.{routines_count}
 use Rattle.c_finish.proofs.Firsts.{definition_set, no_definitions, length-set}
 use Rattle.c_finish.proofs.Globals.{taken}
 use Rattle.c_finish.proofs.tables.last_definitions.Goals as goal

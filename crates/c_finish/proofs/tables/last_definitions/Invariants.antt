@@ -1,5 +1,5 @@
 use Rattle.std.proofs.Common.{◌≡◌, length, take}
-use Rattle.c_file_rules.specs.Tables.{LastDefinitions}
+use Rattle.c_plain_rules.specs.Tables.{LastDefinitions}
 use Rattle.c_finish.proofs.tables.last_definitions.Given as goal
 
 abbrev pub invariant-loop-i : goal.invariant-loop-i

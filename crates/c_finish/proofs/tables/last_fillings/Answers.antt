@@ -1,7 +1,7 @@
 use Rattle.std.proofs.Common.{◌≡◌, ◌<◌, ◌≤◌, Some, length, take, sym, ap, subst, ◌∙◌, arith}
 use Rattle.std.specs.Prelude.{slice_get}
 use Rattle.std.proofs.lemmas.List.{take_all}
-use Rattle.c_file_rules.proofs.Shown.{statics_count}
+use Rattle.c_plain_rules.proofs.Shown.{statics_count}
 use Rattle.c_finish.specs.Tables.{LastFillings}
 use Rattle.c_finish.proofs.Firsts.{filling_set, no_fillings, length-set}
 use Rattle.c_finish.proofs.Globals.{taken}

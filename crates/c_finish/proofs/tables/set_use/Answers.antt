@@ -1,7 +1,7 @@
 use Rattle.std.proofs.Common.{◌∷◌, length, refl, sym, ap, subst, ◌∙◌}
 use Rattle.c_elaborator.specs.declared.work.Used.{Used}
 use Rattle.c_elaborator.specs.Work.{UseIsThere}
-use Rattle.c_file_rules.specs.Tables.{HasUses}
+use Rattle.c_plain_rules.specs.Tables.{HasUses}
 use Rattle.c_finish.proofs.Firsts.{object_set, function_set, length-set}
 use Rattle.c_finish.proofs.tables.set_use.Goals as goal
 

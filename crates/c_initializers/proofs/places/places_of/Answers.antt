@@ -2,7 +2,7 @@ use Rattle.std.proofs.Common.{◌≡◌, ◌*◌, sym, ap, ◌∙◌, arith}
 use Rattle.std.specs.Prelude.{nat_lt, ◌==◌, ◌||◌, if◌then◌else◌, Some, None}
 use Rattle.c_tree.specs.Initializers.{item_place}
 use Rattle.c_expressions.specs.Nodes.{type_in}
-use Rattle.c_object_parts.specs.Members.{place_in}
+use Rattle.c_plain_rules.specs.Members.{place_in}
 use Rattle.c_initializers.proofs.PlaceLaws.{item_place-stripped, array-place, option_map-if, alone-place, stripped_base}
 use Rattle.c_initializers.proofs.PlaceLaws.{elements-near, members-near, alone-near}
 use Rattle.c_initializers.proofs.places.places_of.Goals as goal

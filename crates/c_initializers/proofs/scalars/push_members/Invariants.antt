@@ -3,7 +3,7 @@ use Rattle.std.specs.List.{All}
 use Rattle.c_tree.specs.Scopes.{State}
 use Rattle.c_tree.specs.Initializers.{all_scalars, tag_scalars}
 use Rattle.c_elaborator.specs.Work.{Shows}
-use Rattle.c_object_parts.specs.Members.{place_in}
+use Rattle.c_plain_rules.specs.Members.{place_in}
 use Rattle.c_initializers.specs.Rows.{IsRowThere, rows_scalars, rows_steps}
 use Rattle.c_initializers.proofs.StepLaws.{member_steps}
 use Rattle.c_initializers.proofs.scalars.push_members.Given as goal

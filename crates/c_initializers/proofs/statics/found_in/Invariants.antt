@@ -2,7 +2,7 @@ use Rattle.std.proofs.Common.{◌≡◌, ◌++◌, drop, map}
 use Rattle.c_tree.specs.Scopes.{State}
 use Rattle.c_elaborator.specs.Work.{Shows, aiming_of}
 use Rattle.c_initializers.specs.Found.{found_of}
-use Rattle.c_object_parts.specs.Placing.{placed_of}
+use Rattle.c_plain_rules.specs.Placing.{placed_of}
 use Rattle.c_initializers.specs.Slots.{slots_in}
 use Rattle.c_initializers.specs.Starts.{known_of}
 use Rattle.c_initializers.proofs.statics.found_in.Given as goal

@@ -8,7 +8,7 @@ use Rattle.c_expressions.specs.Nodes.{term_in}
 use Rattle.c_initializers.specs.declared.slots.Slot.{Slot}
 use Rattle.c_initializers.specs.Slots.{slot_in, slots_in}
 use Rattle.c_initializers.specs.Starts.{known_of}
-use Rattle.c_object_parts.proofs.MemberLaws.{drop-next}
+use Rattle.c_plain_rules.proofs.MemberLaws.{drop-next}
 use Rattle.c_initializers.proofs.FoundLaws.{knows-more, first-refused, later-refused}
 use Rattle.c_initializers.proofs.statics.known_values.Goals as goal
 

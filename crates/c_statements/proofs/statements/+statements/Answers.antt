@@ -32,7 +32,7 @@ use Rattle.c_tree.specs.declared.typed.StmtKind.{StmtKind}
 use Rattle.c_statements.specs.Statements.{evaluated, jumping, return_of, block_of, if_of, if_else_of, while_of, do_of}
 use Rattle.c_statements.specs.Statements.{for_head, for_in, switch_in, if_with, if_else_with, while_with, do_with}
 use Rattle.c_statements.specs.Statements.{inside_of, HeadThere, head_in, switched, SwitchedThere, IsSwitched}
-use Rattle.c_control.specs.Control.{switch_label}
+use Rattle.c_plain_rules.specs.Control.{switch_label}
 use Rattle.c_statements.specs.Statements.{switched_on, CasesThere, IsCases, cases_in}
 use Rattle.c_statements.proofs.Gather.{gathered, so_far_begins, so_far_ends, so_far_fails, so_far_steps}
 use Rattle.c_readings.proofs.Kids.{opened, part_kept}

@@ -1,4 +1,0 @@
-pub mod Backwards
-pub mod Faulting
-pub mod MainFunction
-pub mod Shown
