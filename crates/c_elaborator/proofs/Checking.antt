@@ -28,7 +28,7 @@ use Rattle.c_expressions.specs.Nodes.{HasTerm, IsType, type_in}
 use Rattle.c_elaborator.specs.declared.work.Work.{Work}
 use Rattle.c_elaborator.specs.Work.{Shows}
 use Rattle.c_elaborator.specs.Answers.{Way, quietly, Answers, OperandThere, IsOperand}
-use Rattle.c_complete_types.specs.Complete.{sum_counted, difference_counted, compound_counted, is_sized}
+use Rattle.c_operand_rules.specs.Complete.{sum_counted, difference_counted, compound_counted, is_sized}
 use Rattle.c_elaborator.specs.Rules.{dereferencing}
 use Rattle.c_elaborator.proofs.Growing.{quiet_nodes, shows_nodes}
 use Rattle.c_elaborator.proofs.Sequencing.{answers_at, need_true, still_same}

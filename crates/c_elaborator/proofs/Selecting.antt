@@ -6,7 +6,7 @@ use Rattle.c_tree.specs.Terms.{Member, step}
 use Rattle.c_tree.specs.Scopes.{State, Fault, Doing, some_or, continued, ◌>>=◌}
 use Rattle.c_tree.specs.Conversions.{Operand, operand_type}
 use Rattle.c_tree.specs.Expressions.{gives, as_qualified, member, member_from, members_in}
-use Rattle.c_complete_types.specs.Members.{MembersAreSpelled, finding}
+use Rattle.c_operand_rules.specs.Members.{MembersAreSpelled, finding}
 use Rattle.c_elaborator.specs.declared.work.Work.{Work}
 use Rattle.c_elaborator.specs.Work.{Shows}
 

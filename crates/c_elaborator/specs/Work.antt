@@ -12,7 +12,7 @@ use Rattle.c_tree.specs.declared.typed.VarDef.{VarDef}
 use Rattle.c_tree.specs.Views.{types_of, text_of, aim_of, action_at, actions_of, values}
 use Rattle.c_tree.specs.Views as views
 use Rattle.c_types.specs.Stands.{Stands}
-pub use Rattle.c_complete_types.specs.Members.{MembersAreSpelled}
+pub use Rattle.c_operand_rules.specs.Members.{MembersAreSpelled}
 use Rattle.c_elaborator.specs.declared.work.Used.{Used}
 use Rattle.c_elaborator.specs.declared.work.Used.TheVariants as used
 use Rattle.c_elaborator.specs.declared.work.Use.{Use}

@@ -7,7 +7,7 @@ ghost use Rattle.c_elaborator.specs.Answers.{Answers, quietly, OperandThere, IsO
 ghost use Rattle.c_operators.specs.Rules.{infix_join_of};
 
 use crate::work::Work;
-use c_complete_types::{
+use c_operand_rules::{
     is_compound_counted, is_counted, is_difference_counted, is_readable, is_sum_counted,
 };
 use c_expressions::Operand;

@@ -23,11 +23,11 @@ use Rattle.c_expressions.specs.Agreement.{AreBelow}
 use Rattle.ck_base.specs.declared.refusal.Refusal.{Refusal}
 use Rattle.c_expressions.specs.Answers as answers
 use Rattle.c_expressions.specs.Answers.{Refuses, Answers}
-use Rattle.c_postfix_operators.specs.Called.{AreThere}
+use Rattle.c_operand_rules.specs.Called.{AreThere}
 use Rattle.c_expressions.specs.Nodes.{IsWhole, Keeps, IsTerm, HasType, operand_in, type_in, term_in, term_count}
 use Rattle.c_operators.specs.Services.{asked_as, takes_as, given_as, library_as, IsFound}
 use Rattle.c_expressions.proofs.Agreeing.{below_more}
-use Rattle.c_postfix_operators.proofs.Arguments.{continued-give, joined, there_at, below_kept, below_longer}
+use Rattle.c_operand_rules.proofs.Arguments.{continued-give, joined, there_at, below_kept, below_longer}
 use Rattle.c_expressions.proofs.Keeping.{keeps_same, keeps_then, operand_kept, bind_refuses, bind_gives, refused}
 use Rattle.c_expressions.proofs.Keeping.{needed}
 use Rattle.c_expressions.proofs.Keeping.{answers_after, answers_is}

@@ -1,2 +1,2 @@
 -- The arguments of calls.
-pub use Rattle.c_postfix_operators.specs.Called.{AreThere}
+pub use Rattle.c_operand_rules.specs.Called.{AreThere}

@@ -17,7 +17,7 @@ use Rattle.c_tree.specs.Scopes.{Doing, need, refuse, ◌>>◌}
 use Rattle.c_tree.specs.Conversions.{Operand, operand_type, designates, is_place, converted_term}
 use Rattle.c_tree.specs.Expressions.{gives, arithmetic, shift, sum_of, difference_of, compared, logical, is_modifiable}
 use Rattle.c_tree.specs.Expressions.{both_agree, compounds, computed_in, right_of, is_void_pointer}
-pub use Rattle.c_postfix_operators.specs.Steps.{stepped_of}
+pub use Rattle.c_operand_rules.specs.Steps.{stepped_of}
 use Rattle.c_operators.specs.declared.pointers.Fallback.{Fallback}
 use Rattle.c_operators.specs.declared.pointers.Fallback.TheVariants as fallbacks
 

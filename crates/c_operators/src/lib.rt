@@ -1,7 +1,7 @@
 //! The rules on the operands of the expressions of a C file (C11 6.4.4, 6.4.5, 6.5).
 //!
 //! Promise: an operator gives its typed node, or the first rule that its operands break.
-//! Definitions (`specs/`): `Expressions` of `c_tree`; `Called`, `Steps` of `c_postfix_operators`; here `Rules`,
+//! Definitions (`specs/`): `Expressions` of `c_tree`; `Called`, `Steps` of `c_operand_rules`; here `Rules`,
 //! `Services`.
 //! Main lemmas (`proofs/`): `Asking`, `Choosing`.
 #![tactic(auto)]
@@ -14,7 +14,7 @@ mod pointers;
 mod services;
 
 pub use assignments::{address_of, as_qualified, assign, cast, compound_of, local_of};
-pub use c_postfix_operators::{call, stepped_of};
+pub use c_operand_rules::{call, stepped_of};
 pub use choices::conditional;
 pub use constants::{append_text, character, int_constant, number, size_constant};
 pub use operators::unary_on;

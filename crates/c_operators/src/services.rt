@@ -9,11 +9,11 @@ ghost use Rattle.c_expressions.specs.Answers.{Answers};
 ghost use Rattle.c_expressions.specs.Classes.{integer_type};
 ghost use Rattle.c_expressions.specs.Nodes.{IsWhole, IsOperand, IsTerm, IsType, HasType, operand_in, term_in};
 ghost use Rattle.c_expressions.specs.Nodes.{term_count};
-ghost use Rattle.c_postfix_operators.specs.Called.{AreTerms, AreThere};
+ghost use Rattle.c_operand_rules.specs.Called.{AreTerms, AreThere};
 ghost use Rattle.c_operators.specs.Services.{asked_as, takes_as, given_as, library_as};
 
 use c_expressions::{Integer, Nodes, Operand};
-use c_postfix_operators::{fewer, push};
+use c_operand_rules::{fewer, push};
 use ck_base::{MISFIT, NoMemory, Pos, Refusal, WRONG_ARGUMENT_COUNT};
 use ck_int::IntKind;
 

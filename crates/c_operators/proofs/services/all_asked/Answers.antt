@@ -7,9 +7,9 @@ use Rattle.c_expressions.specs.Nodes.{IsTerm, operand_in, term_in, term_count}
 use Rattle.c_expressions.proofs.Keeping.{answers_err}
 use Rattle.c_operators.specs.declared.services.Asked.{Asked}
 use Rattle.c_operators.specs.declared.services.Asked.TheVariants.{Capability}
-use Rattle.c_postfix_operators.specs.Called.{AreTerms}
+use Rattle.c_operand_rules.specs.Called.{AreTerms}
 use Rattle.c_operators.specs.Services.{asked_as}
-use Rattle.c_postfix_operators.proofs.Arguments.{there_at}
+use Rattle.c_operand_rules.proofs.Arguments.{there_at}
 use Rattle.c_operators.proofs.Asking.{asked_from, asking_start, asking_more, asking_refuses, asking_end}
 use Rattle.c_operators.proofs.services.all_asked.Goals as goal
 

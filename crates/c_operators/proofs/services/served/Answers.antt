@@ -4,7 +4,7 @@ use Rattle.c_tree.specs.Terms.{Library, term, terms}
 use Rattle.c_tree.specs.Expressions.{given_type}
 use Rattle.c_expressions.specs.Nodes.{IsOperand, operand_in, type_in, term_in}
 use Rattle.c_expressions.proofs.Keeping.{answers_err, given_operand, has_term_then, keeps_then}
-use Rattle.c_postfix_operators.specs.Called.{AreTerms}
+use Rattle.c_operand_rules.specs.Called.{AreTerms}
 use Rattle.c_operators.specs.Services.{given_as}
 use Rattle.c_operators.proofs.Asking.{asked_from, served_in, served_refuses, served_few, served_done, terms_kept}
 use Rattle.c_operators.proofs.services.served.Goals as goal

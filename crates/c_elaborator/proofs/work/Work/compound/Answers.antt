@@ -3,7 +3,7 @@ use Rattle.c_elaborator.specs.Answers.{quietly, OperandThere, IsOperand, operand
 use Rattle.c_tree.specs.Conversions.{operand_type}
 use Rattle.c_tree.specs.Types.{bare}
 use Rattle.c_operators.specs.Rules.{compound_of}
-use Rattle.c_complete_types.specs.Complete.{compound_counted}
+use Rattle.c_operand_rules.specs.Complete.{compound_counted}
 use Rattle.c_elaborator.proofs.Checking.{checked, compound_checked, two_told, type_is}
 use Rattle.c_elaborator.proofs.Sequencing.{lift_operand}
 use Rattle.c_elaborator.proofs.work.Work.compound.Goals as goal

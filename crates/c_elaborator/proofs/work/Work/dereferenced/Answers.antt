@@ -1,6 +1,6 @@
 use Rattle.std.proofs.Common.{◌∙◌}
 use Rattle.c_elaborator.specs.Answers.{operand_in}
-use Rattle.c_complete_types.specs.Complete.{is_sized}
+use Rattle.c_operand_rules.specs.Complete.{is_sized}
 use Rattle.c_tree.specs.Expressions.{gives}
 use Rattle.c_tree.specs.Terms.{step, Deref}
 use Rattle.c_expressions.specs.Nodes.{type_in}

@@ -1,7 +1,7 @@
 use Rattle.c_elaborator.specs.Answers.{quietly, OperandThere, IsOperand, operand_in}
 use Rattle.c_tree.specs.Conversions.{operand_type}
 use Rattle.c_tree.specs.Expressions.{difference_of}
-use Rattle.c_complete_types.specs.Complete.{difference_counted}
+use Rattle.c_operand_rules.specs.Complete.{difference_counted}
 use Rattle.c_elaborator.proofs.Checking.{checked, difference_checked, two_told}
 use Rattle.c_elaborator.proofs.Sequencing.{lift_operand}
 use Rattle.c_elaborator.proofs.work.Work.difference.Goals as goal

@@ -1,7 +1,7 @@
 use Rattle.c_elaborator.specs.Answers.{quietly, OperandThere, IsOperand, operand_in}
 use Rattle.c_tree.specs.Conversions.{operand_type}
 use Rattle.c_tree.specs.Expressions.{sum_of}
-use Rattle.c_complete_types.specs.Complete.{sum_counted}
+use Rattle.c_operand_rules.specs.Complete.{sum_counted}
 use Rattle.c_elaborator.proofs.Checking.{checked, sum_checked, two_told}
 use Rattle.c_elaborator.proofs.Sequencing.{lift_operand}
 use Rattle.c_elaborator.proofs.work.Work.sum.Goals as goal

@@ -1,0 +1,4 @@
+pub mod Called
+pub mod Steps
+pub mod Complete
+pub mod Members
