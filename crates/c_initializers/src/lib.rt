@@ -1,7 +1,8 @@
 //! The initialisers of a C file (C11 6.7.9), once their expressions are typed.
 //!
 //! Promise: initial bytes, pointers and stores are those of the definition, in the order of offsets.
-//! Definitions (`specs/`): `Initializers`, `Statics` of `c_tree`, `Members` of `c_plain_rules`; here `Slots`, `Objects`.
+//! Definitions (`specs/`): `Initializers`, `Statics` of `c_tree`, `Members` of `c_plain_rules`; here `Slots`,
+//! `Objects`.
 //! Main lemmas (`proofs/`): `FillLaws`, `ObjectLaws`.
 #![tactic(auto)]
 

@@ -6,3 +6,5 @@ pub mod Backwards
 pub mod Faulting
 pub mod MainFunction
 pub mod Shown
+pub mod Numbers
+pub mod Depth

@@ -5,3 +5,5 @@ pub mod Placing
 pub mod Faults
 pub mod MainFunction
 pub mod Tables
+pub mod Specifiers
+pub mod Depths

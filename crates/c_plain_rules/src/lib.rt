@@ -1,37 +1,47 @@
 //! Rules of C that ask for no other part of the syntax, once theirs is typed: the numbers in declarations (C11 6.6,
-//! 6.7.2.2, 6.7.6.2), what a `for` and a `switch` are put together from (6.8.4.2, 6.8.5.3), what an object is made of
-//! (6.7.2.1, 6.7.9), and what waits for the end of a file.
+//! 6.7.2.2, 6.7.6.2) and which specifiers stand alone (6.7.2), what a `for` and a `switch` are put together from
+//! (6.8.4.2, 6.8.5.3), what an object is made of (6.7.2.1, 6.7.9), what typing begins with at a file and at the body of
+//! a function (6.9), and what waits for the end of a file.
 //!
 //! Promise: each number is that of the definition's rule, or its refusal. The statements are those of their parts; a
 //! label goes behind the others or is refused where an earlier one is like it; what stands in a loop may be left and
 //! continued, what stands in a `switch` may be left. The parts of a struct or union are those of the definition, each
 //! at its offset, of a union the first alone; the bytes of an object are those of its numbers, each written over what
-//! stood there, up to the last that counts. Of the rules that fail at the end of the file the one that stands first in
-//! it is found, if any does, by its code and place; and `main` is found where the file defines it.
-//! Definitions (`specs/`): `Constants`, `Declarators`, `Statements`, `Initializers`, `Layout`, `Statics`, `Programs` of
-//! `c_tree`; here `Constants`, `Control`, `Members`, `Placing`, `Faults`, `MainFunction`, `Tables` (what counts of all
-//! that was said of each object and function).
-//! Main lemmas (`proofs/`): `Alike`, `MemberLaws`, `RecordLaws`, `ByteLaws`, `Faulting`, `MainFunction`, `Shown`.
+//! stood there, up to the last that counts. No part of a file goes deeper than is said, so a depth is never used up; a
+//! body stands in no loop and no `switch`; the parameters are the first variables, each of them. Of the rules that fail
+//! at the end of the file the one that stands first in it is found, if any does, by its code and place; and `main` is
+//! found where the file defines it.
+//! Definitions (`specs/`): `Constants`, `Declarators`, `Statements`, `Initializers`, `Layout`, `Statics`, `Terms`,
+//! `Programs` of `c_tree`; here `Constants`, `Specifiers`, `Control`, `Members`, `Placing`, `Depths`, `Faults`,
+//! `MainFunction`, `Tables` (what counts of all that was said of each object and function).
+//! Main lemmas (`proofs/`): `Alike`, `MemberLaws`, `RecordLaws`, `ByteLaws`, `Depth`, `Faulting`, `MainFunction`,
+//! `Shown`.
 #![tactic(auto)]
 
+mod bodies;
 mod bytes;
 mod constants;
+mod depths;
 mod enumerators;
 mod faults;
 mod found;
 mod loops;
 mod main_function;
 mod members;
+mod specifiers;
 mod switches;
 mod tables;
 
+pub use bodies::{context_of, numbers_below};
 pub use bytes::{Placed, initial_bytes};
 pub use constants::{Constant, array_length, constant_value};
+pub use depths::greatest_depth;
 pub use enumerators::{in_int, next_after};
 pub use faults::last_fault;
 pub use found::Found;
 pub use loops::{Head, for_kind, in_a_loop};
 pub use main_function::main_of;
 pub use members::{Place, Record, all_members, first_members, record_of, tag_count};
+pub use specifiers::{has_storage, is_lone, names_type, push_some};
 pub use switches::{Cases, add_label, in_a_switch, switch_kind, with_items};
 pub use tables::{Uses, count, definition, definition_at, entry, function_at, global_at};

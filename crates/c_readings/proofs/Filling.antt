@@ -15,7 +15,7 @@ use Rattle.c_elaborator.specs.Work.{Shows}
 use Rattle.c_elaborator.specs.Answers.{quietly, Given, Done, Answers, TypeThere, IsType, NothingThere, IsNothing}
 use Rattle.c_elaborator.specs.Shown.{DoneFor, AnswersFor}
 use Rattle.c_elaborator.proofs.Sequencing.{quiet_law, also_then, still_then, quiet_then}
-use Rattle.c_specifiers.proofs.Tagged.{NamesTag}
+use Rattle.c_readings.proofs.Tagged.{NamesTag}
 use Rattle.c_readings.specs.Specifying.{filled}
 
 -- ---- members, from the braces on

@@ -2,7 +2,6 @@ pub mod Among
 pub mod Arguments
 pub mod Calling
 pub mod Declaring
-pub mod Depth
 pub mod Filling
 pub mod Folding
 pub mod Gathering
@@ -15,5 +14,6 @@ pub mod Params
 pub mod Selecting
 pub mod Specifiers
 pub mod Specifying
+pub mod Tagged
 pub mod Tagging
 pub mod Within

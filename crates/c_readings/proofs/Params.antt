@@ -17,7 +17,7 @@ use Rattle.c_elaborator.proofs.Sequencing.{keeps_then}
 use Rattle.c_declarators.specs.declared.parts.Param.{Param}
 use Rattle.c_declarators.specs.Forming.{ParamIsThere}
 use Rattle.c_declarators.specs.Parts.{in_any, ParamThere, IsParam, param_in}
-use Rattle.c_specifiers.specs.Naming.{bound_behind}
+use Rattle.c_readings.specs.Naming.{bound_behind}
 use Rattle.c_readings.specs.Folding.{SoFar}
 use Rattle.c_readings.specs.Specifying.{ParamsThere, AreParams, params_on, param_behind}
 use Rattle.c_readings.proofs.Kids.{cut, parts_kept}

@@ -17,7 +17,7 @@ use Rattle.c_tree.specs.Declarators.{member_declarators, all_members, add_member
 use Rattle.c_tree.specs.Declarators.{parameter_list, bind_parameter, enumerators, enumerator, constant, enumerate}
 use Rattle.c_tree.specs.Programs.{reading, readings, type_of_kind}
 use Rattle.c_declarators.specs.Steps as steps
-use Rattle.c_specifiers.specs.Naming.{names_kind, some_list}
+use Rattle.c_plain_rules.specs.Specifiers.{names_kind, some_list}
 use Rattle.c_readings.specs.Specifying.{types_on, type_behind, unstored, within}
 use Rattle.c_readings.specs.Specifying.{members_on, members_of, declarators_on, declarator_at}
 use Rattle.c_readings.specs.Specifying.{enumerators_on, enumerator_at, params_on, param_behind}

@@ -35,7 +35,7 @@ use Rattle.c_declarators.specs.Steps.{closing}
 use Rattle.c_declarators.proofs.Lasting.{derived_lasts}
 use Rattle.c_declarators.proofs.Deriving.{nothing_derived, part_derived, part_there}
 use Rattle.c_elaborator.specs.Parts.{IsPart}
-use Rattle.c_specifiers.specs.Naming.{some_list}
+use Rattle.c_plain_rules.specs.Specifiers.{some_list}
 use Rattle.c_readings.specs.Folding.{SoFar}
 use Rattle.c_readings.proofs.Folding.{fold_more, fold_fails}
 use Rattle.c_readings.proofs.Specifiers.{enumerators_more}

@@ -21,7 +21,8 @@ use Rattle.c_declarators.specs.declared.parts.Prototype.{Prototype as Parameters
 use Rattle.c_declarators.specs.Forming.{ParamIsThere}
 use Rattle.c_declarators.specs.Parts.{param_in, shown_in, IsPrototype}
 use Rattle.c_declarators.specs.Steps.{new_enumeration_of}
-use Rattle.c_specifiers.specs.Naming.{some_list, named_record, named_enum, bound_behind}
+use Rattle.c_plain_rules.specs.Specifiers.{some_list}
+use Rattle.c_readings.specs.Naming.{named_record, named_enum, bound_behind}
 
 -- ---- lists of types and of parameters
 

@@ -1,26 +1,12 @@
 -- Parts of the tree, and how deep they go.
-use Rattle.std.specs.Prelude.{ℕ, suc, ◌≤◌, max, List}
+use Rattle.std.specs.Prelude.{ℕ, ◌≤◌, List}
 use Rattle.ck_base.specs.Tokens.{Lexeme}
 use Rattle.c_tree.specs.declared.syntax.Node.{Node}
-use Rattle.c_tree.specs.Syntax.{Syn, Syns, node, nil, more}
+use Rattle.c_tree.specs.Syntax.{Syn, Syns}
 use Rattle.c_elaborator.specs.declared.work.Work.{Work}
-use Rattle.c_elaborator.specs.Parts.{IsPart, AreParts}
+use Rattle.c_elaborator.specs.Parts.{AreParts}
+pub use Rattle.c_plain_rules.specs.Depths.{depth, depths, PartWithin}
 use Rattle.c_readings.specs.Kids.{IsNode}
-
--- the number of nodes on the longest way down
-abbrev mutual
-  pub depth : Syn → ℕ
-  depth (node k t xs) = suc (depths xs)
-
-  pub depths : Syns → ℕ
-  depths nil = 0
-  depths (more x xs) = max (depth x) (depths xs)
-
--- a node is some part, which goes at most so deep
-pub record PartWithin (w : Work) (limit k : ℕ) : Type 0 where
-  pub syntax : Syn
-  pub is : IsPart w k syntax
-  pub within : depth syntax ≤ limit
 
 -- these nodes are some parts, each of which goes at most so deep
 pub record PartsWithin (w : Work) (limit : ℕ) (ks : List ℕ) : Type 0 where

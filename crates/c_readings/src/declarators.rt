@@ -20,13 +20,14 @@ ghost use Rattle.c_readings.specs.Specifying.{PrototypeThere, ShowsPrototype, un
 ghost use Rattle.c_readings.specs.Specifying.{within, row_of, function_of};
 
 use crate::expressions::constant;
+use crate::rules::declare_parameter;
 use crate::tree::{ends, first_of, name_of, node_at, only};
 use crate::types::unstored;
 use c_declarators::{
     Derived, Param, Prototype, Wrap, array_length, close, enter, parameter_from, parts_const,
 };
 use c_elaborator::{Name, Work};
-use c_specifiers::{declare_parameter, is_lone};
+use c_plain_rules::is_lone;
 use c_tree::{Node, NodeKind};
 use ck_base::{NO_TREE, Pos, Refusal};
 

@@ -9,6 +9,7 @@
 mod declarators;
 mod expressions;
 mod parts;
+mod rules;
 mod tree;
 mod types;
 

@@ -27,15 +27,14 @@ ghost use Rattle.c_readings.specs.Specifying.{member_declarator};
 
 use crate::declarators::{derived, within};
 use crate::expressions::constant;
+use crate::rules::{int_type, named_enum, named_record};
 use crate::tree::{first_of, name_of, node_at, tag_of};
 use c_declarators::{
     Members, Specified, add_member, begin_tag, complete_tag, enumerate, has_register, named_tag,
     named_type, new_enumeration, new_tag, tagged, typedef_name,
 };
 use c_elaborator::{Name, Work};
-use c_specifiers::{
-    has_storage, int_type, is_lone, named_enum, named_record, names_type, push_some,
-};
+use c_plain_rules::{has_storage, is_lone, names_type, push_some};
 use c_tree::{Node, NodeKind, RecordKind};
 use ck_base::{MISFIT, NO_TREE, Pos, Refusal};
 

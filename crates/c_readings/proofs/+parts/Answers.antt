@@ -80,7 +80,7 @@ use Rattle.c_declarators.specs.Parts.{IsCount, NumberThere, IsNumber, AreMembers
 use Rattle.c_declarators.specs.Parts.{ParamThere, IsParam, param_in, AreWraps, any_scope, DerivedThere, ShowsDerived}
 use Rattle.c_declarators.specs.Steps as steps
 use Rattle.c_declarators.specs.Steps.{new_enumeration_of}
-use Rattle.c_specifiers.specs.Naming.{some_list}
+use Rattle.c_plain_rules.specs.Specifiers.{some_list}
 use Rattle.c_readings.specs.declared.tree.TagParts.{TagParts}
 use Rattle.c_readings.specs.Kids.{IsTagged, tail_of, name_of}
 use Rattle.c_readings.specs.Folding.{SoFar}

@@ -1,9 +1,0 @@
-use Rattle.c_readings.proofs.Depth.{depth_few}
-use Rattle.c_beginnings.proofs.depths.greatest_depth.Goals as goal
-
-pub returns : goal.returns
-returns c = λ k x p. record {
-  syntax = x;
-  is = p;
-  within = rw c.node_count.ensures (depth_few c.args.work.now.tree.now.nodes k x p.stands);
-}
