@@ -14,7 +14,7 @@ use Rattle.c_tree.specs.Views.{forest, expr_from, no_term, stmt_from, no_action,
 use Rattle.c_tree.specs.Views.{same_number, label_of, aim_of}
 use Rattle.c_tree.specs.Programs.{aim_with}
 use Rattle.c_tree.specs.Programs as programs
-pub use Rattle.c_expression_operands.specs.Operands.{expr_shape, IsPlainWith}
+pub use Rattle.c_node_facts.specs.Operands.{expr_shape, IsPlainWith}
 use Rattle.c_copy.specs.declared.numbers.Numbers.{Numbers}
 
 -- ---- numbers

@@ -2,13 +2,13 @@
 //! statements with others.
 //!
 //! Promise: an expression with the new numbers has the renumbered term of what it was.
-//! Definitions (`specs/`): `Operands` of `c_expression_operands`; here `Copying`, `Standing`, `Order`.
+//! Definitions (`specs/`): `Operands` of `c_node_facts`; here `Copying`, `Standing`, `Order`.
 //! Main lemmas (`proofs/`): `Renumbering`, `Copies`.
 #![tactic(auto)]
 
 mod numbers;
 mod stmt_kinds;
 
-pub use c_expression_operands::{inner_with, listed, operands, two};
+pub use c_node_facts::{inner_with, listed, operands, two};
 pub use numbers::Numbers;
 pub use stmt_kinds::{parts, stmt_with, values};

@@ -5,7 +5,7 @@ ghost use Rattle.c_tree.specs.declared.typed.StmtKind.TheVariants as StmtKinds;
 ghost use Rattle.c_tree.specs.Views.{values, parts, listed, same_number};
 ghost use Rattle.c_copy.specs.Copying.{IsStmtWith, AreMaybes};
 
-use c_expression_operands::{list_of_one, list_of_two, listed, one, two};
+use c_node_facts::{list_of_one, list_of_two, listed, one, two};
 use c_tree::{StmtKind, SwitchLabel};
 use ck_base::{NoMemory, Sequence};
 use std::alloc::Global;

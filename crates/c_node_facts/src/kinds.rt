@@ -2,7 +2,7 @@
 
 ghost use Rattle.std.specs.Prelude.{◌≡◌, ◌<◌, ◌∷◌, [], true, IfOk, length};
 ghost use Rattle.c_tree.specs.Views.{operands};
-ghost use Rattle.c_expression_operands.specs.Operands.{is_step, is_join, is_inner, IsPlainWith, IsCallOf};
+ghost use Rattle.c_node_facts.specs.Operands.{is_step, is_join, is_inner, IsPlainWith, IsCallOf};
 
 use crate::lists::{list_from, list_of_one, list_of_three, list_of_two, listed, one, three, two};
 use c_tree::ExprKind;
