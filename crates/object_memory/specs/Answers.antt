@@ -9,7 +9,7 @@ use Rattle.obj_mem.specs.Objects.{Cell, Byte, Unwritten, Shape, Content, Mode, P
 use Rattle.obj_mem.specs.Access.{Spot}
 use Rattle.obj_mem.specs.Pointers.{at_offset}
 use Rattle.obj_mem.specs.Table.{addresses_of}
-use Rattle.held_values.specs.Answers.{mapped}
+use Rattle.mean_work.specs.Answers.{mapped}
 use Rattle.object_memory.specs.declared.object.Cell as kept
 use Rattle.object_memory.specs.declared.bytes.Bytes as few
 use Rattle.object_memory.specs.declared.reach.Spot as reached

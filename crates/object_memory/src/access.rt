@@ -9,7 +9,7 @@ ghost use Rattle.obj_mem.specs.Access.{load_access as load_access_of, loaded, ta
 ghost use Rattle.obj_mem.specs.Objects.{Cell as CellMeant, byte_of as byte_in, byte_at as byte_in_object, bytes_at};
 ghost use Rattle.obj_mem.specs.Objects.{part as part_of, parts as parts_of, value_at};
 ghost use Rattle.obj_mem.specs.Values.{value_of};
-ghost use Rattle.held_values.specs.Answers.{mapped};
+ghost use Rattle.mean_work.specs.Answers.{mapped};
 ghost use Rattle.object_memory.specs.Answers.{cells_of, mode_of, plain_cell, seen, shapes_of, spot_of};
 ghost use Rattle.object_memory.specs.Answers.{value_seen};
 ghost use Rattle.object_memory.specs.Memories.{IsFew, IsSize, IsSum, Leaves, loaded_at, memory_at, piece_of, put_there};
@@ -26,7 +26,7 @@ use crate::notes::{Note, noted_for};
 use crate::object::{Cell, Life, Object};
 use crate::reach::{Spot, reach};
 use cap_ops::Access;
-use held_values::{known, no_padding, unspecified};
+use mean_work::{known, no_padding, unspecified};
 use obj_mem::{Fault, Mode, Reason, UnitFault, Value};
 
 /// A tagged value, or bytes.

@@ -20,7 +20,7 @@ use crate::pointers::has_tag;
 use crate::words::word;
 use cap_ops::Cause;
 use ck_int::CmpOp;
-use held_values::unspecified;
+use mean_work::unspecified;
 use obj_mem::{Fault, Mode, Reason, Value};
 
 /// Whether an offset is inside its object's length.

@@ -13,7 +13,7 @@ ghost use Rattle.object_memory.specs.Integers.{IsWord};
 
 use cap_concentrate::{alignment_mask, rounded_length};
 use ck_int::{IntKind, IntOp, binary};
-use held_values::unspecified;
+use mean_work::unspecified;
 use obj_mem::{Fault, Mode, Reason};
 
 /// The number that low bits stand for in two's complement, where the highest of them is worth `sign`.

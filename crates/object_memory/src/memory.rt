@@ -29,7 +29,7 @@ use crate::{access, comparisons, integers, pointers};
 use cap_concentrate::rounded_length;
 use ck_base::NoMemory;
 use ck_int::{CmpOp, IntKind, IntOp};
-use held_values::unspecified;
+use mean_work::unspecified;
 use obj_mem::{Fault, Map, Mode, Reason, UnitFault, Value};
 use std::alloc::Global;
 

@@ -9,7 +9,7 @@ ghost use Rattle.object_memory.specs.Views.{cell_of, life_of, filled, put_over};
 
 use crate::bytes::Bytes;
 use ck_base::NoMemory;
-use held_values::{hold, release};
+use mean_work::{hold, release};
 use obj_mem::Value;
 use std::alloc::Global;
 use std::marker::Model;

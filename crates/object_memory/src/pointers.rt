@@ -21,7 +21,7 @@ use crate::words::{live, word};
 use cap_concentrate::{
     Fields, alignment_mask, bounds_of, flip_null, rounded_length, set_bounds, unpack,
 };
-use held_values::unspecified;
+use mean_work::unspecified;
 use obj_mem::{Fault, Map, Mode, Reason, Value};
 
 /// A pointer with another offset, which keeps its tag where its bounds stay the same.

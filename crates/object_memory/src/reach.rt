@@ -5,7 +5,7 @@ ghost use Rattle.cap_ops.specs.Access.{in_order, loads as loads_of, stores as st
 ghost use Rattle.cap_ops.specs.Capability.{permits as permits_bit};
 ghost use Rattle.obj_mem.specs.Access.{misses, reach as reach_of};
 ghost use Rattle.obj_mem.specs.Values.{value_of};
-ghost use Rattle.held_values.specs.Answers.{mapped};
+ghost use Rattle.mean_work.specs.Answers.{mapped};
 ghost use Rattle.object_memory.specs.Answers.{spot_of};
 ghost use Rattle.object_memory.specs.Reach.{IsPlain};
 

@@ -3,7 +3,7 @@ ghost use Rattle.std.specs.Prelude.{◌≡◌, Ok};
 ghost use Rattle.obj_mem.specs.declared.ending.Reason.TheVariants as R;
 ghost use Rattle.obj_mem.specs.Access.{known as known_of, padding_where, unspecified as says_nothing};
 ghost use Rattle.obj_mem.specs.Values.{value_of};
-ghost use Rattle.held_values.specs.Answers.{mapped};
+ghost use Rattle.mean_work.specs.Answers.{mapped};
 
 use obj_mem::{Fault, Reason, Value};
 
