@@ -5,7 +5,8 @@ use Rattle.std.specs.Str.Parse.{IsNumeral, digits_value}
 use Rattle.bounds_place.specs.declared.sizes.Sizes.{Sizes}
 use Rattle.bounds_place.specs.Sizes.{in_range, usual}
 use Rattle.clap.specs.Faults.{fault_of}
-use Rattle.clap.specs.Words.{App, Rule, Text, first_of, matches_of, new_app, new_rule, with_rule}
+use Rattle.clap.specs.Words.{App, Text, first_of, matches_of, new_app, with_rule}
+use Rattle.command_words.specs.Rules.{word_rule, option_rule}
 
 -- What is done with a file: its C program is built and run, or is built and put under a name; its image is run, or is
 -- audited; its C program is run by its strict meaning; or it is built, and the map or the listing shown.
@@ -25,14 +26,6 @@ pub data Line : Type 0 where
   Generate : (functions : ℕ) → (steps : ℕ) → (sizes : Sizes) → Line
 
 -- ---- the words, as `clap` takes them: one simple command
-
--- a required word, by its place
-abbrev pub word_rule : Text → Rule
-word_rule id = record (new_rule id) { required = true }
-
--- an option with one value, which stands at most once
-abbrev pub option_rule : Text → Rule
-option_rule id = record (new_rule id) { long = Some id }
 
 abbrev pub command : App
 command =

@@ -1,31 +1,16 @@
 //! The words of a line, as the simple command of `clap` takes them.
 
-ghost use Rattle.std.specs.Prelude.{◌≡◌, ℕ, List, false, IfOk, MatchOption, IfSome, map, string_bytes};
-ghost use Rattle.clap.specs.Words.{app_of, first_value, found_of, rule_of};
-ghost use Rattle.command_line.specs.Lines.{Line as LineOf, IsLine, Takes, command, given_in, option_rule, word_rule};
+ghost use Rattle.std.specs.Prelude.{◌≡◌, ℕ, List, IfOk, MatchOption, IfSome, map, string_bytes};
+ghost use Rattle.clap.specs.Words.{app_of, first_value, found_of};
+ghost use Rattle.command_line.specs.Lines.{Line as LineOf, IsLine, Takes, command, given_in};
 ghost use Rattle.command_line.specs.Asked.{line_of, IsLineInRange};
 
 use crate::line::{Line, line_in};
 use ck_base::NoMemory;
 use clap::error::ErrorKind;
-use clap::{Arg, ArgMatches, Command};
+use clap::{ArgMatches, Command};
+use command_words::{option, word};
 use std::alloc::Global;
-
-/// A required word.
-fn word<'a>(alloc: Global, name: &'a str) -> Arg<'a>
-    ensures rule { rule_of result ≡ word_rule name.entry.now }
-    ensures local { result.global ≡ false }
-{
-    Arg::new(alloc, name).required(true)
-}
-
-/// An option with one value.
-fn option<'a>(alloc: Global, name: &'a str) -> Arg<'a>
-    ensures rule { rule_of result ≡ option_rule name.entry.now }
-    ensures local { result.global ≡ false }
-{
-    Arg::new(alloc, name).long(name)
-}
 
 /// The command, as `clap` reads it.
 fn command<'a>(alloc: Global) -> Result<Command<'a>, NoMemory>
