@@ -7,9 +7,7 @@ use Rattle.ck_base.specs.Tokens.{Lexeme}
 use Rattle.ck_base.specs.Lexes.{Reads, NextToken}
 use Rattle.c_lex.proofs.OneReading.{Reads-push}
 use Rattle.c_tree.specs.File.{IsTokenPlace}
-use Rattle.c_lex.specs.Reader.{Reader}
-use Rattle.c_phrases.specs.Left.{Leaves}
-use Rattle.c_parse.specs.Checked.{HasRead, IsChecked}
+use Rattle.c_parse.specs.Checked.{HasRead}
 
 -- one token more was read
 pub read_more : (file : List ℕ) (i j : ℕ) (tokens : List Lexeme) (token : Lexeme) → HasRead file i tokens →
@@ -70,10 +68,3 @@ all_passed before same none = sym (same ∙ ap (λ v. before ++ v) none ∙ appe
 
 pub place_of : (file : List ℕ) (all : List Lexeme) (place : Pos) → IsAmong place all → IsTokenPlace file all place
 place_of file all place among = inl (among.k, among.token, among.there, among.same)
-
--- the tokens that are left at the beginning
-pub checked_left : (tokens reader : Reader) → reader ≡ tokens → tokens.at ≡ 0 → (checked : IsChecked tokens.file) →
-    Leaves reader.file reader.at checked.tokens
-checked_left tokens reader same begins checked =
-    subst (λ (r : Reader). Leaves r.file r.at checked.tokens) (sym same)
-    (subst (λ v. Leaves tokens.file v checked.tokens) (sym begins) ∣ checked.cut.lexes ∣₁)

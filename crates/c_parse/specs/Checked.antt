@@ -26,8 +26,7 @@ pub record HasRead (file : List ℕ) (at : ℕ) (tokens : List Lexeme) : Type 0 
   pub within : at ≤ length file
   pub reads : Reads file 0 tokens at
 
--- the tokens of the file break no rule, and no bracket stands too deep
-pub record IsChecked (file : List ℕ) : Type 0 where
-  pub tokens : List Lexeme
+-- these are the tokens of the file, which break no rule, and no bracket stands too deep
+pub record IsChecked (file : List ℕ) (tokens : List Lexeme) : Type 0 where
   pub cut : IsCut file tokens
   pub few : length tokens ≤ 4_194_304

@@ -13,7 +13,7 @@ use c_externals::file;
 use c_lex::{Tokens, calls_read};
 use c_phrases::{Cursor, Item, Place, Stop, Stream, TypeNames};
 use c_tree::{Symbol, Tree};
-use ck_base::{NO_TREE, Pos, Refusal, Sequence, TOO_MANY_BRACKETS};
+use ck_base::{NO_TREE, NoMemory, Pos, Refusal, Sequence, TOO_MANY_BRACKETS};
 use std::alloc::{AllocError, Global};
 
 /// One more than the greatest excess of opening over closing brackets.
@@ -107,43 +107,51 @@ fn with_token(brackets: Brackets, token: &Item) -> Brackets
     }
 }
 
-// Reads all tokens: whether none breaks a rule and no bracket stands too deep, or why not.
-fn check<'a>(tokens: Tokens<'a>) -> Result<(), Refusal>
+// One more token at the end.
+fn push_item<'a>(items: &mut Vec<Item<'a>>, item: Item<'a>) -> Result<(), NoMemory>
+    ensures { IfOk result (λ _. items.new.items ≡ items.old.items ++ item.entry ∷ []) }
+{
+    Ok(items.push(item)?)
+}
+
+// All tokens, of which none breaks a rule and no bracket stands too deep, or why not.
+fn check<'a>(alloc: Global, tokens: Tokens<'a>) -> Result<Vec<Item<'a>>, Refusal>
     requires { tokens.at ≡ 0 }
-    ensures { MatchResult result (λ _. IsChecked tokens.entry.file) (λ e. OnCode e (IsRefused tokens.entry.file)) }
+    ensures { MatchResult result (λ items. IsChecked tokens.entry.file items.items)
+        (λ e. OnCode e (IsRefused tokens.entry.file)) }
 {
     calls_read();
     let mut reader = tokens;
+    let mut items = Vec::new(alloc);
     let mut brackets = no_brackets();
     while let Some(next) = reader.next() {
         match next {
             Ok(token) => {
                 let item = Item::new(token);
                 brackets = with_token(brackets, &item);
+                push_item(&mut items, item)?;
             }
             Err((code, place)) => return Err(Refusal::Code(code, place)),
         }
     }
     match brackets.deep {
         Some(place) => Err(Refusal::Code(TOO_MANY_BRACKETS, place)),
-        None => Ok(()),
+        None => Ok(items),
     }
 }
 
-// The position of the first token that begins at this byte or behind it, or of the last one.
-fn stopped(tokens: Stream, at: u32) -> Pos
-    requires { 0 < length tokens }
-    ensures { (bytes : List ℕ) → IsTokenPlace bytes tokens.entry result }
+// The position of the first of the tokens that begins at this byte or behind it, or of the last one.
+fn stopped(tokens: &[Item], at: u32) -> Pos
+    requires { 0 < length tokens.now }
+    ensures { (bytes : List ℕ) → IsTokenPlace bytes tokens.now result }
 {
-    let mut left = tokens;
     let mut place = Pos { line: 1, col: 1 };
-    while let Some(item) = left.first() {
+    for item in tokens {
         let Place { pos, text } = item.place();
         place = pos;
         if text.start >= at {
             return place;
         }
-        left.advance();
     }
     place
 }
@@ -167,26 +175,19 @@ fn predeclared<'a>(alloc: Global) -> Result<TypeNames<'a>, AllocError>
     Ok(types)
 }
 
-// The tree of a file whose tokens break no rule, or the place where there is none.
-fn tree_of<'a>(alloc: Global, tokens: Tokens<'a>) -> Result<Tree, Refusal>
-    requires begin { tokens.at ≡ 0 }
-    requires checked { IsChecked tokens.file }
-    ensures { Answers tokens.entry.file result }
+// The tree of a file that has these tokens, which break no rule, or the place where there is none.
+fn tree_of<'a>(alloc: Global, tokens: &'a [Item<'a>]) -> Result<Tree, Refusal>
+    requires { length tokens.now ≤ 4_194_304 }
+    ensures { (file : List ℕ) → IsChecked file tokens.now → Answers file result }
 {
     let mut types = predeclared(alloc)?;
-    let reader = tokens.again();
-    let left = Stream::new(reader);
-    let mut cursor = Cursor::new(alloc, left);
+    let mut cursor = Cursor::new(alloc, Stream::new(tokens));
     match file(&mut cursor, &mut types) {
         Ok(part) => Ok(Tree {
             nodes: Sequence::from_vec(cursor.nodes),
             root: part.number,
         }),
-        Err(Stop::NoTree) => {
-            let at = cursor.left.at();
-            let again = Stream::new(tokens);
-            Err(Refusal::Code(NO_TREE, stopped(again, at)))
-        }
+        Err(Stop::NoTree) => Err(Refusal::Code(NO_TREE, stopped(tokens, cursor.left.at()))),
         Err(Stop::NoMemory) => Err(Refusal::NoMemory),
     }
 }
@@ -197,13 +198,12 @@ fn tree_of<'a>(alloc: Global, tokens: Tokens<'a>) -> Result<Tree, Refusal>
 /// of at most 200 levels for the tokens. It may be refused for want of memory at any time. A tree has at most
 /// 67,108,864 nodes.
 ///
-/// The tokens are read twice, and no list of them is kept: first up to the end, for the refusals before 120; then for
-/// the tree.
+/// The tokens are read once and kept in a list: up to the end, for the refusals before 120; then the tree is made of
+/// the list.
 pub fn parse<'a>(alloc: Global, tokens: Tokens<'a>) -> Result<Tree, Refusal>
     requires { tokens.at ≡ 0 }
     ensures { Answers tokens.entry.file result }
 {
-    let reader = tokens.again();
-    check(reader)?;
-    tree_of(alloc, tokens)
+    let items = check(alloc, tokens)?;
+    tree_of(alloc, &items)
 }

@@ -14,5 +14,4 @@ pub mod Climbing
 pub mod Answered
 pub mod Declaring
 pub mod Followed
-pub mod Leaving
 pub mod Paying

@@ -3,8 +3,6 @@ pub mod Climbing
 pub mod Counted
 pub mod Gathering
 pub mod Got
-pub mod Left
-pub mod OneRest
 pub mod Reading
 pub mod Runs
 pub mod Steps

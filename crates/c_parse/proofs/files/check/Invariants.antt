@@ -1,5 +1,4 @@
-use Rattle.std.proofs.Common.{◌≡◌, ◌-◌, List, length}
-use Rattle.ck_base.specs.Tokens.{Lexeme}
+use Rattle.std.proofs.Common.{◌≡◌, ◌-◌, length}
 use Rattle.c_parse.specs.Checked.{HasRead, Counts}
 use Rattle.c_parse.proofs.files.check.Given as goal
 
@@ -7,7 +6,8 @@ use Rattle.c_parse.proofs.files.check.Given as goal
 abbrev pub invariant-loop-next : goal.invariant-loop-next
 invariant-loop-next l = record {
   file : l.reader.file ≡ l.fn.tokens.file;
-  tokens : (tokens : List Lexeme) × HasRead l.fn.tokens.file l.reader.at tokens × Counts l.brackets tokens;
+  read : HasRead l.fn.tokens.file l.reader.at l.items.items;
+  counts : Counts l.brackets l.items.items;
 }
 
 abbrev pub decreases-loop-next : goal.decreases-loop-next

@@ -1,30 +1,33 @@
-use Rattle.std.proofs.Common.{◌++◌, ◌∷◌, [], ◌<◌, length, refl, ap, sym, subst, ◌∙◌}
-use Rattle.c_phrases.specs.Reading.{past}
-use Rattle.c_parse.proofs.Checking.{among_last, among_more, none_among, passed, all_passed, place_of, IsAmong}
+use Rattle.std.proofs.Common.{◌<◌, length, refl, arith}
+use Rattle.std.proofs.lemmas.Option.{slice_get_read}
+use Rattle.c_parse.proofs.Checking.{place_of, IsAmong}
 use Rattle.c_parse.proofs.files.stopped.Goals as goal
 
 pub loop-item-init : goal.loop-item-init
-loop-item-init c = ([], refl, none_among refl)
+loop-item-init c = λ some. absurd (omega (arith, some))
 
-pub returns-then-text-at : goal.returns-then-text-at
-returns-then-text-at c = λ bytes.
-    let before = c.loop-item.invariant in
-    let all = passed before.0 c.in-Some.item.now (past c.loop-item.left) before.1 c.in-Some.ensures in
-    place_of bytes _ _ (subst (λ v. IsAmong c.place.result.pos v) (sym all)
-    (among_more (past c.loop-item.left) (among_last before.0 c.in-Some.item.now _ c.place.ensures.pos)))
+-- the place is that of the token that was looked at last
+at_item : (c : goal.Else-text-at) → IsAmong c.place.result.pos c.args.tokens.now
+at_item c = record {
+  k = c.loop-item.item-index;
+  token = c.item-item.result;
+  there = slice_get_read c.args.tokens.now (length c.args.tokens.now) c.loop-item.item-index c.item-item.result refl
+      c.loop-item-test.true c.item-item.is;
+  same = c.place.ensures.pos;
+}
 
 pub loop-item-preserved : goal.loop-item-preserved
-loop-item-preserved c =
-    let before = c.loop-item.invariant in
-    let all = passed before.0 c.in-Some.item.now (past c.loop-item.left) before.1 c.in-Some.ensures in (
-      before.0 ++ c.in-Some.item.now ∷ [],
-      all ∙ ap (λ v. (before.0 ++ c.in-Some.item.now ∷ []) ++ v) (sym c.advance.ensures),
-      λ _. among_last before.0 c.in-Some.item.now _ c.place.ensures.pos,
-    )
+loop-item-preserved c = λ _. at_item c
+
+pub returns-then-text-at : goal.returns-then-text-at
+returns-then-text-at c = λ bytes. place_of bytes _ _ record {
+  k = c.loop-item.item-index;
+  token = c.item-item.result;
+  there = slice_get_read c.args.tokens.now (length c.args.tokens.now) c.loop-item.item-index c.item-item.result refl
+      c.loop-item-test.true c.item-item.is;
+  same = c.place.ensures.pos;
+}
 
 pub returns : goal.returns
 returns c = λ bytes.
-    let before = c.loop-item.invariant in
-    let all = all_passed before.0 before.1 c.in_default.ensures in
-    place_of bytes _ _ (subst (λ v. IsAmong c.loop-item.place v) all
-    (before.2 (subst (λ v. 0 < length v) (sym all) c.requires)))
+    place_of bytes _ _ (c.loop-item.invariant (omega (arith, c.loop-item-test.false, c.requires)))
