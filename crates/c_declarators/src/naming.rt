@@ -10,8 +10,8 @@ ghost use Rattle.c_declarators.specs.Naming.{IsAlias};
 
 use crate::members::text_of;
 use crate::parameters::is_new;
-use c_plain_rules::{in_int, next_after};
 use c_elaborator::{Name, Work};
+use c_plain_rules::{in_int, next_after};
 use c_types::{Decl, DeclKind, Entity, Faults, Storage};
 use ck_base::{DECLARED_TWICE, MISFIT, NO_CONSTANT, Pos, Refusal};
 

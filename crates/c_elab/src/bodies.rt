@@ -18,9 +18,9 @@ ghost use Rattle.c_elab.specs.Functions.{AreMarked, VariableThere, variable_in, 
 ghost use Rattle.c_elab.specs.Functions.{finishes, types_body, defines};
 
 use crate::parameters::open_body;
-use c_plain_rules::{context_of, numbers_below};
 use c_declarators::{Param, Prototype};
 use c_elaborator::{Context, Definition, Items, Work, add_statement};
+use c_plain_rules::{context_of, numbers_below};
 use c_readings::node_at;
 use c_statements::all_items;
 use c_tree::{StmtKind, VarDef};

@@ -13,9 +13,9 @@ ghost use Rattle.c_elab.specs.Elaborated.{HasReading, Elaborated};
 ghost use Rattle.c_elab.specs.Functions.{HasState};
 
 use crate::functions::function_definition;
-use c_plain_rules::greatest_depth;
 use c_elaborator::Work;
 use c_finish::finish;
+use c_plain_rules::greatest_depth;
 use c_readings::{first_of, node_at};
 use c_statements::declaration;
 use c_tree::{NodeKind, Tree, Typed};

@@ -8,8 +8,8 @@ ghost use Rattle.c_expressions.specs.Nodes.{IsWhole, type_in, type_count};
 ghost use Rattle.c_elaborator.specs.Answers.{Answers, quietly, OperandThere, IsOperand, operand_in};
 
 use crate::work::Work;
-use c_operand_rules::find_member;
 use c_expressions::{Operand, Step};
+use c_operand_rules::find_member;
 use c_operators::as_qualified;
 use ck_base::{Pos, Refusal};
 

@@ -7,10 +7,10 @@ ghost use Rattle.c_elaborator.specs.Answers.{Answers, quietly, OperandThere, IsO
 ghost use Rattle.c_operators.specs.Rules.{infix_join_of};
 
 use crate::work::Work;
+use c_expressions::Operand;
 use c_operand_rules::{
     is_compound_counted, is_counted, is_difference_counted, is_readable, is_sum_counted,
 };
-use c_expressions::Operand;
 use c_operators::{compound_of, infix_join_of, stepped_of};
 use c_tree::{InfixOperator, StepOperator};
 use ck_base::{INCOMPLETE_TYPE, Pos, Refusal};

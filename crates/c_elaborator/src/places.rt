@@ -8,8 +8,8 @@ ghost use Rattle.c_elaborator.specs.Answers.{Answers, quietly, OperandThere, IsO
 ghost use Rattle.c_elaborator.specs.Rules.{dereferencing};
 
 use crate::work::Work;
-use c_operand_rules::is_sized;
 use c_expressions::{Operand, Step};
+use c_operand_rules::is_sized;
 use c_operators::{address_of, local_of};
 use ck_base::{INCOMPLETE_TYPE, MISFIT, NoMemory, Pos, Refusal};
 

@@ -18,8 +18,8 @@ use crate::routines::routines;
 use crate::tables::{first_uses, last_definitions, last_fillings};
 use c_copy::Numbers;
 use c_elaborator::Work;
-use c_plain_rules::{last_fault, main_of};
 use c_passing::pass;
+use c_plain_rules::{last_fault, main_of};
 use c_tree::{FunDef, GlobalDef, Typed};
 use ck_base::{NO_MAIN, NoMemory, Pos, Refusal, Sequence};
 

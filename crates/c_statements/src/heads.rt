@@ -13,8 +13,8 @@ ghost use Rattle.c_statements.specs.Statements.{MaybeThere, IsMaybe, for_head, H
 
 use crate::declarations::declaration;
 use crate::simple::{evaluate_one, test};
-use c_plain_rules::Head;
 use c_elaborator::{Context, Items, Work, no_items};
+use c_plain_rules::Head;
 use c_readings::{ThreeParts, node_at, value_of};
 use c_tree::NodeKind;
 use ck_base::Refusal;

@@ -12,10 +12,10 @@ ghost use Rattle.c_readings.specs.Within.{PartWithin, PartsWithin};
 ghost use Rattle.c_statements.specs.Statements.{switched, SwitchedThere, IsSwitched, IsPromoted, LabelThere, IsLabel};
 ghost use Rattle.c_statements.specs.Statements.{CasesThere, IsCases, cases_in, case_of, labelling};
 
-use c_plain_rules::{Cases, add_label};
 use c_declarators::Constant;
 use c_elaborator::Work;
 use c_expressions::Nodes;
+use c_plain_rules::{Cases, add_label};
 use c_readings::{constant, first_of, value_of};
 use ck_base::{MISFIT, NoMemory, Pos, Refusal};
 use ck_int::{IntKind, wrap};
