@@ -1,9 +1,12 @@
 // Images of four words and one relocation, and what their audit answers.
 
+use crate::answers::must_all_hold;
+use crate::made::{Parts, file_of};
+use ck_base::NoMemory;
 use elf_audit::{Verdict, audit};
-use elf_file::{Image, Reloc, Sequence, View, write};
+use elf_file::{Reloc, View};
 use image_load::load;
-use std::alloc::{AllocError, Global};
+use std::alloc::Global;
 
 const DATA: u64 = 65_536;
 
@@ -70,16 +73,12 @@ const ROWS: [([[u8; 4]; 4], u64, u64, Verdict); 10] = [
     ([ADDI, ECALL, NOP, STAY], 8, 125, Verdict::Reloc(0, 8)),
 ];
 
-fn image(
+fn file(
     alloc: Global,
     words: &[[u8; 4]; 4],
     offset: u64,
     perms: u64,
-) -> Result<Image, AllocError> {
-    let mut text = Vec::new(alloc);
-    for word in words {
-        text.extend_from_slice(word)?;
-    }
+) -> Result<Vec<u8>, NoMemory> {
     let reloc = Reloc {
         place: DATA,
         base: TEXT,
@@ -87,25 +86,23 @@ fn image(
         length: 16,
         perms,
     };
-    Ok(Image {
+    let parts = Parts {
         version: 1,
         entry: TEXT,
-        text_base: TEXT,
-        text: Sequence::from_vec(text),
-        initial_base: DATA,
-        initial: Sequence::from_vec(vec![in alloc; 0; 16]?),
+        text: (TEXT, words.as_flattened()),
+        initial: (DATA, &[0; 16]),
         table: (DATA, 16),
         heap: (196_608, 0),
         stack: (262_144, 4_096),
-        relocs: Sequence::from_vec(vec![in alloc; reloc]?),
-        lines: Sequence::from_vec(Vec::new(alloc)),
+        relocs: &[reloc],
+        lines: &[],
         count: 0,
-    })
+    };
+    file_of(alloc, &parts)
 }
 
 fn verdict(alloc: Global, words: &[[u8; 4]; 4], offset: u64, perms: u64) -> Option<Verdict> {
-    let i = image(alloc, words, offset, perms).ok()?;
-    let file = write(alloc, &i).ok()?;
+    let file = file(alloc, words, offset, perms).ok()?;
     let view = View::read(&file).ok()?;
     let Ok(_machine) = load(alloc, &view) else {
         return None;
@@ -113,10 +110,17 @@ fn verdict(alloc: Global, words: &[[u8; 4]; 4], offset: u64, perms: u64) -> Opti
     audit(alloc, &view).ok()
 }
 
+/// The first row with another answer.
+fn wrong_answer(alloc: Global) -> Option<usize> {
+    for (at, (words, offset, perms, wanted)) in ROWS.iter().enumerate() {
+        if verdict(alloc, words, *offset, *perms) != Some(*wanted) {
+            return Some(at);
+        }
+    }
+    None
+}
+
 #[test]
 fn answers_the_first_word_or_relocation(rt: HostRuntime) {
-    for (words, offset, perms, wanted) in &ROWS {
-        let found = verdict(rt.alloc(), words, *offset, *perms);
-        assert!(rt; found == Some(*wanted), "{wanted:?}");
-    }
+    must_all_hold(&rt, "answers", wrong_answer(rt.alloc()));
 }

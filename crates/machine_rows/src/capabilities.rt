@@ -4,6 +4,7 @@ ghost use Rattle.cap_ops.specs.Access.{IsAccess};
 mod check_vectors;
 mod operation_vectors;
 
+use crate::answers::{must_all_hold, must_hold};
 use cap_concentrate::{bounds_of, pack, unpack};
 use cap_ops::{
     Access, Cap, Cause, add, and_perms, check, clear, narrow, narrow_exact, null, seal_entry,
@@ -12,7 +13,7 @@ use cap_ops::{
 use check_vectors::CHECKS;
 use operation_vectors::OPERATIONS;
 
-#[derive(Clone, Copy, Debug)]
+#[derive(Clone, Copy)]
 enum Operation {
     WithAddress,
     Add,
@@ -23,7 +24,7 @@ enum Operation {
     SealEntry,
 }
 
-#[derive(Clone, Copy, Debug)]
+#[derive(Clone, Copy)]
 enum Kind {
     Load,
     Store,
@@ -62,11 +63,10 @@ fn result_of(operation: Operation, c: Cap, argument: u64) -> Cap {
     }
 }
 
-#[test]
-fn null_has_the_whole_address_space(rt: HostRuntime) {
+fn null_has_the_whole_address_space() -> bool {
     let c = null(77);
     let good = !c.tag && pack(c.fields) == 0x0000_1fff_fc01_8004_0000_0000_0000_004d;
-    assert!(rt; good && bounds_of(c.fields) == (0, 1 << 64));
+    good && bounds_of(c.fields) == (0, 1 << 64)
 }
 
 /// An operation, the tag and the bits of its operand, its argument, and the tag and the bits of the result.
@@ -78,11 +78,14 @@ fn operates(&((operation, tag, bits, argument), (wanted_tag, wanted_bits)): &Ope
     found.tag == wanted_tag && pack(found.fields) == wanted_bits
 }
 
-#[test]
-fn operations_give_capabilities(rt: HostRuntime) {
-    for row in &OPERATIONS {
-        assert!(rt; operates(row), "{row:?}");
+/// The first operation that gives another capability.
+fn wrong_operation() -> Option<usize> {
+    for (at, row) in OPERATIONS.iter().enumerate() {
+        if !operates(row) {
+            return Some(at);
+        }
     }
+    None
 }
 
 /// The tag and the bits of a capability and an address; the kind of an access, its length, whether its value is tagged,
@@ -98,9 +101,19 @@ fn is_checked(&((tag, bits, at), (kind, length, tagged, cause)): &Checked) -> bo
     }
 }
 
-#[test]
-fn checks_give_the_first_cause(rt: HostRuntime) {
-    for row in &CHECKS {
-        assert!(rt; is_checked(row), "{row:?}");
+/// The first check that gives another cause.
+fn wrong_check() -> Option<usize> {
+    for (at, row) in CHECKS.iter().enumerate() {
+        if !is_checked(row) {
+            return Some(at);
+        }
     }
+    None
+}
+
+#[test]
+fn operations_give_capabilities_and_checks_the_first_cause(rt: HostRuntime) {
+    must_hold(&rt, "null", null_has_the_whole_address_space());
+    must_all_hold(&rt, "operations", wrong_operation());
+    must_all_hold(&rt, "checks", wrong_check());
 }

@@ -3,6 +3,7 @@ mod decoding_vectors;
 mod packing_vectors;
 mod rounding_vectors;
 
+use crate::answers::{must_all_hold, must_hold};
 use cap_concentrate::{
     Bounds, Fields, NULL_BITS, alignment_mask, bounds_of, flip_null, keeps_bounds, pack,
     rounded_length, set_bounds, unpack,
@@ -15,11 +16,14 @@ fn is_rounded(&(length, owned, mask): &(u64, u64, u64)) -> bool {
     rounded_length(length) == owned && alignment_mask(length) == mask
 }
 
-#[test]
-fn lengths_are_rounded(rt: HostRuntime) {
-    for row in &LENGTHS {
-        assert!(rt; is_rounded(row), "{row:?}");
+/// The first length that is rounded otherwise.
+fn wrong_length() -> Option<usize> {
+    for (at, row) in LENGTHS.iter().enumerate() {
+        if !is_rounded(row) {
+            return Some(at);
+        }
     }
+    None
 }
 
 /// The least bounds of a request that ends at most at 2^64.
@@ -43,22 +47,28 @@ fn is_set(&((base, length), (low, high, exact), (internal, t, b)): &Setting) -> 
     good_bounds && good_fields
 }
 
-#[test]
-fn bounds_are_set(rt: HostRuntime) {
-    for row in &SET_BOUNDS {
-        assert!(rt; is_set(row), "{row:?}");
+/// The first request that has other bounds.
+fn wrong_setting() -> Option<usize> {
+    for (at, row) in SET_BOUNDS.iter().enumerate() {
+        if !is_set(row) {
+            return Some(at);
+        }
     }
+    None
 }
 
 fn is_decoded(&(bits, base, top): &(u128, u64, u128)) -> bool {
     bounds_of(unpack(bits)) == (base, top)
 }
 
-#[test]
-fn bits_are_decoded(rt: HostRuntime) {
-    for row in &DECODE {
-        assert!(rt; is_decoded(row), "{row:?}");
+/// The first bits that give other bounds.
+fn wrong_decoding() -> Option<usize> {
+    for (at, row) in DECODE.iter().enumerate() {
+        if !is_decoded(row) {
+            return Some(at);
+        }
     }
+    None
 }
 
 /// The fields of bounds and an address, another address, and whether the bounds are kept there.
@@ -76,11 +86,14 @@ fn is_kept(&((internal, t, b, address), (other, kept)): &Keeping) -> bool {
     keeps_bounds(fields, other) == kept
 }
 
-#[test]
-fn bounds_are_kept(rt: HostRuntime) {
-    for row in &KEEPS_BOUNDS {
-        assert!(rt; is_kept(row), "{row:?}");
+/// The first address at which bounds are kept or not kept otherwise.
+fn wrong_keeping() -> Option<usize> {
+    for (at, row) in KEEPS_BOUNDS.iter().enumerate() {
+        if !is_kept(row) {
+            return Some(at);
+        }
     }
+    None
 }
 
 /// The bits and their form in memory, and the fields.
@@ -99,11 +112,14 @@ fn stands_at_its_place(&((bits, memory), others, bounds, address): &Placing) -> 
     good && flip_null(bits) == memory
 }
 
-#[test]
-fn fields_stand_at_their_places(rt: HostRuntime) {
-    for row in &FIELDS {
-        assert!(rt; stands_at_its_place(row), "{row:?}");
+/// The first bits that have other fields.
+fn wrong_placing() -> Option<usize> {
+    for (at, row) in FIELDS.iter().enumerate() {
+        if !stands_at_its_place(row) {
+            return Some(at);
+        }
     }
+    None
 }
 
 /// Unsealed capabilities with permissions 125 and the address at the base: base, length, and the
@@ -141,10 +157,23 @@ fn is_packed(&(base, length, upper, memory): &(u64, u64, u128, u128)) -> bool {
     bits >> 64 == upper && flip_null(bits) >> 64 == memory && unpack(bits) == fields
 }
 
-#[test]
-fn capabilities_are_packed(rt: HostRuntime) {
-    for row in &PACKED {
-        assert!(rt; is_packed(row), "{row:?}");
+/// The first capability that has other bits.
+fn wrong_packing() -> Option<usize> {
+    for (at, row) in PACKED.iter().enumerate() {
+        if !is_packed(row) {
+            return Some(at);
+        }
     }
-    assert!(rt; flip_null(NULL_BITS) == 0);
+    None
+}
+
+#[test]
+fn bounds_and_fields_have_their_bits(rt: HostRuntime) {
+    must_all_hold(&rt, "lengths are rounded", wrong_length());
+    must_all_hold(&rt, "bounds are set", wrong_setting());
+    must_all_hold(&rt, "bits are decoded", wrong_decoding());
+    must_all_hold(&rt, "bounds are kept", wrong_keeping());
+    must_all_hold(&rt, "fields stand at their places", wrong_placing());
+    must_all_hold(&rt, "capabilities are packed", wrong_packing());
+    must_hold(&rt, "null is flipped", flip_null(NULL_BITS) == 0);
 }

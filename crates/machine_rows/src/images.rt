@@ -1,8 +1,10 @@
 //! An image and its files of both versions, written by hand from the format. The files are in words of eight bytes,
 //! little endian.
 
+use crate::answers::must_hold;
+use crate::made::{Parts, file_of};
 use ck_base::NoMemory;
-use elf_file::{ElfRefusal, Image, Line, Reloc, Sequence, View, write};
+use elf_file::{ElfRefusal, Line, Reloc, View};
 use std::alloc::{AllocError, Global};
 
 /// The file header.
@@ -126,33 +128,25 @@ const SECOND: Line = Line {
     kind: 1,
 };
 
-fn put(bytes: &mut Vec<u8>, words: &[u64]) -> Result<(), AllocError> {
-    for word in words {
-        bytes.extend_from_slice(&word.to_le_bytes())?;
-    }
-    Ok(())
-}
-
-fn put_headers(bytes: &mut Vec<u8>, form: &Form) -> Result<(), AllocError> {
-    put(bytes, &FILE_HEADER)?;
-    put(bytes, PROGRAM_HEADERS.as_flattened())?;
-    put(bytes, SECTION_HEADERS.as_flattened())?;
-    put(bytes, form.sections.as_flattened())
-}
-
-fn put_contents(bytes: &mut Vec<u8>, form: &Form, version: u64) -> Result<(), AllocError> {
-    put(bytes, PARTS.as_flattened())?;
-    put(bytes, &[version])?;
-    put(bytes, &WORDS)?;
-    put(bytes, form.behind)?;
-    bytes.extend_from_slice(&NAMES)
-}
-
 /// The file of a form, with this version word.
 fn file(alloc: Global, form: &Form, version: u64) -> Result<Vec<u8>, AllocError> {
+    let parts: [&[u64]; 8] = [
+        &FILE_HEADER,
+        PROGRAM_HEADERS.as_flattened(),
+        SECTION_HEADERS.as_flattened(),
+        form.sections.as_flattened(),
+        PARTS.as_flattened(),
+        &[version],
+        &WORDS,
+        form.behind,
+    ];
     let mut bytes = Vec::new(alloc);
-    put_headers(&mut bytes, form)?;
-    put_contents(&mut bytes, form, version)?;
+    for words in parts {
+        for word in words {
+            bytes.extend_from_slice(&word.to_le_bytes())?;
+        }
+    }
+    bytes.extend_from_slice(&NAMES)?;
     Ok(bytes)
 }
 
@@ -162,39 +156,21 @@ const INITIAL: [u8; 20] = [
     1, 2, 3, 4, 5, 6, 7, 8, 9, 10, 11, 12, 13, 14, 15, 16, 17, 18, 19, 20,
 ];
 
-fn sequence<T: Copy>(alloc: Global, items: &[T]) -> Result<Sequence<T>, AllocError> {
-    Ok(Sequence::from_vec(Vec::from_slice(alloc, items)?))
-}
-
-fn image(alloc: Global, form: &Form) -> Result<Image, AllocError> {
-    Ok(Image {
+/// The file that is written of the image.
+fn written(alloc: Global, form: &Form) -> Result<Vec<u8>, NoMemory> {
+    let parts = Parts {
         version: form.version,
         entry: 0x1_0004,
-        text_base: 0x1_0000,
-        text: sequence(alloc, &TEXT)?,
-        initial_base: 0x10_0000,
-        initial: sequence(alloc, &INITIAL)?,
+        text: (0x1_0000, &TEXT),
+        initial: (0x10_0000, &INITIAL),
         table: (0x10_0000, 16),
         heap: (0x20_0000, 0x1_0000),
         stack: (0x40_0000, 0x2_0000),
-        relocs: sequence(alloc, &[RELOC])?,
-        lines: sequence(alloc, &[FIRST, SECOND])?,
+        relocs: &[RELOC],
+        lines: &[FIRST, SECOND],
         count: if form.version == 2 { COUNT } else { 0 },
-    })
-}
-
-/// The file that is written of the image.
-fn written(alloc: Global, form: &Form) -> Result<Vec<u8>, NoMemory> {
-    let image = image(alloc, form)?;
-    write(alloc, &image)
-}
-
-/// These are the bytes of the file.
-fn is_file(alloc: Global, form: &Form, bytes: &[u8]) -> bool {
-    let Ok(file) = file(alloc, form, form.version) else {
-        return false;
     };
-    file.as_slice() == bytes
+    file_of(alloc, &parts)
 }
 
 /// An address, and the line that stands there.
@@ -247,35 +223,37 @@ fn is_read(form: &Form, file: &[u8]) -> bool {
     has_parts(&view) && has_positions(&view) && has_words(&view) && has_other_words(&view, form)
 }
 
-fn is_written_and_read(alloc: Global, form: &Form) -> bool {
-    let Ok(file) = written(alloc, form) else {
-        return false;
-    };
-    is_file(alloc, form, &file) && is_read(form, &file)
+fn is_written_and_read(alloc: Global, form: &Form) -> Result<bool, NoMemory> {
+    let written = written(alloc, form)?;
+    let file = file(alloc, form, form.version)?;
+    Ok(file.as_slice() == written.as_slice() && is_read(form, &written))
 }
 
-#[test]
-fn writes_and_reads_an_image(rt: HostRuntime) {
-    for form in &FORMS {
-        assert!(rt; is_written_and_read(rt.alloc(), form), "{}", form.version);
+fn refusal_of(file: &[u8]) -> Option<ElfRefusal> {
+    match View::read(file) {
+        Ok(_) => None,
+        Err(refusal) => Some(refusal),
+    }
+}
+
+/// Puts a byte at a place of the file, for the one that it gives.
+fn put(file: &mut [u8], place: usize, byte: u8) -> u8 {
+    match file.get_mut(place) {
+        Some(there) => {
+            let old = *there;
+            *there = byte;
+            old
+        }
+        None => byte,
     }
 }
 
 /// Whether the file with another byte at a place is refused so, or read where no refusal is wanted.
-fn is_refused_with(
-    file: &[u8],
-    alloc: Global,
-    place: usize,
-    byte: u8,
-    wanted: Option<ElfRefusal>,
-) -> bool {
-    let Ok(mut bytes) = Vec::from_slice(alloc, file) else {
-        return false;
-    };
-    if place < bytes.len() {
-        bytes[place] = byte;
-    }
-    View::read(&bytes).err() == wanted
+fn is_refused_with(file: &mut [u8], place: usize, byte: u8, wanted: Option<ElfRefusal>) -> bool {
+    let old = put(file, place, byte);
+    let found = refusal_of(file);
+    put(file, place, old);
+    found == wanted
 }
 
 /// The refusal of the file whose byte at this place has each of its bits changed.
@@ -304,37 +282,29 @@ const SECOND_LINES: [(u8, Option<ElfRefusal>); 4] = [
     (12, Some(ElfRefusal::Field)),
 ];
 
-/// The first byte whose change is answered otherwise.
-fn first_wrong(alloc: Global, form: &Form, file: &[u8]) -> Option<usize> {
+/// Whether each change of a byte is answered so. The second file is the first, to be changed.
+fn has_each_byte(form: &Form, file: &[u8], changed: &mut [u8]) -> bool {
     for (place, byte) in file.iter().enumerate() {
-        if !is_refused_with(file, alloc, place, !*byte, refusal_at(form, place)) {
-            return Some(place);
-        }
-    }
-    None
-}
-
-fn has_second_lines(alloc: Global, file: &[u8]) -> bool {
-    for &(at, wanted) in &SECOND_LINES {
-        if !is_refused_with(file, alloc, 848, at, wanted) {
+        if !is_refused_with(changed, place, !*byte, refusal_at(form, place)) {
             return false;
         }
     }
     true
 }
 
-fn refuses_bytes(alloc: Global, form: &Form) -> bool {
-    let Ok(file) = file(alloc, form, form.version) else {
-        return false;
-    };
-    first_wrong(alloc, form, &file).is_none() && has_second_lines(alloc, &file)
+fn has_second_lines(file: &mut [u8]) -> bool {
+    for &(at, wanted) in &SECOND_LINES {
+        if !is_refused_with(file, 848, at, wanted) {
+            return false;
+        }
+    }
+    true
 }
 
-#[test]
-fn refuses_each_wrong_byte(rt: HostRuntime) {
-    for form in &FORMS {
-        assert!(rt; refuses_bytes(rt.alloc(), form), "{}", form.version);
-    }
+fn refuses_bytes(alloc: Global, form: &Form) -> Result<bool, AllocError> {
+    let same = file(alloc, form, form.version)?;
+    let mut changed = file(alloc, form, form.version)?;
+    Ok(has_each_byte(form, &same, &mut changed) && has_second_lines(&mut changed))
 }
 
 /// The refusal of a file with this version word, where the image's part has the size of that form.
@@ -353,36 +323,32 @@ const SIZE_AT: usize = 640;
 const OTHER_SIZES: [u8; 9] = [0, 8, 88, 95, 97, 100, 103, 105, 112];
 
 /// Whether a file is refused with each other size.
-fn refuses_sizes(alloc: Global, file: &[u8]) -> bool {
+fn refuses_sizes(file: &mut [u8]) -> bool {
     for &size in &OTHER_SIZES {
-        if !is_refused_with(file, alloc, SIZE_AT, size, Some(ElfRefusal::Field)) {
+        if !is_refused_with(file, SIZE_AT, size, Some(ElfRefusal::Field)) {
             return false;
         }
     }
     true
 }
 
-fn reads_version(alloc: Global, form: &Form, version: u64) -> bool {
-    let Ok(file) = file(alloc, form, version) else {
-        return false;
-    };
-    View::read(&file).err() == version_refusal(form, version) && refuses_sizes(alloc, &file)
+fn reads_version(alloc: Global, form: &Form, version: u64) -> Result<bool, AllocError> {
+    let mut file = file(alloc, form, version)?;
+    Ok(refusal_of(&file) == version_refusal(form, version) && refuses_sizes(&mut file))
 }
 
-#[test]
-fn reads_each_version_with_its_size_alone(rt: HostRuntime) {
-    for form in &FORMS {
-        for version in 0..4 {
-            assert!(rt; reads_version(rt.alloc(), form, version), "{version}");
+fn reads_its_version_alone(alloc: Global, form: &Form) -> bool {
+    for version in 0..4 {
+        if !matches!(reads_version(alloc, form, version), Ok(true)) {
+            return false;
         }
     }
+    true
 }
 
 /// Whether so many first bytes of the file are refused so.
 fn is_truncated(file: &[u8], len: usize, (refusal, number): (ElfRefusal, u8)) -> bool {
-    len < file.len()
-        && View::read(&file[..len]).err() == Some(refusal)
-        && refusal.number() == number
+    len < file.len() && refusal_of(&file[..len]) == Some(refusal) && refusal.number() == number
 }
 
 /// The refusal, and its number.
@@ -394,32 +360,32 @@ fn truncation(len: usize) -> (ElfRefusal, u8) {
     }
 }
 
-/// The first length at which the file is answered otherwise.
-fn first_untruncated(form: &Form, file: &[u8]) -> Option<usize> {
+/// Whether the file is refused at each shorter length.
+fn is_truncated_at_each(form: &Form, file: &[u8]) -> bool {
     for len in 0..form.len {
         if !is_truncated(file, len, truncation(len)) {
-            return Some(len);
+            return false;
         }
     }
-    None
+    true
 }
 
-/// Whether the file is read with a byte behind its last part, which is not looked at.
-fn is_read_longer(file: Vec<u8>) -> bool {
-    let mut longer = file;
-    longer.push(0xff).is_ok() && View::read(&longer).is_ok()
-}
-
-fn refuses_truncations(alloc: Global, form: &Form) -> bool {
-    let Ok(file) = file(alloc, form, form.version) else {
-        return false;
-    };
-    file.len() == form.len && first_untruncated(form, &file).is_none() && is_read_longer(file)
+/// Whether the file is refused at each shorter length, and read with a byte behind its last part, which is not looked
+/// at.
+fn refuses_truncations(alloc: Global, form: &Form) -> Result<bool, AllocError> {
+    let mut file = file(alloc, form, form.version)?;
+    let is_refused = file.len() == form.len && is_truncated_at_each(form, &file);
+    file.push(0xff)?;
+    Ok(is_refused && refusal_of(&file).is_none())
 }
 
 #[test]
-fn refuses_each_truncation(rt: HostRuntime) {
+fn images_are_written_and_read_and_wrong_files_refused(rt: HostRuntime) {
+    let alloc = rt.alloc();
     for form in &FORMS {
-        assert!(rt; refuses_truncations(rt.alloc(), form), "{}", form.version);
+        must_hold(&rt, "an image", matches!(is_written_and_read(alloc, form), Ok(true)));
+        must_hold(&rt, "each wrong byte", matches!(refuses_bytes(alloc, form), Ok(true)));
+        must_hold(&rt, "each version with its size alone", reads_its_version_alone(alloc, form));
+        must_hold(&rt, "each truncation", matches!(refuses_truncations(alloc, form), Ok(true)));
     }
 }

@@ -1,5 +1,6 @@
 //! C's integers: values of an independent model.
 
+use crate::answers::must_all_hold;
 use ck_int::CmpOp::*;
 use ck_int::IntKind::*;
 use ck_int::IntOp::*;
@@ -313,42 +314,62 @@ fn wraps_as(&(kind, v, kept): &(IntKind, i128, u64)) -> bool {
     wrap(kind, v) == kept
 }
 
-#[test]
-fn wraps(rt: HostRuntime) {
-    for row in &WRAPPED {
-        assert!(rt; wraps_as(row), "{row:?}");
+/// The first value that is wrapped otherwise.
+fn wrong_wrap() -> Option<usize> {
+    for (at, row) in WRAPPED.iter().enumerate() {
+        if !wraps_as(row) {
+            return Some(at);
+        }
     }
+    None
 }
 
 fn converts_as(&(from, to, v, kept): &(IntKind, IntKind, u64, u64)) -> bool {
     convert(from, to, v) == kept
 }
 
-#[test]
-fn converts(rt: HostRuntime) {
-    for row in &CONVERTED {
-        assert!(rt; converts_as(row), "{row:?}");
+/// The first value that is converted otherwise.
+fn wrong_conversion() -> Option<usize> {
+    for (at, row) in CONVERTED.iter().enumerate() {
+        if !converts_as(row) {
+            return Some(at);
+        }
     }
+    None
 }
 
 fn computes_as(&(op, kind, a, b, computed): &(IntOp, IntKind, u64, u64, u64)) -> bool {
     binary(op, kind, a, b) == computed
 }
 
-#[test]
-fn computes(rt: HostRuntime) {
-    for row in &RESULTS {
-        assert!(rt; computes_as(row), "{row:?}");
+/// The first operation that gives another value.
+fn wrong_result() -> Option<usize> {
+    for (at, row) in RESULTS.iter().enumerate() {
+        if !computes_as(row) {
+            return Some(at);
+        }
     }
+    None
 }
 
 fn compares_as(&(op, kind, a, b, holds): &(CmpOp, IntKind, u64, u64, bool)) -> bool {
     compare(op, kind, a, b) == holds
 }
 
-#[test]
-fn compares(rt: HostRuntime) {
-    for row in &COMPARED {
-        assert!(rt; compares_as(row), "{row:?}");
+/// The first comparison that is answered otherwise.
+fn wrong_comparison() -> Option<usize> {
+    for (at, row) in COMPARED.iter().enumerate() {
+        if !compares_as(row) {
+            return Some(at);
+        }
     }
+    None
+}
+
+#[test]
+fn wraps_converts_computes_and_compares(rt: HostRuntime) {
+    must_all_hold(&rt, "wraps", wrong_wrap());
+    must_all_hold(&rt, "converts", wrong_conversion());
+    must_all_hold(&rt, "computes", wrong_result());
+    must_all_hold(&rt, "compares", wrong_comparison());
 }

@@ -8,6 +8,8 @@
 #![tactic(auto)]
 
 #[cfg(test)]
+mod answers;
+#[cfg(test)]
 mod audits;
 #[cfg(test)]
 mod capabilities;
@@ -23,6 +25,8 @@ mod integers;
 mod loading;
 #[cfg(test)]
 mod machines;
+#[cfg(test)]
+mod made;
 #[cfg(test)]
 mod memory;
 #[cfg(test)]

@@ -1,11 +1,14 @@
 //! Images as their files, and the machine or the refusal that they load to.
 
+use crate::answers::must_all_hold;
+use crate::made::{Parts, file_of};
 use cap_concentrate::{bounds_of, flip_null, unpack};
 use cap_machine::Machine;
+use ck_base::NoMemory;
 use cap_ops::{Cap, SENTRY, UNSEALED, null};
-use elf_file::{Image, Reloc, Sequence, View, write};
+use elf_file::{Reloc, View};
 use image_load::{LoadRefusal, load};
-use std::alloc::{AllocError, Global};
+use std::alloc::Global;
 use tag_mem::Mem;
 
 /// The base of 64 bytes of initial data.
@@ -35,58 +38,10 @@ const FUNCTION: Reloc = Reloc {
     perms: 0x8000_0000_0000_0003,
 };
 
-fn sequence(alloc: Global, bytes: &[u8]) -> Result<Sequence<u8>, AllocError> {
-    Ok(Sequence::from_vec(Vec::from_slice(alloc, bytes)?))
-}
-
-fn image(
-    alloc: Global,
-    entry: u64,
-    table: u64,
-    stack: (u64, u64),
-    relocs: [Reloc; 2],
-) -> Result<Image, AllocError> {
-    let text = [
-        0x13, 0, 0, 0, 0x13, 0, 0, 0, 0x13, 0, 0, 0, 0x73, 0, 0x10, 0,
-    ];
-    Ok(Image {
-        version: 1,
-        entry,
-        text_base: TEXT,
-        text: sequence(alloc, &text)?,
-        initial_base: INITIAL,
-        initial: sequence(alloc, &[7; 64])?,
-        table: (INITIAL, table),
-        heap: (196_608, 0),
-        stack,
-        relocs: Sequence::from_vec(Vec::from_slice(alloc, &relocs)?),
-        lines: Sequence::from_vec(Vec::new(alloc)),
-        count: 0,
-    })
-}
-
-/// The file of an image.
-fn file(
-    alloc: Global,
-    entry: u64,
-    table: u64,
-    stack: (u64, u64),
-    relocs: [Reloc; 2],
-) -> Option<Vec<u8>> {
-    let i = image(alloc, entry, table, stack, relocs).ok()?;
-    write(alloc, &i).ok()
-}
-
-/// What a file loads to, where it is one of an image.
-fn loaded(alloc: Global, file: &[u8]) -> Option<Result<Machine, LoadRefusal>> {
-    let view = View::read(file).ok()?;
-    Some(load(alloc, &view))
-}
-
-fn first_state(alloc: Global) -> Option<Machine> {
-    let file = file(alloc, TEXT + 4, 32, (STACK, 4_096), [POINTER, FUNCTION])?;
-    loaded(alloc, &file)?.ok()
-}
+/// The four instructions.
+const WORDS: [u8; 16] = [
+    0x13, 0, 0, 0, 0x13, 0, 0, 0, 0x13, 0, 0, 0, 0x73, 0, 0x10, 0,
+];
 
 /// A tagged capability that is not sealed, with these permissions, these bounds and this address.
 fn is_bounded(c: Cap, perms: u16, bounds: (u64, u128), address: u64) -> bool {
@@ -142,12 +97,8 @@ fn has_places(mem: &Mem) -> bool {
     true
 }
 
-#[test]
-fn loads_the_first_state(rt: HostRuntime) {
-    let m = first_state(rt.alloc()).expect(&rt, "a machine");
-    assert!(rt; has_registers(m.pc, &m.regs));
-    assert!(rt; has_capabilities(&m.mem));
-    assert!(rt; has_places(&m.mem));
+fn is_first_state(m: &Machine) -> bool {
+    has_registers(m.pc, &m.regs) && has_capabilities(&m.mem) && has_places(&m.mem)
 }
 
 const BESIDE: Reloc = Reloc {
@@ -180,138 +131,179 @@ const FAR: Reloc = Reloc {
     ..POINTER
 };
 
-/// The entry, the table's length, the stack and the relocations, with the refusal.
-type Refused = (u64, u64, (u64, u64), [Reloc; 2], LoadRefusal);
+/// The entry, the table's length, the stack and the relocations, with the refusal: without one the first state is
+/// loaded.
+type Loaded = (u64, u64, (u64, u64), [Reloc; 2], Option<LoadRefusal>);
 
-const REFUSED: [Refused; 15] = [
+const LOADED: [Loaded; 16] = [
+    (
+        TEXT + 4,
+        32,
+        (STACK, 4_096),
+        [POINTER, FUNCTION],
+        None,
+    ),
     (
         TEXT,
         32,
         (STACK + 8, 4_096),
         [POINTER, FUNCTION],
-        LoadRefusal::Segment,
+        Some(LoadRefusal::Segment),
     ),
     (
         TEXT,
         32,
         (STACK, 4_104),
         [POINTER, FUNCTION],
-        LoadRefusal::Segment,
+        Some(LoadRefusal::Segment),
     ),
     (
         TEXT,
         32,
         (32_768, 4_096),
         [POINTER, FUNCTION],
-        LoadRefusal::Segment,
+        Some(LoadRefusal::Segment),
     ),
     (
         TEXT,
         32,
         (STACK, 0x1000_0000),
         [POINTER, FUNCTION],
-        LoadRefusal::Segment,
+        Some(LoadRefusal::Segment),
     ),
     (
         TEXT + 2,
         32,
         (TEXT - 16, 32),
         [POINTER, FUNCTION],
-        LoadRefusal::Overlap,
+        Some(LoadRefusal::Overlap),
     ),
     (
         TEXT,
         80,
         (STACK, 4_096),
         [POINTER, FUNCTION],
-        LoadRefusal::Overlap,
+        Some(LoadRefusal::Overlap),
     ),
     (
         TEXT + 2,
         32,
         (STACK, 4_096),
         [BESIDE, USER],
-        LoadRefusal::Entry,
+        Some(LoadRefusal::Entry),
     ),
     (
         TEXT + 16,
         32,
         (STACK, 4_096),
         [POINTER, FUNCTION],
-        LoadRefusal::Entry,
+        Some(LoadRefusal::Entry),
     ),
-    (TEXT, 32, (STACK, 4_096), [BESIDE, USER], LoadRefusal::Place),
+    (TEXT, 32, (STACK, 4_096), [BESIDE, USER], Some(LoadRefusal::Place)),
     (
         TEXT,
         32,
         (STACK, 4_096),
         [POINTER, BEHIND],
-        LoadRefusal::Place,
+        Some(LoadRefusal::Place),
     ),
     (
         TEXT,
         32,
         (STACK, 4_096),
         [USER, BESIDE],
-        LoadRefusal::Bounds,
+        Some(LoadRefusal::Bounds),
     ),
     (
         TEXT,
         32,
         (STACK, 4_096),
         [POINTER, SEALED_DATA],
-        LoadRefusal::Bounds,
+        Some(LoadRefusal::Bounds),
     ),
     (
         TEXT,
         32,
         (STACK, 4_096),
         [INEXACT, FUNCTION],
-        LoadRefusal::Bounds,
+        Some(LoadRefusal::Bounds),
     ),
     (
         TEXT,
         32,
         (STACK, 4_096),
         [FAR, FUNCTION],
-        LoadRefusal::Bounds,
+        Some(LoadRefusal::Bounds),
     ),
     (
         TEXT,
         32,
         (STACK, 0x10_0010),
         [POINTER, FUNCTION],
-        LoadRefusal::Bounds,
+        Some(LoadRefusal::Bounds),
     ),
 ];
 
-fn is_refused(alloc: Global, &(entry, table, stack, relocs, wanted): &Refused) -> bool {
-    let Some(file) = file(alloc, entry, table, stack, relocs) else {
-        return false;
+/// The file of an image.
+fn file(
+    alloc: Global,
+    &(entry, table, stack, ref relocs, _): &Loaded,
+) -> Result<Vec<u8>, NoMemory> {
+    let parts = Parts {
+        version: 1,
+        entry,
+        text: (TEXT, &WORDS),
+        initial: (INITIAL, &[7; 64]),
+        table: (INITIAL, table),
+        heap: (196_608, 0),
+        stack,
+        relocs,
+        lines: &[],
+        count: 0,
     };
-    let Some(loaded) = loaded(alloc, &file) else {
-        return false;
-    };
-    loaded.err() == Some(wanted)
+    file_of(alloc, &parts)
 }
 
-#[test]
-fn refuses_by_the_first_test(rt: HostRuntime) {
-    for row in &REFUSED {
-        assert!(rt; is_refused(rt.alloc(), row), "{row:?}");
+fn is_loaded(alloc: Global, row: &Loaded) -> Option<bool> {
+    let file = file(alloc, row).ok()?;
+    let view = View::read(&file).ok()?;
+    match load(alloc, &view) {
+        Ok(m) => Some(row.4.is_none() && is_first_state(&m)),
+        Err(refusal) => Some(row.4 == Some(refusal)),
     }
 }
 
-#[test]
-fn refusals_have_numbers(rt: HostRuntime) {
-    for (refusal, number) in [
-        (LoadRefusal::Segment, 11),
-        (LoadRefusal::Overlap, 12),
-        (LoadRefusal::Place, 13),
-        (LoadRefusal::Bounds, 14),
-        (LoadRefusal::Entry, 15),
-        (LoadRefusal::NoMemory, 0),
-    ] {
-        assert!(rt; refusal.number() == number, "{refusal:?}");
+/// The first row that is answered otherwise.
+fn wrong_loading(alloc: Global) -> Option<usize> {
+    for (at, row) in LOADED.iter().enumerate() {
+        if is_loaded(alloc, row) != Some(true) {
+            return Some(at);
+        }
     }
+    None
+}
+
+const NUMBERS: [(LoadRefusal, u8); 6] = [
+    (LoadRefusal::Segment, 11),
+    (LoadRefusal::Overlap, 12),
+    (LoadRefusal::Place, 13),
+    (LoadRefusal::Bounds, 14),
+    (LoadRefusal::Entry, 15),
+    (LoadRefusal::NoMemory, 0),
+];
+
+/// The first refusal that has another number.
+fn wrong_number() -> Option<usize> {
+    for (at, &(refusal, number)) in NUMBERS.iter().enumerate() {
+        if refusal.number() != number {
+            return Some(at);
+        }
+    }
+    None
+}
+
+#[test]
+fn loads_the_first_state_or_refuses_by_the_first_test(rt: HostRuntime) {
+    must_all_hold(&rt, "images", wrong_loading(rt.alloc()));
+    must_all_hold(&rt, "numbers of refusals", wrong_number());
 }

@@ -1,13 +1,13 @@
 //! Small programs, as an assembler writes them, with the results that the instruction sets give.
 ghost use Rattle.std.specs.Prelude.{◌<◌, ◌^◌};
 
+use crate::answers::{must_all_hold, must_hold};
 use cap_concentrate::{Fields, set_bounds};
 use cap_machine::{End, Machine, Step};
 use cap_ops::{Cap, Cause, UNSEALED, null, seal_entry, with_address};
 use ck_base::{MemSink, MemSource, NoMemory, SureSink, SureSource};
 use rv_instr::Reg;
 use std::alloc::{AllocError, Global};
-use std::process::Abort;
 use tag_mem::{Mem, Region};
 
 /// The base of 64 bytes of text.
@@ -124,28 +124,25 @@ const INTEGERS: [(u32, u64, u64, u64); 16] = [
     (0x8000_0537, 0, 0, 0xffff_ffff_8000_0000), // lui x10, 0x80000
 ];
 
-/// A machine of one instruction whose x11 and x12 have these integers.
-fn machine_with(alloc: Global, word: u32, a: u64, b: u64) -> Result<Machine, NoMemory> {
+fn computes_as(
+    alloc: Global,
+    &(word, a, b, wanted): &(u32, u64, u64, u64),
+) -> Result<bool, NoMemory> {
     let mut m = machine(alloc, &[word])?;
     m.regs[11] = null(a);
     m.regs[12] = null(b);
-    Ok(m)
+    let end = run(alloc, &mut m, 1);
+    Ok(end == End::Steps && m.register(Reg::RESULT) == null(wanted) && m.counter() == TEXT + 4)
 }
 
-fn computes_as(alloc: Global, &(word, a, b, wanted): &(u32, u64, u64, u64)) -> bool {
-    let Ok(mut m) = machine_with(alloc, word, a, b) else {
-        return false;
-    };
-    run(alloc, &mut m, 1) == End::Steps
-        && m.register(Reg::RESULT) == null(wanted)
-        && m.counter() == TEXT + 4
-}
-
-#[test]
-fn computes_integers(rt: HostRuntime) {
-    for row in &INTEGERS {
-        assert!(rt; computes_as(rt.alloc(), row), "{row:?}");
+/// The first instruction that computes another integer.
+fn wrong_integer(alloc: Global) -> Option<usize> {
+    for (at, row) in INTEGERS.iter().enumerate() {
+        if !matches!(computes_as(alloc, row), Ok(true)) {
+            return Some(at);
+        }
     }
+    None
 }
 
 /// One instruction, and how it ends the run.
@@ -162,28 +159,32 @@ const ENDS: [(u32, End); 10] = [
     (0x0010_0073, End::Break(TEXT)), // ebreak
 ];
 
-fn ends_as(alloc: Global, &(word, wanted): &(u32, End)) -> bool {
-    let Ok(mut m) = machine(alloc, &[word]) else {
-        return false;
-    };
-    run(alloc, &mut m, 9) == wanted && m.regs == registers() && m.pc == capability(TEXT, 3)
+fn ends_as(alloc: Global, &(word, wanted): &(u32, End)) -> Result<bool, NoMemory> {
+    let mut m = machine(alloc, &[word])?;
+    let end = run(alloc, &mut m, 9);
+    Ok(end == wanted && m.regs == registers() && m.pc == capability(TEXT, 3))
 }
 
-#[test]
-fn ends_where_a_check_fails(rt: HostRuntime) {
-    for row in &ENDS {
-        assert!(rt; ends_as(rt.alloc(), row), "{row:?}");
+/// The first instruction that ends otherwise.
+fn wrong_end(alloc: Global) -> Option<usize> {
+    for (at, row) in ENDS.iter().enumerate() {
+        if !matches!(ends_as(alloc, row), Ok(true)) {
+            return Some(at);
+        }
     }
+    None
 }
 
 // addi x10, x0, 5; addi x10, x10, -1; bne x10, x0, -4; ebreak
 const COUNTDOWN: [u32; 4] = [0x0050_0513, 0xfff5_0513, 0xfe05_1ee3, 0x0010_0073];
 
-fn counts_down_as(alloc: Global, &(steps, wanted, left): &(u64, End, u64)) -> bool {
-    let Ok(mut m) = machine(alloc, &COUNTDOWN) else {
-        return false;
-    };
-    run(alloc, &mut m, steps) == wanted && m.integer(Reg::RESULT) == left
+fn counts_down_as(
+    alloc: Global,
+    &(steps, wanted, left): &(u64, End, u64),
+) -> Result<bool, NoMemory> {
+    let mut m = machine(alloc, &COUNTDOWN)?;
+    let end = run(alloc, &mut m, steps);
+    Ok(end == wanted && m.integer(Reg::RESULT) == left)
 }
 
 /// So many steps, how they end, and what is left.
@@ -193,18 +194,14 @@ const COUNTED: [(u64, End, u64); 3] = [
     (12, End::Break(TEXT + 12), 0),
 ];
 
-#[test]
-fn stops_after_the_last_step(rt: HostRuntime) {
-    for row in &COUNTED {
-        assert!(rt; counts_down_as(rt.alloc(), row), "{row:?}");
+/// The first count of steps that ends otherwise.
+fn wrong_count(alloc: Global) -> Option<usize> {
+    for (at, row) in COUNTED.iter().enumerate() {
+        if !matches!(counts_down_as(alloc, row), Ok(true)) {
+            return Some(at);
+        }
     }
-}
-
-/// The machine after so many steps of these words.
-fn after(rt: &impl Abort, alloc: Global, words: &[u32], steps: u64) -> Machine {
-    let mut m = machine(alloc, words).expect(rt, "a machine");
-    assert!(rt; run(alloc, &mut m, steps) == End::Steps);
-    m
+    None
 }
 
 // csc c8, 16(c8); clc c10, 16(c8); clc c11, 16(c7); sb x0, 20(c8); clc c12, 16(c8)
@@ -225,11 +222,6 @@ fn has_tags(m: &Machine) -> bool {
         && !m.register(Reg::numbered(12)).tag
 }
 
-#[test]
-fn keeps_the_tags_of_memory(rt: HostRuntime) {
-    assert!(rt; has_tags(&after(&rt, rt.alloc(), &TAGGED, 5)));
-}
-
 // cjal c1, 8; auipcc c13, 0; cjalr c0, 0(c1)
 const LINKED: [u32; 3] = [0x0080_00ef, 0x0000_0697, 0x0000_8067];
 
@@ -240,13 +232,6 @@ fn next() -> Cap {
 
 fn is_linked(m: &Machine) -> bool {
     m.counter() == TEXT + 8 && m.register(Reg::LINK) == seal_entry(next())
-}
-
-#[test]
-fn links_by_a_sentry(rt: HostRuntime) {
-    assert!(rt; is_linked(&after(&rt, rt.alloc(), &LINKED, 1)));
-    assert!(rt; after(&rt, rt.alloc(), &LINKED, 2).pc == next());
-    assert!(rt; after(&rt, rt.alloc(), &LINKED, 3).register(Reg::numbered(13)) == next());
 }
 
 // csetboundsimm c10, c8, 16; cgetlen x11, c10; cincoffsetimm c10, c10, 4; cgetoffset x12, c10; candperm c13, c8, x12;
@@ -276,9 +261,52 @@ fn integers(m: &Machine) -> [u64; 6] {
     ]
 }
 
-#[test]
-fn derives_capabilities(rt: HostRuntime) {
-    assert!(rt; integers(&after(&rt, rt.alloc(), &DERIVING, 8)) == DERIVED);
+/// What a machine shows after its last step.
+#[derive(Clone, Copy)]
+enum Shown {
+    Tags,
+    Link,
+    Next,
+    Code,
+    Integers,
+}
+
+/// Words, so many steps of them, and what the machine shows then.
+const SHOWN: [(&[u32], u64, Shown); 5] = [
+    (&TAGGED, 5, Shown::Tags),
+    (&LINKED, 1, Shown::Link),
+    (&LINKED, 2, Shown::Next),
+    (&LINKED, 3, Shown::Code),
+    (&DERIVING, 8, Shown::Integers),
+];
+
+fn has_shown(m: &Machine, shown: Shown) -> bool {
+    match shown {
+        Shown::Tags => has_tags(m),
+        Shown::Link => is_linked(m),
+        Shown::Next => m.pc == next(),
+        Shown::Code => m.register(Reg::numbered(13)) == next(),
+        Shown::Integers => integers(m) == DERIVED,
+    }
+}
+
+fn shows(
+    alloc: Global,
+    &(words, steps, shown): &(&[u32], u64, Shown),
+) -> Result<bool, NoMemory> {
+    let mut m = machine(alloc, words)?;
+    let end = run(alloc, &mut m, steps);
+    Ok(end == End::Steps && has_shown(&m, shown))
+}
+
+/// The first machine that shows something else.
+fn wrong_machine(alloc: Global) -> Option<usize> {
+    for (at, row) in SHOWN.iter().enumerate() {
+        if !matches!(shows(alloc, row), Ok(true)) {
+            return Some(at);
+        }
+    }
+    None
 }
 
 /// The input: one byte, of which the second reading fails.
@@ -331,6 +359,11 @@ fn serves(alloc: Global) -> Result<bool, NoMemory> {
 }
 
 #[test]
-fn calls_the_environment(rt: HostRuntime) {
-    assert!(rt; serves(rt.alloc()).unwrap_or(false));
+fn machines_run_as_their_words_say(rt: HostRuntime) {
+    let alloc = rt.alloc();
+    must_all_hold(&rt, "computes integers", wrong_integer(alloc));
+    must_all_hold(&rt, "ends where a check fails", wrong_end(alloc));
+    must_all_hold(&rt, "stops after the last step", wrong_count(alloc));
+    must_all_hold(&rt, "keeps tags, links and derives", wrong_machine(alloc));
+    must_hold(&rt, "calls the environment", matches!(serves(alloc), Ok(true)));
 }

@@ -2,6 +2,7 @@
 
 ghost use Rattle.std.specs.Prelude.{◌≡◌, ◌%◌};
 
+use crate::answers::must_all_hold;
 use ck_base::NoMemory;
 use std::alloc::Global;
 use tag_mem::{Mem, Region};
@@ -112,12 +113,9 @@ fn is_so(mem: &mut Mem, call: Call) -> bool {
 }
 
 /// Whether the calls are answered so.
-fn are_so(memory: Result<Mem, NoMemory>, calls: &[Call]) -> bool {
-    let Ok(mut mem) = memory else {
-        return false;
-    };
+fn are_so(mem: &mut Mem, calls: &[Call]) -> bool {
     for call in calls {
-        if !is_so(&mut mem, *call) {
+        if !is_so(mem, *call) {
             return false;
         }
     }
@@ -148,11 +146,19 @@ fn bytes_at_base(mem: &Mem) -> Option<[u64; 4]> {
     ])
 }
 
-fn is_stored(alloc: Global, &(word, bytes): &Word) -> bool {
-    let Ok(mut mem) = memory(alloc) else {
-        return false;
-    };
-    mem.write(65_536, 4, word) && bytes_at_base(&mem) == Some(bytes)
+fn is_stored(alloc: Global, &(word, bytes): &Word) -> Result<bool, NoMemory> {
+    let mut mem = memory(alloc)?;
+    Ok(mem.write(65_536, 4, word) && bytes_at_base(&mem) == Some(bytes))
+}
+
+/// The first word that is stored as other bytes.
+fn wrong_word(alloc: Global) -> Option<usize> {
+    for (at, row) in WORDS.iter().enumerate() {
+        if !matches!(is_stored(alloc, row), Ok(true)) {
+            return Some(at);
+        }
+    }
+    None
 }
 
 const STORED: [Call; 4] = [
@@ -161,14 +167,6 @@ const STORED: [Call; 4] = [
     Call::Read(65_536, 8, Some(0xabcd_0000_fe01_115b)),
     Call::Read(65_540, 4, Some(0xabcd_0000)),
 ];
-
-#[test]
-fn stores_words_by_their_bytes(rt: HostRuntime) {
-    for row in &WORDS {
-        assert!(rt; is_stored(rt.alloc(), row), "{row:?}");
-    }
-    assert!(rt; are_so(memory(rt.alloc()), &STORED));
-}
 
 // The capability with permissions 125 and bounds 65,536 to 65,576, in memory form (exclusive-or with null), at its
 // base.
@@ -189,11 +187,6 @@ const TAGGED: [Call; 13] = [
     Call::Cap(65_552, Some((BITS, false))),
     Call::Cap(65_568, Some((1, false))),
 ];
-
-#[test]
-fn keeps_and_clears_tags(rt: HostRuntime) {
-    assert!(rt; are_so(memory(rt.alloc()), &TAGGED));
-}
 
 const TEXT: [u8; 17] = [
     0x13, 0x05, 0x80, 0x04, 0x67, 0x80, 0, 0, 1, 2, 3, 4, 5, 6, 7, 8, 9,
@@ -221,11 +214,6 @@ const FILLED: [Call; 11] = [
     Call::Cap(65_568, Some((9, false))),
 ];
 
-#[test]
-fn fills_and_clears_tags(rt: HostRuntime) {
-    assert!(rt; are_so(memory(rt.alloc()), &FILLED));
-}
-
 const OUTSIDE: [Call; 17] = [
     Call::Read(0, 1, None),
     Call::Write(0, 1, 7, false),
@@ -245,11 +233,6 @@ const OUTSIDE: [Call; 17] = [
     Call::Read(131_096, 8, Some(0x0700_0000_0000_0000)),
     Call::Read(65_599, 1, Some(0)),
 ];
-
-#[test]
-fn refuses_addresses_outside(rt: HostRuntime) {
-    assert!(rt; are_so(memory(rt.alloc()), &OUTSIDE));
-}
 
 /// The last granule of the first word of tags and the first of the next are lent for reading and for writing, and none
 /// outside.
@@ -273,7 +256,36 @@ const LENT: [Call; 17] = [
     Call::Cap(66_560, Some((BITS + 7, false))),
 ];
 
+/// Calls on memory of their own, which is the long one or the other.
+const TURNS: [(bool, &[Call]); 5] = [
+    (false, &STORED),
+    (false, &TAGGED),
+    (false, &FILLED),
+    (false, &OUTSIDE),
+    (true, &LENT),
+];
+
+fn are_answered(alloc: Global, is_long: bool, calls: &[Call]) -> Result<bool, NoMemory> {
+    let mut mem = if is_long {
+        long_memory(alloc)?
+    } else {
+        memory(alloc)?
+    };
+    Ok(are_so(&mut mem, calls))
+}
+
+/// The first turns of which a call is answered otherwise.
+fn wrong_turns(alloc: Global) -> Option<usize> {
+    for (at, &(is_long, calls)) in TURNS.iter().enumerate() {
+        if !matches!(are_answered(alloc, is_long, calls), Ok(true)) {
+            return Some(at);
+        }
+    }
+    None
+}
+
 #[test]
-fn lends_granules(rt: HostRuntime) {
-    assert!(rt; are_so(long_memory(rt.alloc()), &LENT));
+fn stores_fills_and_lends_with_tags_inside_its_regions(rt: HostRuntime) {
+    must_all_hold(&rt, "words by their bytes", wrong_word(rt.alloc()));
+    must_all_hold(&rt, "turns", wrong_turns(rt.alloc()));
 }

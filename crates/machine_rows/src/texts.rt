@@ -1,5 +1,6 @@
 // Texts of instructions: values of an independent model.
 
+use crate::answers::must_all_hold;
 use crate::forms::{Form, instr_of};
 use ck_base::NoMemory;
 use rv_instr::BranchOp::*;
@@ -169,9 +170,17 @@ fn says(alloc: Global, &(form, text): &(Form, &str)) -> bool {
     written.as_str().strip_prefix("65536 ") == Some(text)
 }
 
+/// The first instruction that has another text.
+fn wrong_text(alloc: Global) -> Option<usize> {
+    for (at, row) in TEXTS.iter().enumerate() {
+        if !says(alloc, row) {
+            return Some(at);
+        }
+    }
+    None
+}
+
 #[test]
 fn instructions_have_texts(rt: HostRuntime) {
-    for row in &TEXTS {
-        assert!(rt; says(rt.alloc(), row), "{}", row.1);
-    }
+    must_all_hold(&rt, "texts", wrong_text(rt.alloc()));
 }

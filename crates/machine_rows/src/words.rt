@@ -1,6 +1,7 @@
 //! Words with the instructions that they encode, and words that encode none. The tables are values
 //! of an independent model.
 
+use crate::answers::{must_all_hold, must_hold};
 use crate::forms::{Form, instr_of};
 use rv_code::{decode, encode};
 use rv_instr::{
@@ -16,13 +17,18 @@ const NAMES: [(Reg, u8); 6] = [
     (Reg::SERVICE, 17),
 ];
 
-#[test]
-fn names_registers(rt: HostRuntime) {
-    assert!(rt; Reg::new(31) == Some(Reg::numbered(31)));
-    assert!(rt; Reg::new(32).is_none());
-    for &(name, number) in &NAMES {
-        assert!(rt; name.number() == number, "{number}");
+fn there_are_thirty_two() -> bool {
+    Reg::new(31) == Some(Reg::numbered(31)) && Reg::new(32).is_none()
+}
+
+/// The first name of another register.
+fn wrong_name() -> Option<usize> {
+    for (at, &(name, number)) in NAMES.iter().enumerate() {
+        if name.number() != number {
+            return Some(at);
+        }
     }
+    None
 }
 
 /// Words, and the instructions that they encode.
@@ -178,11 +184,14 @@ fn encodes(&(word, form): &(u32, Form)) -> bool {
     }
 }
 
-#[test]
-fn encodes_words(rt: HostRuntime) {
-    for row in &WORDS {
-        assert!(rt; encodes(row), "{:#010x}", row.0);
+/// The first word that does not encode its instruction.
+fn wrong_word() -> Option<usize> {
+    for (at, row) in WORDS.iter().enumerate() {
+        if !encodes(row) {
+            return Some(at);
+        }
     }
+    None
 }
 
 /// Words that encode no instruction.
@@ -202,13 +211,20 @@ const NO_INSTRUCTIONS: [u32; 100] = [
     0xd0f7f8c6, 0xd80f197a, 0xe3b8d385, 0xf063b07b,
 ];
 
-fn is_instruction(word: u32) -> bool {
-    decode(word).is_some()
+/// The first of them that is decoded.
+fn wrong_instruction() -> Option<usize> {
+    for (at, &word) in NO_INSTRUCTIONS.iter().enumerate() {
+        if decode(word).is_some() {
+            return Some(at);
+        }
+    }
+    None
 }
 
 #[test]
-fn refuses_words_outside_the_table(rt: HostRuntime) {
-    for &word in &NO_INSTRUCTIONS {
-        assert!(rt; !is_instruction(word), "at {word:#010x}");
-    }
+fn registers_have_names_and_words_encode_instructions(rt: HostRuntime) {
+    must_hold(&rt, "there are 32 registers", there_are_thirty_two());
+    must_all_hold(&rt, "names of registers", wrong_name());
+    must_all_hold(&rt, "words of instructions", wrong_word());
+    must_all_hold(&rt, "words of none", wrong_instruction());
 }

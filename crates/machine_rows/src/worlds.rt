@@ -1,14 +1,13 @@
 //! Sources, sinks and files, in memory and over the system.
-ghost use Rattle.std.specs.Prelude.{◌≡◌, IfOk, vec_len};
 
+use crate::answers::must_hold;
 use ck_base::{
     Failed, FileError, Files, HostFiles, MemFiles, MemSink, MemSource, NoMemory, PutError, Sink,
     Source, StdInput, StdOutput, SureFiles, SureSink, SureSource,
 };
 use std::alloc::{AllocError, Global};
-use std::fs;
 use std::io::{self, ErrorKind, Read};
-use std::test::Fail;
+use std::{fs, rt};
 
 /// The next answer of a source.
 type Answer = Result<Option<u8>, Failed>;
@@ -34,18 +33,13 @@ fn takes<S: Sink>(sink: &mut S, wanted: &[Piece]) -> bool {
     true
 }
 
-/// Bytes, and the number of the call that fails.
-fn source(alloc: Global) -> Result<MemSource, AllocError> {
-    let bytes = Vec::from_slice(alloc, &[10, 20])?;
-    Ok(MemSource::new(bytes, Vec::from_slice(alloc, &[2])?))
-}
-
 const GIVEN: [Answer; 5] = [Ok(Some(10)), Err(Failed), Ok(Some(20)), Ok(None), Ok(None)];
 
-#[test]
-fn source_in_memory_fails_in_its_second_call(rt: HostRuntime) {
-    let mut source = source(rt.alloc()).expect(&rt, "a source");
-    assert!(rt; gives(&mut source, &GIVEN));
+/// Whether two bytes are given, where the second call fails.
+fn gives_two(alloc: Global) -> Result<bool, AllocError> {
+    let bytes = Vec::from_slice(alloc, &[10, 20])?;
+    let mut source = MemSource::new(bytes, Vec::from_slice(alloc, &[2])?);
+    Ok(gives(&mut source, &GIVEN))
 }
 
 const TAKEN: [Piece; 5] = [
@@ -62,89 +56,69 @@ fn takes_five(alloc: Global) -> Result<bool, NoMemory> {
     Ok(takes(&mut sink, &TAKEN) && sink.bytes() == b"abcde".as_slice())
 }
 
-#[test]
-fn sink_in_memory_fails_in_its_second_call_and_past_its_room(rt: HostRuntime) {
-    assert!(rt; takes_five(rt.alloc()).unwrap_or(false));
+/// A call of files, and its answer.
+#[derive(Clone, Copy)]
+enum Call {
+    Get(&'static str, Result<&'static [u8], FileError>),
+    Put(&'static str, &'static [u8], Result<(), PutError>),
 }
 
-/// A name that is read, and what is read.
-type Reading = (&'static str, Result<&'static [u8], FileError>);
-
-fn is_read<F: Files>(alloc: Global, files: &mut F, &(name, answer): &Reading) -> bool {
-    match (files.get(alloc, name), answer) {
-        (Ok(bytes), Ok(wanted)) => bytes.as_slice() == wanted,
-        (Err(error), Err(wanted)) => error == wanted,
-        _ => false,
+fn is_read<F: Files>(
+    alloc: Global,
+    files: &mut F,
+    name: &str,
+    answer: Result<&[u8], FileError>,
+) -> bool {
+    match files.get(alloc, name) {
+        Ok(bytes) => matches!(answer, Ok(wanted) if bytes.as_slice() == wanted),
+        Err(error) => matches!(answer, Err(wanted) if error == wanted),
     }
 }
 
-fn are_read<F: Files>(alloc: Global, files: &mut F, wanted: &[Reading]) -> bool {
-    for row in wanted {
-        if !is_read(alloc, files, row) {
+fn are_so<F: Files>(alloc: Global, files: &mut F, calls: &[Call]) -> bool {
+    for call in calls {
+        let is_so = match *call {
+            Call::Get(name, answer) => is_read(alloc, files, name, answer),
+            Call::Put(name, bytes, answer) => files.put(alloc, name, bytes) == answer,
+        };
+        if !is_so {
             return false;
         }
     }
     true
-}
-
-/// A name, the bytes that are put there, and the answer.
-type Putting = (&'static str, &'static [u8], Result<(), PutError>);
-
-fn are_put<F: Files>(alloc: Global, files: &mut F, wanted: &[Putting]) -> bool {
-    for (name, bytes, answer) in wanted {
-        if files.put(alloc, *name, *bytes) != *answer {
-            return false;
-        }
-    }
-    true
-}
-
-fn names(alloc: Global) -> Result<Vec<String>, AllocError>
-    ensures { IfOk result (λ names. vec_len names ≡ 1) }
-{
-    let name = String::from_str(alloc, "a.c")?;
-    Ok(vec![in alloc; name]?)
-}
-
-fn contents(alloc: Global) -> Result<Vec<Vec<u8>>, AllocError>
-    ensures { IfOk result (λ contents. vec_len contents ≡ 1) }
-{
-    let bytes = Vec::from_slice(alloc, b"first")?;
-    Ok(vec![in alloc; bytes]?)
 }
 
 /// Files in memory, of which the second and the fifth call fail.
 fn files(alloc: Global) -> Result<MemFiles, AllocError> {
-    let fails = Vec::from_slice(alloc, &[2, 5])?;
-    let names = names(alloc)?;
-    Ok(MemFiles::new(names, contents(alloc)?, fails))
+    let name = String::from_str(alloc, "a.c")?;
+    let names = vec![in alloc; name]?;
+    let bytes = Vec::from_slice(alloc, b"first")?;
+    let contents = vec![in alloc; bytes]?;
+    Ok(MemFiles::new(names, contents, Vec::from_slice(alloc, &[2, 5])?))
 }
 
-const READ_FIRST: [Reading; 3] = [
-    ("a.c", Ok(b"first")),
-    ("a.c", Err(FileError::Failed)),
-    ("b.c", Err(FileError::Missing)),
+const FAILING: [Call; 8] = [
+    Call::Get("a.c", Ok(b"first")),
+    Call::Get("a.c", Err(FileError::Failed)),
+    Call::Get("b.c", Err(FileError::Missing)),
+    Call::Put("b.c", b"", Ok(())),
+    Call::Put("a.c", b"lost", Err(PutError::Failed)),
+    Call::Put("a.c", b"new", Ok(())),
+    Call::Get("a.c", Ok(b"new")),
+    Call::Get("b.c", Ok(b"")),
 ];
 
-const PUT_NEXT: [Putting; 3] = [
-    ("b.c", b"", Ok(())),
-    ("a.c", b"lost", Err(PutError::Failed)),
-    ("a.c", b"new", Ok(())),
-];
-
-const READ_THEN: [Reading; 2] = [("a.c", Ok(b"new")), ("b.c", Ok(b""))];
-
-fn serve(alloc: Global, files: &mut MemFiles) -> bool {
-    are_read(alloc, files, &READ_FIRST)
-        && are_put(alloc, files, &PUT_NEXT)
-        && are_read(alloc, files, &READ_THEN)
-        && files.contents("a.c") == Some(b"new".as_slice())
+fn files_serve(alloc: Global) -> Result<bool, AllocError> {
+    let mut files = files(alloc)?;
+    Ok(are_so(alloc, &mut files, &FAILING) && files.contents("a.c") == Some(b"new".as_slice()))
 }
 
 #[test]
-fn files_in_memory_fail_in_their_second_and_fifth_call(rt: HostRuntime) {
-    let mut files = files(rt.alloc()).expect(&rt, "files");
-    assert!(rt; serve(rt.alloc(), &mut files));
+fn objects_in_memory_fail_in_the_calls_that_are_told(rt: HostRuntime) {
+    let alloc = rt.alloc();
+    must_hold(&rt, "a source", matches!(gives_two(alloc), Ok(true)));
+    must_hold(&rt, "a sink, past its room too", matches!(takes_five(alloc), Ok(true)));
+    must_hold(&rt, "files", matches!(files_serve(alloc), Ok(true)));
 }
 
 fn sure_source_gives(alloc: Global) -> Result<bool, AllocError> {
@@ -152,20 +126,23 @@ fn sure_source_gives(alloc: Global) -> Result<bool, AllocError> {
     Ok(gives(&mut SureSource::new(bytes), &[Ok(Some(10)), Ok(None)]))
 }
 
-const PUT_FIRST: [Putting; 1] = [("a.c", b"first", Ok(()))];
-
-const READ_SURELY: [Reading; 2] = [("a.c", Ok(b"first")), ("b.c", Err(FileError::Missing))];
+const SURE: [Call; 3] = [
+    Call::Put("a.c", b"first", Ok(())),
+    Call::Get("a.c", Ok(b"first")),
+    Call::Get("b.c", Err(FileError::Missing)),
+];
 
 fn sure_files_serve(alloc: Global) -> bool {
     let mut files = SureFiles::new(Vec::new(alloc), Vec::new(alloc));
-    are_put(alloc, &mut files, &PUT_FIRST) && are_read(alloc, &mut files, &READ_SURELY)
+    are_so(alloc, &mut files, &SURE)
 }
 
 #[test]
 fn sure_objects_do_not_fail(rt: HostRuntime) {
-    assert!(rt; sure_source_gives(rt.alloc()).unwrap_or(false));
-    assert!(rt; takes(&mut SureSink::new(), &[(b"ab", Ok(()))]));
-    assert!(rt; sure_files_serve(rt.alloc()));
+    let alloc = rt.alloc();
+    must_hold(&rt, "a source", matches!(sure_source_gives(alloc), Ok(true)));
+    must_hold(&rt, "a sink", takes(&mut SureSink::new(), &[(b"ab", Ok(()))]));
+    must_hold(&rt, "files", sure_files_serve(alloc));
 }
 
 /// Gives a byte of 7 at each read but the second, which fails.
@@ -192,42 +169,45 @@ const READ_OUT: [Answer; 4] = [Ok(Some(b'a')), Ok(Some(b'b')), Ok(None), Ok(None
 
 const READ_ON: [Answer; 3] = [Ok(Some(7)), Err(Failed), Ok(Some(7))];
 
-#[test]
-fn input_ends_with_its_reader_and_goes_on_after_a_fault(rt: HostRuntime) {
-    assert!(rt; gives(&mut StdInput::new(b"ab".as_slice()), &READ_OUT));
-    assert!(rt; gives(&mut StdInput::new(FailsOnce { reads: 0 }), &READ_ON));
+fn input_ends_with_its_reader() -> bool {
+    gives(&mut StdInput::new(b"ab".as_slice()), &READ_OUT)
+}
+
+fn input_goes_on_after_a_fault() -> bool {
+    gives(&mut StdInput::new(FailsOnce { reads: 0 }), &READ_ON)
 }
 
 const WRITTEN: [Piece; 3] = [(b"ab", Ok(())), (b"cd", Err(Failed)), (b"", Ok(()))];
 
-#[test]
-fn output_fails_where_its_writer_takes_nothing(rt: HostRuntime) {
+fn output_fails_where_its_writer_takes_nothing() -> bool {
     let mut room = [0u8; 3];
-    assert!(rt; takes(&mut StdOutput::new(room.as_mut_slice()), &WRITTEN));
-    assert!(rt; room == *b"abc");
+    takes(&mut StdOutput::new(room.as_mut_slice()), &WRITTEN) && room == *b"abc"
 }
 
 const FILE_NAME: &str = "ck_base_test.bin";
 
-const NOT_THERE: [Reading; 1] = [(FILE_NAME, Err(FileError::Failed))];
-
-const PUT_THERE: [Putting; 2] = [
-    (FILE_NAME, b"\0\xff\n", Ok(())),
-    ("ck_base_no_folder/a", b"", Err(PutError::Failed)),
+const THERE: [Call; 4] = [
+    Call::Get(FILE_NAME, Err(FileError::Failed)),
+    Call::Put(FILE_NAME, b"\0\xff\n", Ok(())),
+    Call::Put("ck_base_no_folder/a", b"", Err(PutError::Failed)),
+    Call::Get(FILE_NAME, Ok(b"\0\xff\n")),
 ];
 
-const THERE: [Reading; 1] = [(FILE_NAME, Ok(b"\0\xff\n"))];
+fn come_back<R: rt::Files + Drop>(alloc: Global, system: R) -> bool {
+    are_so(alloc, &mut HostFiles::new(system), &THERE)
+}
 
-fn comes_back<F: Files>(alloc: Global, files: &mut F) -> bool {
-    are_read(alloc, files, &NOT_THERE)
-        && are_put(alloc, files, &PUT_THERE)
-        && are_read(alloc, files, &THERE)
+fn is_removed(system: &impl rt::Files) -> bool {
+    fs::remove_file(system, FILE_NAME).is_ok()
 }
 
 #[test]
-fn host_files_come_back_as_they_were_put(rt: HostRuntime) -> Result<(), Fail> {
-    let _ = fs::remove_file(&rt, FILE_NAME);
-    assert!(rt; comes_back(rt.alloc(), &mut HostFiles::new(rt.clone()?)));
-    fs::remove_file(&rt, FILE_NAME)?;
-    Ok(())
+fn objects_over_the_system_serve(rt: HostRuntime) {
+    must_hold(&rt, "input ends", input_ends_with_its_reader());
+    must_hold(&rt, "input after a fault", input_goes_on_after_a_fault());
+    must_hold(&rt, "output", output_fails_where_its_writer_takes_nothing());
+    let _ = is_removed(&rt);
+    let system = rt.clone().expect(&rt, "memory");
+    must_hold(&rt, "files come back as they were put", come_back(rt.alloc(), system));
+    must_hold(&rt, "their file is removed", is_removed(&rt));
 }
