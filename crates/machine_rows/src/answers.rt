@@ -1,4 +1,5 @@
-//! How a test says that a fact holds, or each row of a table.
+//! How a test says that a fact holds, or each row of a table. A test that calls one of the two alone is the cheaper to
+//! prove.
 
 use std::process::Abort;
 
@@ -12,4 +13,9 @@ pub(crate) fn must_all_hold(rt: &impl Abort, rows: &'static str, wrong: Option<u
     if let Some(row) = wrong {
         assert!(rt; false, "{rows}: {row}");
     }
+}
+
+/// A fact as a table of one row.
+pub(crate) fn wrong_unless(holds: bool) -> Option<usize> {
+    if holds { None } else { Some(0) }
 }

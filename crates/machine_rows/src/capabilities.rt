@@ -4,7 +4,7 @@ ghost use Rattle.cap_ops.specs.Access.{IsAccess};
 mod check_vectors;
 mod operation_vectors;
 
-use crate::answers::{must_all_hold, must_hold};
+use crate::answers::{must_all_hold, wrong_unless};
 use cap_concentrate::{bounds_of, pack, unpack};
 use cap_ops::{
     Access, Cap, Cause, add, and_perms, check, clear, narrow, narrow_exact, null, seal_entry,
@@ -113,7 +113,7 @@ fn wrong_check() -> Option<usize> {
 
 #[test]
 fn operations_give_capabilities_and_checks_the_first_cause(rt: HostRuntime) {
-    must_hold(&rt, "null", null_has_the_whole_address_space());
+    must_all_hold(&rt, "null", wrong_unless(null_has_the_whole_address_space()));
     must_all_hold(&rt, "operations", wrong_operation());
     must_all_hold(&rt, "checks", wrong_check());
 }

@@ -3,7 +3,7 @@ mod decoding_vectors;
 mod packing_vectors;
 mod rounding_vectors;
 
-use crate::answers::{must_all_hold, must_hold};
+use crate::answers::{must_all_hold, wrong_unless};
 use cap_concentrate::{
     Bounds, Fields, NULL_BITS, alignment_mask, bounds_of, flip_null, keeps_bounds, pack,
     rounded_length, set_bounds, unpack,
@@ -175,5 +175,5 @@ fn bounds_and_fields_have_their_bits(rt: HostRuntime) {
     must_all_hold(&rt, "bounds are kept", wrong_keeping());
     must_all_hold(&rt, "fields stand at their places", wrong_placing());
     must_all_hold(&rt, "capabilities are packed", wrong_packing());
-    must_hold(&rt, "null is flipped", flip_null(NULL_BITS) == 0);
+    must_all_hold(&rt, "null is flipped", wrong_unless(flip_null(NULL_BITS) == 0));
 }

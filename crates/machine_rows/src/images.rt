@@ -7,8 +7,8 @@ use ck_base::NoMemory;
 use elf_file::{ElfRefusal, Line, Reloc, View};
 use std::alloc::{AllocError, Global};
 
-/// The file header.
-const FILE_HEADER: [u64; 8] = [
+/// The headers of the file, of its programs and of all sections but the last two.
+const HEADERS: [u64; 76] = [
     // e_ident
     0x0001_0102_464c_457f,
     0,
@@ -22,32 +22,26 @@ const FILE_HEADER: [u64; 8] = [
     0x0038_0040_0000_0000,
     // e_phnum, e_shentsize, e_shnum and e_shstrndx
     0x0006_0007_0040_0004,
-];
-
-/// Each with p_type and p_flags, p_offset, p_vaddr, p_paddr, p_filesz, p_memsz and p_align: text, initial data, heap
-/// and stack.
-const PROGRAM_HEADERS: [[u64; 7]; 4] = [
-    [0x5_0000_0001, 736, 0x1_0000, 0x1_0000, 12, 12, 16],
-    [0x6_0000_0001, 752, 0x10_0000, 0x10_0000, 20, 20, 16],
-    [0x6_0000_0001, 0, 0x20_0000, 0x20_0000, 0, 0x1_0000, 16],
-    [0x6_0000_0001, 0, 0x40_0000, 0x40_0000, 0, 0x2_0000, 16],
-];
-
-/// Each with sh_name and sh_type, sh_flags, sh_addr, sh_offset, sh_size, sh_link and sh_info, sh_addralign and
-/// sh_entsize: none, text, data, relocations and lines.
-const SECTION_HEADERS: [[u64; 8]; 5] = [
-    [0, 0, 0, 0, 0, 0, 0, 0],
-    [0x1_0000_0001, 6, 0x1_0000, 736, 12, 0, 16, 0],
-    [0x1_0000_0007, 3, 0x10_0000, 752, 20, 0, 16, 0],
-    [0x1_0000_000d, 0, 0, 784, 40, 0, 16, 0],
-    [0x1_0000_0018, 0, 0, 832, 32, 0, 16, 0],
+    // Each with p_type and p_flags, p_offset, p_vaddr, p_paddr, p_filesz, p_memsz and p_align: text, initial data,
+    // heap and stack.
+    0x5_0000_0001, 736, 0x1_0000, 0x1_0000, 12, 12, 16,
+    0x6_0000_0001, 752, 0x10_0000, 0x10_0000, 20, 20, 16,
+    0x6_0000_0001, 0, 0x20_0000, 0x20_0000, 0, 0x1_0000, 16,
+    0x6_0000_0001, 0, 0x40_0000, 0x40_0000, 0, 0x2_0000, 16,
+    // Each with sh_name and sh_type, sh_flags, sh_addr, sh_offset, sh_size, sh_link and sh_info, sh_addralign and
+    // sh_entsize: none, text, data, relocations and lines.
+    0, 0, 0, 0, 0, 0, 0, 0,
+    0x1_0000_0001, 6, 0x1_0000, 736, 12, 0, 16, 0,
+    0x1_0000_0007, 3, 0x10_0000, 752, 20, 0, 16, 0,
+    0x1_0000_000d, 0, 0, 784, 40, 0, 16, 0,
+    0x1_0000_0018, 0, 0, 832, 32, 0, 16, 0,
 ];
 
 /// What differs between the versions.
 struct Form {
     version: u64,
     /// The headers of the sections of the image and the names.
-    sections: [[u64; 8]; 2],
+    sections: [u64; 16],
     /// What stands behind the twelve words of the image: the count, and zeros up to the names.
     behind: &'static [u64],
     /// The words of the image from the thirteenth on.
@@ -63,8 +57,7 @@ const FORMS: [Form; 2] = [
     Form {
         version: 1,
         sections: [
-            [0x1_0000_0022, 0, 0, 864, 96, 0, 16, 0],
-            [0x3_0000_002c, 0, 0, 960, 54, 0, 16, 0],
+            0x1_0000_0022, 0, 0, 864, 96, 0, 16, 0, 0x3_0000_002c, 0, 0, 960, 54, 0, 16, 0,
         ],
         behind: &[],
         words: [(12, None), (13, None)],
@@ -73,8 +66,7 @@ const FORMS: [Form; 2] = [
     Form {
         version: 2,
         sections: [
-            [0x1_0000_0022, 0, 0, 864, 104, 0, 16, 0],
-            [0x3_0000_002c, 0, 0, 976, 54, 0, 16, 0],
+            0x1_0000_0022, 0, 0, 864, 104, 0, 16, 0, 0x3_0000_002c, 0, 0, 976, 54, 0, 16, 0,
         ],
         behind: &[COUNT, 0],
         words: [(12, Some(COUNT)), (13, None)],
@@ -83,19 +75,19 @@ const FORMS: [Form; 2] = [
 ];
 
 /// The parts up to the lines, with zeros behind them.
-const PARTS: [[u64; 2]; 8] = [
+const PARTS: [u64; 16] = [
     // At 736, three instructions.
-    [0x0000_0073_0000_0013, 0x0000_006f],
+    0x0000_0073_0000_0013, 0x0000_006f,
     // At 752, 20 initial bytes.
-    [0x0807_0605_0403_0201, 0x100f_0e0d_0c0b_0a09],
-    [0x1413_1211, 0],
+    0x0807_0605_0403_0201, 0x100f_0e0d_0c0b_0a09,
+    0x1413_1211, 0,
     // At 784, a relocation: place, base, offset, length and permissions.
-    [0x10_0000, 0x1_0000],
-    [4, 12],
-    [0x8000_0000_0000_0003, 0],
+    0x10_0000, 0x1_0000,
+    4, 12,
+    0x8000_0000_0000_0003, 0,
     // At 832, two lines, each with at and line, and column and kind.
-    [0x3_0000_0000, 1],
-    [0x5_0000_0004, 0x1_0000_0002],
+    0x3_0000_0000, 1,
+    0x5_0000_0004, 0x1_0000_0002,
 ];
 
 /// At 872, behind the version: the entry, and base and length of text, data, table, heap and stack.
@@ -128,25 +120,27 @@ const SECOND: Line = Line {
     kind: 1,
 };
 
+fn put_words(bytes: &mut Vec<u8>, words: &[u64]) -> Result<(), AllocError> {
+    for word in words {
+        bytes.extend_from_slice(&word.to_le_bytes())?;
+    }
+    Ok(())
+}
+
+fn fill(bytes: &mut Vec<u8>, form: &Form, version: u64) -> Result<(), AllocError> {
+    put_words(bytes, &HEADERS)?;
+    put_words(bytes, &form.sections)?;
+    put_words(bytes, &PARTS)?;
+    put_words(bytes, &[version])?;
+    put_words(bytes, &WORDS)?;
+    put_words(bytes, form.behind)?;
+    bytes.extend_from_slice(&NAMES)
+}
+
 /// The file of a form, with this version word.
 fn file(alloc: Global, form: &Form, version: u64) -> Result<Vec<u8>, AllocError> {
-    let parts: [&[u64]; 8] = [
-        &FILE_HEADER,
-        PROGRAM_HEADERS.as_flattened(),
-        SECTION_HEADERS.as_flattened(),
-        form.sections.as_flattened(),
-        PARTS.as_flattened(),
-        &[version],
-        &WORDS,
-        form.behind,
-    ];
     let mut bytes = Vec::new(alloc);
-    for words in parts {
-        for word in words {
-            bytes.extend_from_slice(&word.to_le_bytes())?;
-        }
-    }
-    bytes.extend_from_slice(&NAMES)?;
+    fill(&mut bytes, form, version)?;
     Ok(bytes)
 }
 

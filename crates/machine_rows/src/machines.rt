@@ -1,7 +1,7 @@
 //! Small programs, as an assembler writes them, with the results that the instruction sets give.
 ghost use Rattle.std.specs.Prelude.{◌<◌, ◌^◌};
 
-use crate::answers::{must_all_hold, must_hold};
+use crate::answers::{must_all_hold, wrong_unless};
 use cap_concentrate::{Fields, set_bounds};
 use cap_machine::{End, Machine, Step};
 use cap_ops::{Cap, Cause, UNSEALED, null, seal_entry, with_address};
@@ -365,5 +365,5 @@ fn machines_run_as_their_words_say(rt: HostRuntime) {
     must_all_hold(&rt, "ends where a check fails", wrong_end(alloc));
     must_all_hold(&rt, "stops after the last step", wrong_count(alloc));
     must_all_hold(&rt, "keeps tags, links and derives", wrong_machine(alloc));
-    must_hold(&rt, "calls the environment", matches!(serves(alloc), Ok(true)));
+    must_all_hold(&rt, "calls the environment", wrong_unless(matches!(serves(alloc), Ok(true))));
 }

@@ -152,26 +152,25 @@ fn map(alloc: Global) -> Result<Map, AllocError> {
     })
 }
 
-/// Three objects, of 40, of 16 and of 32 bytes, or one of 100,000.
-fn memory<'a>(alloc: Global, mode: Mode<'a>, is_large: bool) -> Result<Memory<'a>, NoMemory> {
-    let mut m = Memory::new(alloc, mode)?;
+/// Adds objects of 40, of 16 and of 32 bytes, or one of 100,000, which is the first.
+fn has_objects(m: &mut Memory<'_>, is_large: bool) -> Result<bool, NoMemory> {
     if is_large {
-        if m.add(100000, None)? != 0 {
-            return Err(NoMemory);
-        }
-    } else {
-        m.add(40, Some(131072))?;
-        m.add(16, Some(131120))?;
-        m.add(32, Some(131136))?;
+        return Ok(m.add(100000, None)? == 0);
     }
-    Ok(m)
+    m.add(40, Some(131072))?;
+    m.add(16, Some(131120))?;
+    m.add(32, Some(131136))?;
+    Ok(true)
 }
 
-fn are_answered(alloc: Global, mode: Mode<'_>, is_large: bool, rows: &[Row]) -> bool {
-    match memory(alloc, mode, is_large) {
-        Ok(mut m) => are_so(&mut m, rows),
-        Err(_) => false,
-    }
+fn are_answered(
+    alloc: Global,
+    mode: Mode<'_>,
+    is_large: bool,
+    rows: &[Row],
+) -> Result<bool, NoMemory> {
+    let mut m = Memory::new(alloc, mode)?;
+    Ok(has_objects(&mut m, is_large)? && are_so(&mut m, rows))
 }
 
 /// Calls on memory of their own, with their answers, and what they show.
@@ -545,35 +544,38 @@ const LARGE: [Turns; 3] = [
     ),
 ];
 
+/// Turns on the large object, or on three objects.
+type Group = (bool, &'static [Turns]);
+
+const PLACED: [Group; 2] = [(false, &IN_BOTH), (false, &WHERE_PLACED)];
+
+const STRICTLY: [Group; 3] = [(false, &IN_BOTH), (false, &STRICT), (true, &LARGE)];
+
 /// What the first turns show that are not answered so, if any are not.
-fn wrong(alloc: Global, mode: Mode<'_>, is_large: bool, all: &[Turns]) -> &'static str {
-    for (shown, rows) in all {
-        if !are_answered(alloc, mode, is_large, *rows) {
-            return *shown;
+fn wrong(alloc: Global, mode: Mode<'_>, groups: &[Group]) -> &'static str {
+    for (is_large, turns) in groups {
+        for (shown, rows) in *turns {
+            if !matches!(are_answered(alloc, mode, *is_large, *rows), Ok(true)) {
+                return *shown;
+            }
         }
     }
     ""
 }
 
-fn answer_so(rt: &impl Abort, alloc: Global, mode: Mode<'_>, is_large: bool, all: &[Turns]) {
-    let wrong = wrong(alloc, mode, is_large, all);
+fn wrong_where_placed(alloc: Global) -> &'static str {
+    match map(alloc) {
+        Ok(map) => wrong(alloc, Mode::Placed(&map), &PLACED),
+        Err(_) => "a map",
+    }
+}
+
+fn must_be_none(rt: &impl Abort, wrong: &'static str) {
     assert!(rt; wrong.is_empty(), "{wrong}");
 }
 
-fn answer_in_both(rt: &impl Abort, alloc: Global, mode: Mode<'_>) {
-    answer_so(rt, alloc, mode, false, &IN_BOTH);
-}
-
 #[test]
-fn placed_memory_answers(rt: HostRuntime) {
-    let map = map(rt.alloc()).expect(&rt, "a map");
-    answer_in_both(&rt, rt.alloc(), Mode::Placed(&map));
-    answer_so(&rt, rt.alloc(), Mode::Placed(&map), false, &WHERE_PLACED);
-}
-
-#[test]
-fn strict_memory_answers(rt: HostRuntime) {
-    answer_in_both(&rt, rt.alloc(), Mode::Strict);
-    answer_so(&rt, rt.alloc(), Mode::Strict, false, &STRICT);
-    answer_so(&rt, rt.alloc(), Mode::Strict, true, &LARGE);
+fn placed_and_strict_memory_answer(rt: HostRuntime) {
+    must_be_none(&rt, wrong_where_placed(rt.alloc()));
+    must_be_none(&rt, wrong(rt.alloc(), Mode::Strict, &STRICTLY));
 }

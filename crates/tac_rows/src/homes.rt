@@ -1,46 +1,11 @@
 //! Homes that are allocated for intervals, and what the check says of homes.
 
+use crate::answers::{must_all_hold, wrong_unless};
 use ck_base::{NoMemory, Sequence};
 use reg_alloc::{Home, Interval, Places, allocate, check};
 use std::alloc::{AllocError, Global};
 
 const WHOLE: Interval = Interval { first: 0, last: 9 };
-
-// The homes that are allocated for so many intervals of the same instructions, without a call. None where the check
-// says no.
-fn allocated(alloc: Global, count: u8) -> Result<Option<Places>, NoMemory> {
-    let live = vec![in alloc; WHOLE; usize::from(count)]?;
-    let calls = Vec::new(alloc);
-    let places = allocate(alloc, &live, &calls)?;
-    Ok(check(&live, &calls, &places).then_some(places))
-}
-
-fn stands_once(homes: &[Home], home: Home) -> bool {
-    homes.iter().filter(|other| **other == home).count() == 1
-}
-
-// Whether they are so many different registers.
-fn are_registers(homes: &[Home], count: usize) -> bool {
-    homes.len() == count
-        && homes.iter().all(|home| matches!(home, Home::Register(_)) && stands_once(homes, *home))
-}
-
-#[test]
-fn intervals_have_registers_while_there_are_some(rt: HostRuntime) -> Result<(), NoMemory> {
-    for count in [0, 10] {
-        let places = allocated(rt.alloc(), count)?;
-        assert!(rt;
-            places.is_some_and(|p| are_registers(p.homes.as_slice(), usize::from(count))),
-            "{count}"
-        );
-    }
-    let places = allocated(rt.alloc(), 11)?;
-    assert!(rt; places.is_some_and(|p| p.homes.as_slice().len() == 11));
-    Ok(())
-}
-
-// Intervals, each with the register that is its home, calls, and what the check says.
-type Checked = (&'static [(Interval, u8)], &'static [u32], bool);
 
 const FIRST: Interval = Interval { first: 0, last: 4 };
 
@@ -48,18 +13,96 @@ const LONGER: Interval = Interval { first: 0, last: 5 };
 
 const SECOND: Interval = Interval { first: 5, last: 9 };
 
+const THEN: Interval = Interval { first: 1, last: 9 };
+
+/// What homes are allocated.
+#[derive(Clone, Copy)]
+enum Wanted {
+    /// Different registers.
+    Registers,
+    Any,
+    These(&'static [Home]),
+}
+
+/// Intervals and calls, and their homes. There are registers while there are some.
+type Allocated = (&'static [Interval], &'static [u32], Wanted);
+
+const ALLOCATED: [Allocated; 4] = [
+    (&[], &[], Wanted::Registers),
+    (&[WHOLE; 10], &[], Wanted::Registers),
+    (&[WHOLE; 11], &[], Wanted::Any),
+    (
+        &[FIRST, THEN],
+        &[6],
+        Wanted::These(&[Home::Register(10), Home::Register(8)]),
+    ),
+];
+
+fn stands_once(homes: &[Home], home: Home) -> bool {
+    let mut is_found = false;
+    for other in homes {
+        if *other == home {
+            if is_found {
+                return false;
+            }
+            is_found = true;
+        }
+    }
+    is_found
+}
+
+fn are_registers(homes: &[Home]) -> bool {
+    for home in homes {
+        if !matches!(home, Home::Register(_)) || !stands_once(homes, *home) {
+            return false;
+        }
+    }
+    true
+}
+
+fn are_wanted(homes: &[Home], wanted: Wanted) -> bool {
+    match wanted {
+        Wanted::Registers => are_registers(homes),
+        Wanted::Any => true,
+        Wanted::These(these) => homes == these,
+    }
+}
+
+/// Whether so many homes are allocated that the check takes, and that are the wanted ones.
+fn is_allocated(alloc: Global, &(intervals, calls, wanted): &Allocated) -> Result<bool, NoMemory> {
+    if intervals.len() > 11 {
+        return Ok(false);
+    }
+    let live = Vec::from_slice(alloc, intervals)?;
+    let calls = Vec::from_slice(alloc, calls)?;
+    let places = allocate(alloc, &live, &calls)?;
+    let homes = places.homes.as_slice();
+    let is_one_each = homes.len() == intervals.len();
+    Ok(is_one_each && check(&live, &calls, &places) && are_wanted(homes, wanted))
+}
+
+/// The first intervals that have other homes.
+fn wrong_allocation(alloc: Global) -> Option<usize> {
+    for (at, row) in ALLOCATED.iter().enumerate() {
+        if !matches!(is_allocated(alloc, row), Ok(true)) {
+            return Some(at);
+        }
+    }
+    None
+}
+
+/// Intervals, each with the register that is its home, calls, and what the check says. Registers are shared one after
+/// the other.
+type Checked = (&'static [(Interval, u8)], &'static [u32], bool);
+
 const CHECKED: [Checked; 3] = [
     (&[(FIRST, 10), (SECOND, 10)], &[], true),
     (&[(LONGER, 10), (SECOND, 10)], &[], false),
     (&[(WHOLE, 10)], &[4], false),
 ];
 
-// What the check says of homes in registers.
-fn is_checked(
-    alloc: Global,
-    intervals: &[(Interval, u8)],
-    calls: &[u32],
-) -> Result<bool, AllocError> {
+/// Whether the check says so of homes in registers.
+fn is_checked(alloc: Global, &(intervals, calls, wanted): &Checked) -> Result<bool, AllocError> {
     let mut live = Vec::new(alloc);
     let mut homes = Vec::new(alloc);
     for &(interval, register) in intervals {
@@ -70,14 +113,36 @@ fn is_checked(
     let places = Places {
         homes: Sequence::from_vec(homes),
     };
-    Ok(check(&live, &calls, &places))
+    Ok(check(&live, &calls, &places) == wanted)
+}
+
+/// The first homes of which the check says otherwise.
+fn wrong_check(alloc: Global) -> Option<usize> {
+    for (at, row) in CHECKED.iter().enumerate() {
+        if !matches!(is_checked(alloc, row), Ok(true)) {
+            return Some(at);
+        }
+    }
+    None
+}
+
+/// Whether the check takes no interval with the homes of none.
+fn refuses_a_home_too_few(alloc: Global) -> Result<bool, NoMemory> {
+    let calls = Vec::new(alloc);
+    let mut live = Vec::new(alloc);
+    let places = allocate(alloc, &live, &calls)?;
+    live.push(Interval { first: 1, last: 2 })?;
+    Ok(!check(&live, &calls, &places))
 }
 
 #[test]
-fn registers_are_shared_one_after_the_other(rt: HostRuntime) -> Result<(), NoMemory> {
-    for &(intervals, calls, wanted) in &CHECKED {
-        let says = is_checked(rt.alloc(), intervals, calls)?;
-        assert!(rt; says == wanted, "{intervals:?}, {calls:?}");
-    }
-    Ok(())
+fn homes_are_allocated_and_checked(rt: HostRuntime) {
+    let alloc = rt.alloc();
+    must_all_hold(&rt, "homes", wrong_allocation(alloc));
+    must_all_hold(&rt, "checks", wrong_check(alloc));
+    must_all_hold(
+        &rt,
+        "a home too few",
+        wrong_unless(matches!(refuses_a_home_too_few(alloc), Ok(true))),
+    );
 }

@@ -7,6 +7,8 @@
 #![tactic(auto)]
 
 #[cfg(test)]
+mod answers;
+#[cfg(test)]
 mod costs;
 #[cfg(test)]
 mod frames;
@@ -15,9 +17,9 @@ mod homes;
 #[cfg(test)]
 mod intervals;
 #[cfg(test)]
-mod register_places;
-#[cfg(test)]
 mod shifts;
+#[cfg(test)]
+mod steps;
 #[cfg(test)]
 mod three_address_code;
 #[cfg(test)]

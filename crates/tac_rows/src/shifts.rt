@@ -3,6 +3,7 @@ ghost use Rattle.std.specs.Prelude.{◌≡◌, ◌<◌, ◌≤◌, length, IfOk}
 ghost use Rattle.std.specs.List.{sum_by};
 ghost use Rattle.tac_ir.specs.Costs.{cost, function_cost};
 
+use crate::answers::must_hold;
 use crate::whole_selection::{INT, NAME, selected};
 use ck_base::{NoMemory, Sequence};
 use ck_int::IntKind::{self, Bool, I8, I16, U8, U16};
@@ -78,11 +79,13 @@ fn wanted() -> [Instr; 12] {
     ]
 }
 
+fn are_selected(alloc: Global) -> Result<bool, NoMemory> {
+    let t = code(alloc)?;
+    let items = selected(alloc, &t)?;
+    Ok(items.code.as_slice().get(6..18) == Some(wanted().as_slice()))
+}
+
 #[test]
-fn counts_of_narrow_shifts(rt: HostRuntime) -> Result<(), NoMemory> {
-    let t = code(rt.alloc())?;
-    let items = selected(rt.alloc(), &t)?;
-    let words = items.code.as_slice().get(6..18);
-    assert!(rt; words == Some(wanted().as_slice()));
-    Ok(())
+fn counts_of_narrow_shifts(rt: HostRuntime) {
+    must_hold(&rt, "shifts", matches!(are_selected(rt.alloc()), Ok(true)));
 }

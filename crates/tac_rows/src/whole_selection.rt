@@ -6,6 +6,7 @@ ghost use Rattle.purecap_abi.specs.Saving.{AreHomes};
 ghost use Rattle.rv_select.specs.Selectable.{AreFramed};
 ghost use Rattle.tac_ir.specs.Costs.{function_cost};
 
+use crate::answers::must_hold;
 use c_tree::{CType, Typed};
 use ck_base::{NoMemory, Pos, Sequence};
 use ck_int::IntKind;
@@ -134,10 +135,13 @@ fn are_wanted(items: &Items) -> bool {
         && items.code.as_slice() == wanted().as_slice()
 }
 
+fn is_selected(alloc: Global) -> Result<bool, NoMemory> {
+    let t = code(alloc)?;
+    let items = selected(alloc, &t)?;
+    Ok(are_wanted(&items))
+}
+
 #[test]
-fn a_byte_is_put_behind_a_jump(rt: HostRuntime) -> Result<(), NoMemory> {
-    let t = code(rt.alloc())?;
-    let items = selected(rt.alloc(), &t)?;
-    assert!(rt; are_wanted(&items));
-    Ok(())
+fn a_byte_is_put_behind_a_jump(rt: HostRuntime) {
+    must_hold(&rt, "code", matches!(is_selected(rt.alloc()), Ok(true)));
 }
