@@ -60,20 +60,20 @@ fn bottom(types: &[CType], top: u32) -> (u64, usize) {
     (0, 0)
 }
 
-// Pointers to functions of two parameters, each the one before.
-fn doubling(alloc: Global, p: &mut Typed, array: u32) -> Result<u32, NoMemory> {
-    let mut top = add(alloc, p, CType::Pointer(array))?;
-    for _ in 0..60 {
-        let of = params(alloc, &[top, top])?;
-        let function = add(alloc, p, CType::Function(0, of))?;
-        top = add(alloc, p, CType::Pointer(function))?;
-    }
-    Ok(top)
-}
-
-fn pointers(alloc: Global, p: &mut Typed, array: u32) -> Result<u32, NoMemory> {
-    let mut top = array;
-    for _ in 0..100_000 {
+// Pointers in one another to a type; doubled, each of them is to a function of two parameters, both the one before.
+fn tower(
+    alloc: Global,
+    p: &mut Typed,
+    of: u32,
+    levels: u32,
+    doubled: bool,
+) -> Result<u32, NoMemory> {
+    let mut top = add(alloc, p, CType::Pointer(of))?;
+    for _ in 0..levels {
+        if doubled {
+            let pair = params(alloc, &[top, top])?;
+            top = add(alloc, p, CType::Function(0, pair))?;
+        }
         top = add(alloc, p, CType::Pointer(top))?;
     }
     Ok(top)
@@ -146,12 +146,6 @@ fn are_agreed(alloc: Global, p: &Typed) -> Result<bool, NoMemory> {
     Ok(true)
 }
 
-#[test]
-fn types_agree(rt: HostRuntime) {
-    let p = got(&rt, small_types(rt.alloc()));
-    assert!(rt; are_agreed(rt.alloc(), &p).unwrap_or(false));
-}
-
 // Two of the small types, and the length at the bottom of their composite.
 const COMPOSITES: [(u32, u32, u64); 6] = [
     (1, 2, 4),
@@ -184,59 +178,40 @@ fn are_composed(alloc: Global, numbers: &mut Numbers, p: &mut Typed) -> Result<b
     Ok(true)
 }
 
-#[test]
-fn a_composite_knows_each_length(rt: HostRuntime) {
-    let mut p = got(&rt, small_types(rt.alloc()));
-    let mut numbers = Numbers::new(rt.alloc());
-    assert!(rt; are_composed(rt.alloc(), &mut numbers, &mut p).unwrap_or(false));
-}
+// Towers on the two arrays: their levels, and whether they are doubled; the levels of the composite, and a number of
+// types that is not reached.
+type Towers = (u32, bool, usize, usize);
 
-// What is said of two types, and the bottom of their composite.
-#[derive(Clone, Copy)]
-struct Compared {
-    equal: bool,
-    compatible: bool,
-    length: u64,
-    levels: usize,
-}
+const MANY_LEAVES: Towers = (60, true, 121, 400);
 
-fn compare(alloc: Global, p: &mut Typed, a: u32, b: u32) -> Result<Compared, NoMemory> {
-    let (equal, compatible) = agreements(alloc, p, a, b)?;
+const DEEP: Towers = (99_999, false, 100_000, 400_000);
+
+// Whether only the lengths at the bottom tell two towers apart.
+fn are_compared(
+    alloc: Global,
+    p: &mut Typed,
+    (levels, doubled, height, most): Towers,
+) -> Result<bool, NoMemory> {
+    let a = tower(alloc, p, 1, levels, doubled)?;
+    let b = tower(alloc, p, 2, levels, doubled)?;
+    let agreed = agreements(alloc, p, a, b)?;
     let c = composite_in(&mut Numbers::new(alloc), p, a, b)?;
-    let (length, levels) = bottom(p.types.as_slice(), c);
-    Ok(Compared {
-        equal,
-        compatible,
-        length,
-        levels,
-    })
+    let types = p.types.as_slice();
+    Ok(agreed == (false, true) && bottom(types, c) == (4, height) && types.len() < most)
 }
 
-fn only_lengths_differ(c: Compared, levels: usize) -> bool {
-    !c.equal && c.compatible && c.length == 4 && c.levels == levels
-}
-
-fn doublings_compared(alloc: Global, p: &mut Typed) -> Result<bool, NoMemory> {
-    let a = doubling(alloc, p, 1)?;
-    let b = doubling(alloc, p, 2)?;
-    let compared = compare(alloc, p, a, b)?;
-    Ok(only_lengths_differ(compared, 121) && p.types.as_slice().len() < 400)
-}
-
+// A composite knows each length.
 #[test]
-fn types_with_many_leaves(rt: HostRuntime) {
-    let mut p = got(&rt, small_types(rt.alloc()));
-    assert!(rt; doublings_compared(rt.alloc(), &mut p).unwrap_or(false));
-}
-
-fn pointers_compared(alloc: Global, p: &mut Typed) -> Result<bool, NoMemory> {
-    let a = pointers(alloc, p, 1)?;
-    let b = pointers(alloc, p, 2)?;
-    Ok(only_lengths_differ(compare(alloc, p, a, b)?, 100_000))
+fn types_agree_and_are_composed(rt: HostRuntime) {
+    let alloc = rt.alloc();
+    let mut p = got(&rt, small_types(alloc));
+    assert!(rt; are_agreed(alloc, &p).unwrap_or(false));
+    assert!(rt; are_compared(alloc, &mut p, MANY_LEAVES).unwrap_or(false));
+    assert!(rt; are_composed(alloc, &mut Numbers::new(alloc), &mut p).unwrap_or(false));
 }
 
 #[test]
 fn deep_types(rt: HostRuntime) {
     let mut p = got(&rt, small_types(rt.alloc()));
-    assert!(rt; pointers_compared(rt.alloc(), &mut p).unwrap_or(false));
+    assert!(rt; are_compared(rt.alloc(), &mut p, DEEP).unwrap_or(false));
 }

@@ -522,13 +522,17 @@ fn holds(alloc: Global, steps: &[Step]) -> bool {
     }
 }
 
-// Each table on scopes and a program of its own.
+// Each table is asked of scopes and a program of its own.
 #[test]
-fn names_types_and_declarations_answer(rt: HostRuntime) {
+fn types_have_numbers_and_layouts(rt: HostRuntime) {
+    assert!(rt; holds(rt.alloc(), &NUMBERS));
+    assert!(rt; holds(rt.alloc(), &RECORDS));
+}
+
+#[test]
+fn names_and_declarations_answer(rt: HostRuntime) {
     let alloc = rt.alloc();
     assert!(rt; holds(alloc, &KNOWN));
-    assert!(rt; holds(alloc, &NUMBERS));
-    assert!(rt; holds(alloc, &RECORDS));
     assert!(rt; holds(alloc, &TAGS_AND_LOCALS));
     assert!(rt; holds(alloc, &FILE_SCOPE));
     assert!(rt; holds(alloc, &BLOCKS));

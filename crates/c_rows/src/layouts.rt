@@ -100,22 +100,18 @@ fn variable(of: u32, simple: bool) -> VarDef {
     }
 }
 
-fn function(alloc: Global) -> Result<FunDef, AllocError> {
-    let vars = vec![in alloc; variable(5, false), variable(0, false), variable(2, true)]?;
-    Ok(FunDef {
-        name: NAME,
-        pos: PLACE,
-        of: 21,
-        params: none(alloc),
-        vars: Sequence::from_vec(vars),
-        body: 0,
-    })
-}
-
 fn functions(alloc: Global) -> Result<Vec<FunDef>, AllocError> {
     let mut functions = Vec::new(alloc);
     for _ in 0..2 {
-        functions.push(function(alloc)?)?;
+        let vars = vec![in alloc; variable(5, false), variable(0, false), variable(2, true)]?;
+        functions.push(FunDef {
+            name: NAME,
+            pos: PLACE,
+            of: 21,
+            params: none(alloc),
+            vars: Sequence::from_vec(vars),
+            body: 0,
+        })?;
     }
     Ok(functions)
 }
@@ -132,11 +128,11 @@ fn expression(kind: ExprKind, of: u32) -> Expr {
 // an integer.
 fn expressions(alloc: Global) -> Result<Vec<Expr>, AllocError> {
     let mut expressions = vec![in alloc; expression(ExprKind::Load(0), 10)]?;
-    for of in [10, 8, 2] {
-        expressions.push(expression(ExprKind::Assign(0, 0), of))?;
+    for of in &[10, 8, 2] {
+        expressions.push(expression(ExprKind::Assign(0, 0), *of))?;
     }
-    for of in [10, 2] {
-        expressions.push(expression(ExprKind::Conditional(0, 0, 0), of))?;
+    for of in &[10, 2] {
+        expressions.push(expression(ExprKind::Conditional(0, 0, 0), *of))?;
     }
     Ok(expressions)
 }
@@ -234,64 +230,6 @@ fn is_layout(found: Result<Layout, LayoutFault>, size: u64, align: u64) -> bool 
     found == Ok(Layout { size, align })
 }
 
-fn is_fault(found: Result<Layout, LayoutFault>, fault: LayoutFault) -> bool {
-    found == Err(fault)
-}
-
-// Whether each type of the program has its layout, or its fault.
-fn have_layouts(p: &Typed) -> bool {
-    for &(t, size, align) in &LAYOUTS {
-        if !is_layout(layout(p, t), size, align) {
-            return false;
-        }
-    }
-    for &(t, fault) in &FAULTS {
-        if !is_fault(layout(p, t), fault) {
-            return false;
-        }
-    }
-    true
-}
-
-#[test]
-fn types_have_layouts(rt: HostRuntime) {
-    let p = program(rt.alloc()).expect(&rt, "a program");
-    assert!(rt; have_layouts(&p));
-}
-
-// The same of the layouts that are kept.
-fn have_kept_layouts(p: &Typed, layouts: &Layouts) -> bool
-    requires { AreLayoutsOf p.now.types layouts.now }
-{
-    for &(t, size, align) in &LAYOUTS {
-        if !is_layout(layouts.layout(p, t), size, align) {
-            return false;
-        }
-    }
-    for &(t, fault) in &FAULTS {
-        if !is_fault(layouts.layout(p, t), fault) {
-            return false;
-        }
-    }
-    true
-}
-
-// Whether layouts are kept, and the granules and copies are counted by them.
-fn are_kept(alloc: Global, p: &Typed) -> Result<bool, AllocError> {
-    let layouts = Layouts::new(alloc, p)?;
-    Ok(
-        have_kept_layouts(p, &layouts)
-            && granules(&layouts, p) == 2 * (257 + 1)
-            && copies(&layouts, p) == 2 + 2 + 1 + 2,
-    )
-}
-
-#[test]
-fn layouts_are_kept_and_parts_are_counted(rt: HostRuntime) {
-    let p = program(rt.alloc()).expect(&rt, "a program");
-    assert!(rt; are_kept(rt.alloc(), &p).unwrap_or(false));
-}
-
 const OFFSETS: [(u32, u32, u64); 6] = [
     (3, 0, 0),
     (3, 1, 4),
@@ -301,75 +239,98 @@ const OFFSETS: [(u32, u32, u64); 6] = [
     (10, 1, 16),
 ];
 
-#[test]
-fn members_have_offsets(rt: HostRuntime) {
-    let p = program(rt.alloc()).expect(&rt, "a program");
+// Whether each type of the program has its layout, or its fault, and the layouts that are kept say the same.
+fn have_layouts(p: &Typed, layouts: &Layouts) -> bool
+    requires { AreLayoutsOf p.now.types layouts.now }
+{
+    for &(t, size, align) in &LAYOUTS {
+        let found = layout(p, t);
+        if !is_layout(found, size, align) || layouts.layout(p, t) != found {
+            return false;
+        }
+    }
+    for &(t, fault) in &FAULTS {
+        let found = layout(p, t);
+        if found != Err(fault) || layouts.layout(p, t) != found {
+            return false;
+        }
+    }
+    true
+}
+
+// Whether layouts are found and kept, and the granules and copies are counted by them.
+fn are_kept(alloc: Global, p: &Typed) -> Result<bool, AllocError> {
+    let layouts = Layouts::new(alloc, p)?;
+    Ok(
+        have_layouts(p, &layouts)
+            && granules(&layouts, p) == 2 * (257 + 1)
+            && copies(&layouts, p) == 2 + 2 + 1 + 2,
+    )
+}
+
+fn have_offsets(p: &Typed) -> bool {
     for &(t, member, at) in &OFFSETS {
-        assert!(rt; offset(&p, t, member) == Some(at), "member {member} of {t}");
+        if offset(p, t, member) != Some(at) {
+            return false;
+        }
     }
+    true
 }
 
-// Arrays and the words `const`, by turns, each of the type before.
-fn arrays(alloc: Global, levels: u32) -> Result<Vec<CType>, AllocError> {
+#[test]
+fn types_have_layouts_and_members_have_offsets(rt: HostRuntime) {
+    let p = program(rt.alloc()).expect(&rt, "a program");
+    assert!(rt; are_kept(rt.alloc(), &p).unwrap_or(false));
+    assert!(rt; have_offsets(&p));
+}
+
+// How each type is made of the one before.
+#[derive(Clone, Copy)]
+enum Nesting {
+    // Arrays and the words `const`, by turns.
+    Arrays,
+    // Structs of one member.
+    Structs,
+    // Unions of two members.
+    Unions,
+}
+
+fn nested(alloc: Global, how: Nesting, of: u32) -> Result<CType, AllocError> {
+    Ok(match how {
+        Nesting::Arrays if of % 2 == 0 => CType::Array(of, 1),
+        Nesting::Arrays => CType::Const(of),
+        Nesting::Structs => CType::Struct(0, members(alloc, &[of])?),
+        Nesting::Unions => CType::Union(0, members(alloc, &[of, of])?),
+    })
+}
+
+// So many types in one another, from `int` on.
+fn deep(alloc: Global, how: Nesting, levels: u32) -> Result<Vec<CType>, AllocError> {
     let mut types = vec![in alloc; CType::Int(IntKind::I32, 0)]?;
     for of in 0..levels {
-        types.push(if of % 2 == 0 {
-            CType::Array(of, 1)
-        } else {
-            CType::Const(of)
-        })?;
+        types.push(nested(alloc, how, of)?)?;
     }
     Ok(types)
 }
 
-// Structs of one member, each of the type before.
-fn structs(alloc: Global, levels: u32) -> Result<Vec<CType>, AllocError> {
-    let mut types = vec![in alloc; CType::Int(IntKind::I32, 0)]?;
-    for of in 0..levels {
-        types.push(CType::Struct(0, members(alloc, &[of])?))?;
-    }
-    Ok(types)
+// Whether the last of so many types in one another has the layout of an `int`, which is kept or is not.
+fn is_int(alloc: Global, how: Nesting, levels: u32, kept: bool) -> Result<bool, AllocError> {
+    let p = with_types(alloc, deep(alloc, how, levels)?);
+    let found = if kept {
+        Layouts::new(alloc, &p)?.layout(&p, levels)
+    } else {
+        layout(&p, levels)
+    };
+    Ok(is_layout(found, 4, 4))
 }
 
-// Unions of two members, each of the type before.
-fn unions(alloc: Global, levels: u32) -> Result<Vec<CType>, AllocError> {
-    let mut types = vec![in alloc; CType::Int(IntKind::I32, 0)]?;
-    for of in 0..levels {
-        types.push(CType::Union(0, members(alloc, &[of, of])?))?;
-    }
-    Ok(types)
-}
-
-// Whether the last of these types has the layout of an `int`.
-fn is_int(alloc: Global, types: Result<Vec<CType>, AllocError>, last: u32) -> bool {
-    match types {
-        Ok(types) => is_layout(layout(&with_types(alloc, types), last), 4, 4),
-        Err(_) => false,
-    }
-}
-
-// Arrays and the words `const` in one another take no stack; structs in one another take some.
+// Arrays and the words `const` in one another take no stack; structs in one another take some. Kept layouts take none,
+// and no more time where a type stands twice in the one around it.
 #[test]
 fn deep_types_have_layouts(rt: HostRuntime) {
-    assert!(rt; is_int(rt.alloc(), arrays(rt.alloc(), 100_000), 100_000));
-    assert!(rt; is_int(rt.alloc(), structs(rt.alloc(), 1_000), 1_000));
-}
-
-// The same of the layout that is kept.
-fn is_kept_int(
-    alloc: Global,
-    types: Result<Vec<CType>, AllocError>,
-    last: u32,
-) -> Result<bool, AllocError> {
-    let p = with_types(alloc, types?);
-    Ok(is_layout(Layouts::new(alloc, &p)?.layout(&p, last), 4, 4))
-}
-
-// Kept layouts take no stack, and no more time where a type stands twice in the one around it.
-#[test]
-fn deep_types_have_kept_layouts(rt: HostRuntime) {
-    let of_structs = is_kept_int(rt.alloc(), structs(rt.alloc(), 50_000), 50_000);
-    assert!(rt; of_structs.unwrap_or(false));
-    let of_unions = is_kept_int(rt.alloc(), unions(rt.alloc(), 50_000), 50_000);
-    assert!(rt; of_unions.unwrap_or(false));
+    let alloc = rt.alloc();
+    assert!(rt; is_int(alloc, Nesting::Arrays, 100_000, false).unwrap_or(false));
+    assert!(rt; is_int(alloc, Nesting::Structs, 1_000, false).unwrap_or(false));
+    assert!(rt; is_int(alloc, Nesting::Structs, 50_000, true).unwrap_or(false));
+    assert!(rt; is_int(alloc, Nesting::Unions, 50_000, true).unwrap_or(false));
 }

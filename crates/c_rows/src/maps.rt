@@ -222,33 +222,22 @@ fn wanted(fits: bool) -> Option<Refusal> {
     }
 }
 
-// Lengths of globals, which take exactly 67,108,864 bytes with the literal of two, and one byte more.
-const GLOBALS: [([u64; 4], bool); 2] = [
-    ([40_000_000, 26_935_296, 28_672, 4_030], true),
-    ([40_000_000, 26_935_296, 28_672, 4_031], false),
-];
-
-#[test]
-fn globals_up_to_the_limit(rt: HostRuntime) {
-    for (lengths, fits) in &GLOBALS {
-        let found = refusal(&rt, rt.alloc(), lengths, 1);
-        assert!(rt; found == wanted(*fits), "of {lengths:?}");
-    }
-}
-
-// Globals of these lengths and a local of that length, and whether they are within the limit.
-const LIMITS: [(u64, u64, u64, bool); 5] = [
-    (40_000_000, 26_000_000, 1, true),
-    (40_000_000, 40_000_000, 1, false),
-    (67_043_328, 1, 1, false),
-    (1, 1, 67_043_328, true),
-    (1, 1, 67_043_329, false),
+// Lengths of globals and that of a local, and whether they are within the limit. The globals of the first row take
+// exactly 67,108,864 bytes with the literal of two, and those of the second one byte more.
+static LIMITS: [(&[u64], u64, bool); 7] = [
+    (&[40_000_000, 26_935_296, 28_672, 4_030], 1, true),
+    (&[40_000_000, 26_935_296, 28_672, 4_031], 1, false),
+    (&[40_000_000, 26_000_000], 1, true),
+    (&[40_000_000, 40_000_000], 1, false),
+    (&[67_043_328, 1], 1, false),
+    (&[1, 1], 67_043_328, true),
+    (&[1, 1], 67_043_329, false),
 ];
 
 #[test]
 fn the_limit_is_kept(rt: HostRuntime) {
-    for &(first, second, local, fits) in &LIMITS {
-        let found = refusal(&rt, rt.alloc(), &[first, second], local);
-        assert!(rt; found == wanted(fits), "of {first}, {second} and {local}");
+    for &(lengths, local, fits) in &LIMITS {
+        let found = refusal(&rt, rt.alloc(), lengths, local);
+        assert!(rt; found == wanted(fits), "of {lengths:?} and {local}");
     }
 }

@@ -9,8 +9,7 @@ use ck_base::{NoMemory, Pos};
 use std::alloc::{AllocError, Global};
 use std::fmt::Write;
 use tables::{
-    CHARACTERS, INTEGERS, LEFT_OUT, NO_CHARACTERS, NO_INTEGERS, PUNCTUATORS, READINGS, REFUSALS,
-    STRINGS, WORDS,
+    CHARACTERS, INTEGERS, LEFT_OUT, PUNCTUATORS, READINGS, REFUSALS, STRINGS, WORDS,
 };
 
 // The tokens of a file, each with its kind, its position and its text, and how the file ends: `end`, or a code and its
@@ -38,16 +37,16 @@ fn list(listing: &mut String, file: &[u8]) -> Result<(), AllocError>
     listing.push_str("end")
 }
 
-fn listing(alloc: Global, file: &str) -> Result<String, AllocError> {
+fn listing(alloc: Global, file: &[u8]) -> Result<String, AllocError> {
     let mut listing = String::new(alloc);
     if file.len() < 100 {
-        list(&mut listing, file.as_bytes())?;
+        list(&mut listing, file)?;
     }
     Ok(listing)
 }
 
 fn is_listed(alloc: Global, file: &str, want: &str) -> bool {
-    match listing(alloc, file) {
+    match listing(alloc, file.as_bytes()) {
         Ok(found) => found.as_str() == want,
         Err(_) => false,
     }
@@ -60,15 +59,10 @@ fn reads_tokens(rt: HostRuntime) {
     }
 }
 
-// What is listed of a text that is one token of this kind.
-fn line_of(alloc: Global, kind: &str, text: &str) -> Result<String, AllocError> {
-    format!(in alloc; "{kind} 1:1 {text}, end")
-}
-
 // Whether each of the texts is one token of this kind.
 fn are_tokens(alloc: Global, kind: &str, texts: &[&str]) -> bool {
     for &text in texts {
-        let Ok(want) = line_of(alloc, kind, text) else {
+        let Ok(want) = format!(in alloc; "{kind} 1:1 {text}, end") else {
             return false;
         };
         if !is_listed(alloc, text, &want) {
@@ -87,27 +81,18 @@ fn reads_tables(rt: HostRuntime) {
     }
 }
 
-// The code and the position with which a file is refused.
-fn refusal_of(file: &[u8]) -> Option<(u16, u32, u32)>
-    requires { length file.now ≤ 4_194_304 }
-{
-    let mut tokens = Tokens::new(file);
-    while let Some(next) = tokens.next() {
-        if let Err((code, pos)) = next {
-            return Some((code, pos.line, pos.col));
-        }
+// Whether the tokens of a file end with this refusal.
+fn is_refused(alloc: Global, file: &[u8], want: &str) -> bool {
+    match listing(alloc, file) {
+        Ok(found) => found.as_bytes().ends_with(want.as_bytes()),
+        Err(_) => false,
     }
-    None
-}
-
-fn is_refused(&(file, code, line, col): &(&[u8], u16, u32, u32)) -> bool {
-    file.len() < 100 && refusal_of(file) == Some((code, line, col))
 }
 
 #[test]
 fn refuses(rt: HostRuntime) {
-    for row in &REFUSALS {
-        assert!(rt; is_refused(row), "{row:?}");
+    for &(file, want) in &REFUSALS {
+        assert!(rt; is_refused(rt.alloc(), file, want), "{file:?}");
     }
 }
 
@@ -133,33 +118,29 @@ fn repeats_a_refusal(rt: HostRuntime) {
     }
 }
 
-fn is_integer(&(text, value, unsigned, longs, decimal): &(&str, u64, bool, u8, bool)) -> bool {
-    let wanted = Integer {
-        value,
-        unsigned,
-        longs,
-        decimal,
-    };
-    integer_of(text.as_bytes()) == Some(wanted)
+fn wanted(want: Option<(u64, bool, u8, bool)>) -> Option<Integer> {
+    match want {
+        Some((value, unsigned, longs, decimal)) => Some(Integer {
+            value,
+            unsigned,
+            longs,
+            decimal,
+        }),
+        None => None,
+    }
 }
 
 #[test]
 fn values_integers(rt: HostRuntime) {
-    for row in &INTEGERS {
-        assert!(rt; is_integer(row), "{row:?}");
-    }
-    for &text in &NO_INTEGERS {
-        assert!(rt; integer_of(text.as_bytes()).is_none(), "of {text}");
+    for &(text, want) in &INTEGERS {
+        assert!(rt; integer_of(text.as_bytes()) == wanted(want), "of {text}");
     }
 }
 
 #[test]
 fn values_characters(rt: HostRuntime) {
-    for &(text, value) in &CHARACTERS {
-        assert!(rt; char_of(text) == Some(value), "of {text:?}");
-    }
-    for &text in &NO_CHARACTERS {
-        assert!(rt; char_of(text).is_none(), "of {text:?}");
+    for &(text, want) in &CHARACTERS {
+        assert!(rt; char_of(text) == want, "of {text:?}");
     }
 }
 
