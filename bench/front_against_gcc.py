@@ -15,9 +15,9 @@ import sys
 import tempfile
 
 from calls import ROOT, prepared
+from front_rows import rows_of
 
 CHERIC = f"{ROOT}/cheric"
-TABLE = f"{ROOT}/crates/cheric_rows/src/front_tables.rt"
 TOKEN = re.compile(r"[A-Za-z_]\w*|\.?\d[\w.]*|'(?:[^'\\]|\\.)*'|\"(?:[^\"\\]|\\.)*\"|"
                    r"<<=|>>=|->|\+\+|--|<<|>>|<=|>=|==|!=|&&|\|\||[-+*/%&|^]=|\S")
 POOL = """int char unsigned long short void _Bool const static extern typedef struct union enum * & - + ~ ! ( ) [ ] 0 1 7
@@ -32,10 +32,7 @@ int putchar(int); int getchar(void); void *malloc(size_t); void exit(int);
 
 def files():
     """The C files of the table."""
-    with open(TABLE, encoding="utf-8") as table:
-        text = re.sub(r"//[^\n]*", "", table.read())
-    found = [re.sub(r"\\\n\s*", "", it) for it in re.findall(r'"((?:[^"\\]|\\.)*)"', text)]
-    return [it.encode().decode("unicode_escape") for it in found if ";" in it or "{" in it]
+    return [file for file, _ in rows_of("front_tables")]
 
 
 def changed(text):

@@ -14,16 +14,21 @@ import tempfile
 from calls import ROOT, prepared
 
 TABLES = ("front_tables", "declared_files", "initialised_files", "typed_files", "constant_files")
-# A row: two strings in brackets, on one line or each on its own.
-# GOES_ON is where a string is broken at a line's end.
-ROW = re.compile(r'^    \(\s*("(?:[^"\\]|\\.)*"),\s*("(?:[^"\\]|\\.)*"),?\s*\),$', re.M)
+# A table: a string of rows. A row is the answer, `: ` and a remark, and the file from the next line on.
+# GOES_ON is where a line is broken.
+TABLE = re.compile(r'^pub\(super\) const \w+: &str = "((?:[^"\\]|\\.)*)";$', re.M | re.S)
 GOES_ON = re.compile(r"\\\n\s*")
 
 
 def rows_of(table):
     """The files of a table, with what they are answered."""
+    rows = []
     with open(f"{ROOT}/crates/cheric_rows/src/{table}.rt", encoding="utf-8") as it:
-        return [tuple(ast.literal_eval(word) for word in row) for row in ROW.findall(GOES_ON.sub("", it.read()))]
+        for text in TABLE.findall(GOES_ON.sub("", it.read())):
+            for row in ast.literal_eval(f'"""{text}"""').split("\n\n"):
+                head, file = row.split("\n", 1)
+                rows.append((file, head.split(": ")[0]))
+    return rows
 
 
 def answer(folder, text):

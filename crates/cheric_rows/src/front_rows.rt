@@ -41,75 +41,88 @@ pub fn is_as_wanted(alloc: Global, by: By, text: &[u8], want: &str) -> bool {
     got.as_str() == want || (want == "120" && got.as_str().starts_with("120 "))
 }
 
-/// Files, and what the front end says of each.
-const TABLES: [&[(&str, &str)]; 19] = [
-    &WORDS,
-    &DECLARATIONS,
-    &TYPES,
-    &OPERATORS,
-    &PLACES,
-    &CONSTANTS,
-    &STATEMENTS,
-    &declared_files::FIRST,
-    &declared_files::SECOND,
-    &declared_files::THIRD,
-    &declared_files::FOURTH,
-    &initialised_files::FIRST,
-    &initialised_files::SECOND,
-    &initialised_files::THIRD,
-    &typed_files::FIRST,
-    &typed_files::SECOND,
-    &typed_files::THIRD,
-    &constant_files::FIRST,
-    &constant_files::SECOND,
-];
+/// Whether the file of a row is answered as the row says.
+fn is_so(alloc: Global, by: By, row: &str) -> Option<bool> {
+    let (head, file) = row.split_once('\n')?;
+    let (want, _) = head.split_once(": ")?;
+    Some(is_as_wanted(alloc, by, file.as_bytes(), want))
+}
 
-/// Files, and what `build` says of each.
-const BUILT: [(&str, &str); 10] = [
-    (whole_language::WORDS, "built"),
-    ("int g;int main(void){return 0;}", "built"),
-    ("int main(void){int *p=0;return !p;}", "built"),
-    ("int f(void){return 0;}int main(void){return f();}", "built"),
-    (
-        "char a[40000000];char b[40000000];int main(void){return 0;}",
-        "141 1:1",
-    ),
-    ("int main(void){char a[67108800];return 0;}", "141 1:1"),
-    // an address past 2^63 bytes, in an array that is too short when its length is known
-    (
-        "extern char c[];char*p=c+0x7fffffffffffffff+0x7fffffffffffffff;char c[1];\nint main(void){return 0;}",
-        "134 1:24",
-    ),
-    // short files whose lists of locals have more than 4,194,304 scalars in sum, which are answered before a zero is
-    // made of the last one
-    (
-        "int main(void){char a[67108864]={1};return 0;}",
-        "no memory",
-    ),
-    ("int main(void){char a[67108864]={};return 0;}", "no memory"),
-    (
-        "int main(void){char a[65536]=\"\",b[4128769]={1};return 0;}",
-        "no memory",
-    ),
-];
-
-fn are_as_wanted(rt: &impl Abort, alloc: Global, by: By, rows: &[(&str, &str)]) {
-    for &(text, want) in rows {
-        assert!(rt;
-            is_as_wanted(alloc, by, text.as_bytes(), want),
-            "{want} of {text}"
-        );
+/// Each row of a table, as `front_tables` writes them, is answered as it says.
+fn are_so(rt: &impl Abort, alloc: Global, by: By, table: &str) {
+    for row in table.split("\n\n") {
+        assert!(rt; is_so(alloc, by, row) == Some(true), "{row}");
     }
 }
 
 #[test]
-fn files_are_typed_or_refused(rt: HostRuntime) {
-    for rows in &TABLES {
-        are_as_wanted(&rt, rt.alloc(), By::Front, *rows);
-    }
+fn files_of_each_rule_are_typed_or_refused(rt: HostRuntime) {
+    are_so(&rt, rt.alloc(), By::Front, WORDS);
+    are_so(&rt, rt.alloc(), By::Front, DECLARATIONS);
+    are_so(&rt, rt.alloc(), By::Front, TYPES);
+    are_so(&rt, rt.alloc(), By::Front, OPERATORS);
+    are_so(&rt, rt.alloc(), By::Front, PLACES);
+    are_so(&rt, rt.alloc(), By::Front, CONSTANTS);
+    are_so(&rt, rt.alloc(), By::Front, STATEMENTS);
 }
+
+#[test]
+fn declarations_are_typed_or_refused(rt: HostRuntime) {
+    are_so(&rt, rt.alloc(), By::Front, declared_files::FILES);
+}
+
+#[test]
+fn initialisers_are_typed_or_refused(rt: HostRuntime) {
+    are_so(&rt, rt.alloc(), By::Front, initialised_files::FILES);
+}
+
+#[test]
+fn expressions_are_typed_or_refused(rt: HostRuntime) {
+    are_so(&rt, rt.alloc(), By::Front, typed_files::FILES);
+}
+
+#[test]
+fn constants_are_typed_or_refused(rt: HostRuntime) {
+    are_so(&rt, rt.alloc(), By::Front, constant_files::FILES);
+}
+
+/// Files, and what `build` says of each.
+const BUILT: &str = "\
+built: an object that nothing uses
+int g;int main(void){return 0;}
+
+built: a pointer that is null
+int main(void){int *p=0;return !p;}
+
+built: a call
+int f(void){return 0;}int main(void){return f();}
+
+141 1:1: objects that are too large in sum
+char a[40000000];char b[40000000];int main(void){return 0;}
+
+141 1:1: a frame that the stack has no room for
+int main(void){char a[67108800];return 0;}
+
+134 1:24: an address past 2^63 bytes, in an array that is too short when its length is known
+extern char c[];char*p=c+0x7fffffffffffffff+0x7fffffffffffffff;char c[1];
+int main(void){return 0;}
+
+no memory: a list of locals with more than 4,194,304 scalars, answered before a zero is made of the last one
+int main(void){char a[67108864]={1};return 0;}
+
+no memory: the same of empty braces
+int main(void){char a[67108864]={};return 0;}
+
+no memory: the same of two locals in sum
+int main(void){char a[65536]=\"\",b[4128769]={1};return 0;}";
 
 #[test]
 fn files_are_built_or_refused(rt: HostRuntime) {
-    are_as_wanted(&rt, rt.alloc(), By::Build, &BUILT);
+    are_so(&rt, rt.alloc(), By::Build, BUILT);
+}
+
+#[test]
+fn a_whole_program_is_built(rt: HostRuntime) {
+    let file = whole_language::WORDS.as_bytes();
+    assert!(rt; is_as_wanted(rt.alloc(), By::Build, file, "built"));
 }
