@@ -106,8 +106,8 @@ pub fn is_answered(alloc: Global, file: &[u8], words: &str, answer: Answer<'_>) 
 /// A C file, with the status, output and line of an answer.
 pub type Row = (&'static str, u8, &'static str, &'static str);
 
-/// Each of the files is answered so by these words.
-pub fn files_are_answered(rt: &impl Abort, alloc: Global, words: &str, rows: &[Row]) {
+/// Each of the programs is answered so by these words.
+pub fn programs_are_answered(rt: &impl Abort, alloc: Global, words: &str, rows: &[Row]) {
     for &(file, status, put, line) in rows {
         assert!(rt;
             is_answered(alloc, file.as_bytes(), words, (status, put, line)),
@@ -116,52 +116,117 @@ pub fn files_are_answered(rt: &impl Abort, alloc: Global, words: &str, rows: &[R
     }
 }
 
-/// Words and failing calls, with the status, output and line of an answer.
-pub type Case = (&'static str, Failing, u8, &'static str, &'static str);
+/// The first field of a row, up to a `|`, and those behind.
+fn field(row: &str) -> (&str, &str) {
+    match row.split_once('|') {
+        Some((first, behind)) => (first.trim(), behind),
+        None => (row.trim(), ""),
+    }
+}
 
-/// Calls on a C file `a.c` and an input, each on files of its own; whether `a.c.elf` is built of it before.
+/// An answer as a row says it: `STATUS | LINE | PUT`, where a `/` in what is put ends a line, and fields that are left
+/// out are empty. No line is put for an empty one.
+#[derive(Drop)]
+struct Said {
+    status: u8,
+    put: String,
+    line: String,
+}
+
+fn answer_of(alloc: Global, row: &str) -> Option<Said> {
+    let (status, behind) = field(row);
+    let (line, behind) = field(behind);
+    let (put, _) = field(behind);
+    let end = if line.is_empty() { "" } else { "\n" };
+    let status = status.parse::<u8>().ok()?;
+    let put = put.replace(alloc, "/", "\n").ok()?;
+    let line = format!(in alloc; "{line}{end}").ok()?;
+    Some(Said { status, put, line })
+}
+
+/// Whether a file is answered so by these words. A row is the answer, maybe with a remark as the last field, and the
+/// file from the next line on.
+pub fn is_file_so(alloc: Global, words: &str, row: &str) -> Option<bool> {
+    let (head, file) = row.split_once('\n').unwrap_or((row, ""));
+    let said = answer_of(alloc, head)?;
+    let answer = (said.status, said.put.as_str(), said.line.as_str());
+    Some(is_answered(alloc, file.as_bytes(), words, answer))
+}
+
+/// Each of the files is answered so by these words. An empty line ends a row.
+pub fn files_are_answered(rt: &impl Abort, alloc: Global, words: &str, rows: &str) {
+    for row in rows.split("\n\n") {
+        assert!(rt;
+            is_file_so(alloc, words, row) == Some(true),
+            "{words}: {row}"
+        );
+    }
+}
+
+/// Calls on a C file `a.c` and an input, each on files of its own; whether `a.c.elf` is built of it before. Each line
+/// of the cases is a call, `WORDS ! FAILING | STATUS | LINE | PUT`, or a remark behind `//`.
 pub struct Table {
     pub file: &'static str,
     pub is_built: bool,
     pub input: &'static str,
-    pub cases: &'static [Case],
+    pub cases: &'static str,
+}
+
+/// The numbers of the calls that fail, as `0 1 0 0`.
+fn failing(text: &str) -> Option<Failing> {
+    let mut all = SURE;
+    for (k, word) in text.split_ascii_whitespace().enumerate() {
+        *all.get_mut(k)? = word.parse::<u64>().ok()?;
+    }
+    Some(all)
+}
+
+/// The words of a call and the numbers of the calls that fail, and how it is answered.
+fn call(case: &str) -> Option<(&str, Failing, &str)> {
+    let (call, answer) = field(case);
+    let (words, faults) = call.split_once('!').unwrap_or((call, ""));
+    Some((words, failing(faults)?, answer))
+}
+
+/// Whether a call is answered so on one file of this name, which it leaves as it was.
+pub fn is_call_so(
+    alloc: Global,
+    name: &str,
+    bytes: &[u8],
+    input: &str,
+    case: &str,
+) -> Option<bool> {
+    let (words, faults, answer) = call(case)?;
+    let said = answer_of(alloc, answer)?;
+    let answer = (said.status, said.put.as_str(), said.line.as_str());
+    answers_on(alloc, name, bytes, words, input, faults, answer).ok()
+}
+
+/// The same beside what is built of the file.
+fn is_built_so(alloc: Global, table: &Table, case: &str) -> Option<bool> {
+    let (words, faults, answer) = call(case)?;
+    let said = answer_of(alloc, answer)?;
+    let answer = (said.status, said.put.as_str(), said.line.as_str());
+    let mut files = built(alloc, table.file.as_bytes()).ok()?;
+    answers(alloc, &mut files, words, table.input, faults, answer).ok()
 }
 
 /// Whether a call of a table is answered so.
-fn is_so(alloc: Global, table: &Table, case: &Case) -> Result<bool, Refusal> {
-    let &(words, failing, status, put, line) = case;
-    let file = table.file.as_bytes();
-    let input = table.input;
-    if !table.is_built {
-        return Ok(answers_on(
-            alloc,
-            "a.c",
-            file,
-            words,
-            input,
-            failing,
-            (status, put, line),
-        )?);
+fn is_so(alloc: Global, table: &Table, case: &str) -> Option<bool> {
+    if table.is_built {
+        is_built_so(alloc, table, case)
+    } else {
+        is_call_so(alloc, "a.c", table.file.as_bytes(), table.input, case)
     }
-    let mut files = built(alloc, file)?;
-    Ok(answers(
-        alloc,
-        &mut files,
-        words,
-        input,
-        failing,
-        (status, put, line),
-    )?)
 }
 
 /// Each call of the tables is answered so.
 pub fn calls_are_answered(rt: &impl Abort, alloc: Global, tables: &[Table]) {
     for table in tables {
-        for case in table.cases {
+        for case in table.cases.lines() {
             assert!(rt;
-                is_so(alloc, table, case).unwrap_or(false),
-                "{}: {}",
-                case.0,
+                case.starts_with("//") || is_so(alloc, table, case) == Some(true),
+                "{case}: {}",
                 table.file
             );
         }

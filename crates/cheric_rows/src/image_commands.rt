@@ -1,6 +1,6 @@
 //! The modes `build`, `exec` and `audit` of the command.
 
-use crate::calls::{Case, SURE, Table, answers, answers_on, calls_are_answered, one_file};
+use crate::calls::{SURE, Table, answers, answers_on, calls_are_answered, is_call_so, one_file};
 use crate::whole_language::WORDS;
 use cheric_build::build;
 use ck_base::Refusal;
@@ -14,20 +14,13 @@ const RUNNING: [Table; 1] = [Table {
     file: HI,
     is_built: true,
     input: "",
-    cases: &[
-        ("cheric exec a.c.elf", SURE, 0, "Hi", "exit 0\n"),
-        (
-            "cheric exec a.c.elf --steps 99999",
-            SURE,
-            0,
-            "Hi",
-            "exit 0\n",
-        ),
-        ("cheric exec a.c.elf --steps 0", SURE, 4, "", "steps\n"),
-        ("cheric exec a.c.elf --steps 1", SURE, 4, "", "steps\n"),
-        ("cheric exec a.c.elf", [0, 0, 2, 0], 22, "H", "output\n"),
-        ("cheric exec a.c", SURE, 12, "", "image 1\n"),
-    ],
+    cases: "\
+cheric exec a.c.elf | 0 | exit 0 | Hi
+cheric exec a.c.elf --steps 99999 | 0 | exit 0 | Hi
+cheric exec a.c.elf --steps 0 | 4 | steps
+cheric exec a.c.elf --steps 1 | 4 | steps
+cheric exec a.c.elf ! 0 0 2 0 | 22 | output | H
+cheric exec a.c | 12 | image 1",
 }];
 
 #[test]
@@ -41,18 +34,17 @@ const UNPUT: [Table; 2] = [
         file: HI,
         is_built: false,
         input: "",
-        cases: &[
-            ("cheric build b.c", SURE, 20, "", "file\n"),
-            ("cheric build a.c", [1, 0, 0, 0], 20, "", "file\n"),
-            ("cheric build a.c", [2, 0, 0, 0], 20, "", "file\n"),
-            ("cheric exec a.c.elf", SURE, 20, "", "file\n"),
-        ],
+        cases: "\
+cheric build b.c | 20 | file
+cheric build a.c ! 1 0 0 0 | 20 | file
+cheric build a.c ! 2 0 0 0 | 20 | file
+cheric exec a.c.elf | 20 | file",
     },
     Table {
         file: "",
         is_built: false,
         input: "",
-        cases: &[("cheric build a.c", [0, 0, 0, 1], 22, "", "")],
+        cases: "cheric build a.c ! 0 0 0 1 | 22",
     },
 ];
 
@@ -134,85 +126,40 @@ const EBREAK: [u8; 4] = [0x73, 0, 0x10, 0];
 const OBJECT: &str = "char a[4095];int main(void){a[4094]=1;a[4095]=1;return 0;}";
 
 /// A C file, and how a call on what is built of it, under the name `b` and with a change, is answered.
-type Image = (&'static str, Change, Case);
+type Image = (&'static str, Change, &'static str);
 
 const IMAGES: [Image; 13] = [
-    (HI, Change::No, ("cheric exec b", SURE, 0, "Hi", "exit 0\n")),
-    (
-        HI,
-        Change::Fewer(1),
-        ("cheric exec b", SURE, 12, "", "image 5\n"),
-    ),
-    (
-        HI,
-        Change::First(64),
-        ("cheric exec b", SURE, 12, "", "image 4\n"),
-    ),
-    (
-        HI,
-        Change::First(63),
-        ("cheric exec b", SURE, 12, "", "image 1\n"),
-    ),
-    (
-        OBJECT,
-        Change::NoPlace,
-        ("cheric exec b", SURE, 12, "", "image 13\n"),
-    ),
-    (
-        HI,
-        Change::No,
-        ("cheric audit b", SURE, 0, "", "audit yes\n"),
-    ),
-    (
-        WORDS,
-        Change::No,
-        ("cheric audit b", SURE, 0, "", "audit yes\n"),
-    ),
+    (HI, Change::No, "cheric exec b | 0 | exit 0 | Hi"),
+    (HI, Change::Fewer(1), "cheric exec b | 12 | image 5"),
+    (HI, Change::First(64), "cheric exec b | 12 | image 4"),
+    (HI, Change::First(63), "cheric exec b | 12 | image 1"),
+    (OBJECT, Change::NoPlace, "cheric exec b | 12 | image 13"),
+    (HI, Change::No, "cheric audit b | 0 | audit yes"),
+    (WORDS, Change::No, "cheric audit b | 0 | audit yes"),
     (
         HI,
         Change::Word(EBREAK),
-        (
-            "cheric audit b",
-            SURE,
-            7,
-            "",
-            "audit no word 1073741824 2\n",
-        ),
+        "cheric audit b | 7 | audit no word 1073741824 2",
     ),
-    (
-        HI,
-        Change::First(63),
-        ("cheric audit b", SURE, 12, "", "image 1\n"),
-    ),
+    (HI, Change::First(63), "cheric audit b | 12 | image 1"),
     (
         HI,
         Change::No,
-        (
-            "cheric audit b --steps 9 --out c",
-            SURE,
-            0,
-            "",
-            "audit yes\n",
-        ),
+        "cheric audit b --steps 9 --out c | 0 | audit yes",
     ),
-    (
-        HI,
-        Change::No,
-        ("cheric audit b", [1, 0, 0, 0], 20, "", "file\n"),
-    ),
-    (HI, Change::No, ("cheric audit b", [0, 0, 0, 1], 22, "", "")),
-    (HI, Change::No, ("cheric audit c", SURE, 20, "", "file\n")),
+    (HI, Change::No, "cheric audit b ! 1 0 0 0 | 20 | file"),
+    (HI, Change::No, "cheric audit b ! 0 0 0 1 | 22"),
+    (HI, Change::No, "cheric audit c | 20 | file"),
 ];
 
-fn is_so(alloc: Global, &(file, change, case): &Image) -> Result<bool, Refusal> {
-    let elf = changed(build(alloc, file.as_bytes())?.elf, change);
-    let (words, failing, status, put, line) = case;
-    Ok(answers_on(alloc, "b", &elf, words, "", failing, (status, put, line))?)
+fn is_so(alloc: Global, &(file, change, case): &Image) -> Option<bool> {
+    let elf = changed(build(alloc, file.as_bytes()).ok()?.elf, change);
+    is_call_so(alloc, "b", &elf, "", case)
 }
 
 fn are_so(rt: &impl Abort, alloc: Global, rows: &[Image]) {
     for row in rows {
-        assert!(rt; is_so(alloc, row).unwrap_or(false), "{}", row.0);
+        assert!(rt; is_so(alloc, row) == Some(true), "{}", row.2);
     }
 }
 

@@ -1,6 +1,6 @@
 //! The programs of `examples/` that show where the strict meaning ends: what `run` and `mean` put, and how they end.
 
-use crate::calls::{Row, files_are_answered};
+use crate::calls::{Row, programs_are_answered};
 
 const ADDRESS: &str =
     r#"/* Which of two objects stands first is not said by C: another map may order them the other way.
@@ -143,10 +143,10 @@ const MEANT: [Row; 9] = [
 
 #[test]
 fn examples_run_to_their_ends(rt: HostRuntime) {
-    files_are_answered(&rt, rt.alloc(), "cheric run a.c", &RUN);
+    programs_are_answered(&rt, rt.alloc(), "cheric run a.c", &RUN);
 }
 
 #[test]
 fn strict_meanings_of_examples_end_by_their_reasons(rt: HostRuntime) {
-    files_are_answered(&rt, rt.alloc(), "cheric mean a.c", &MEANT);
+    programs_are_answered(&rt, rt.alloc(), "cheric mean a.c", &MEANT);
 }

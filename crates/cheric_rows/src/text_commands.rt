@@ -156,7 +156,7 @@ const SUMMED: [Table; 1] = [Table {
     file: SUM,
     is_built: false,
     input: "",
-    cases: &[("cheric run a.c", SURE, 1, "", "exit 45\n")],
+    cases: "cheric run a.c | 1 | exit 45",
 }];
 
 /// Names of stores, of rank 0, and of loads, of rank 2. Any other instruction has rank 1.
@@ -239,49 +239,29 @@ const LINES: [Table; 2] = [
         file: "int main(void){return ;}",
         is_built: false,
         input: "",
-        cases: &[
-            (
-                "cheric gen 1",
-                SURE,
-                0,
-                "functions 1\nsource 150\nexit 16\n",
-                "",
-            ),
-            (
-                "cheric gen 3",
-                SURE,
-                0,
-                "functions 3\nsource 322\nexit 40\n",
-                "",
-            ),
-            (
-                "cheric gen 3 --steps 9",
-                SURE,
-                0,
-                "functions 3\nsource 322\nsteps\n",
-                "",
-            ),
-            ("cheric map b.c", SURE, 20, "", "file\n"),
-            ("cheric list b.c", SURE, 20, "", "file\n"),
-            ("cheric map a.c", SURE, 10, "", "refused 133 1:16\n"),
-            ("cheric list a.c", SURE, 10, "", "refused 133 1:16\n"),
-            ("cheric map a.c --heap 9", SURE, 11, "", "words\n"),
-            ("cheric gen 3 --stack 9", SURE, 11, "", "words\n"),
-        ],
+        cases: "\
+cheric gen 1 | 0 | | functions 1/source 150/exit 16/
+cheric gen 3 | 0 | | functions 3/source 322/exit 40/
+cheric gen 3 --steps 9 | 0 | | functions 3/source 322/steps/
+cheric map b.c | 20 | file
+cheric list b.c | 20 | file
+cheric map a.c | 10 | refused 133 1:16
+cheric list a.c | 10 | refused 133 1:16
+cheric map a.c --heap 9 | 11 | words
+cheric gen 3 --stack 9 | 11 | words",
     },
     Table {
         file: HI,
         is_built: false,
         input: "",
-        cases: &[
-            ("cheric map a.c", [1, 0, 0, 0], 20, "", "file\n"),
-            ("cheric map a.c", [0, 0, 1, 0], 22, "", "output\n"),
-            ("cheric map a.c", [0, 0, 1, 1], 22, "", ""),
-            ("cheric list a.c", [1, 0, 0, 0], 20, "", "file\n"),
-            ("cheric list a.c", [0, 0, 1, 0], 22, "", "output\n"),
-            ("cheric list a.c", [0, 0, 1, 1], 22, "", ""),
-            ("cheric gen 1", [0, 0, 1, 0], 22, "", "output\n"),
-        ],
+        cases: "\
+cheric map a.c ! 1 0 0 0 | 20 | file
+cheric map a.c ! 0 0 1 0 | 22 | output
+cheric map a.c ! 0 0 1 1 | 22
+cheric list a.c ! 1 0 0 0 | 20 | file
+cheric list a.c ! 0 0 1 0 | 22 | output
+cheric list a.c ! 0 0 1 1 | 22
+cheric gen 1 ! 0 0 1 0 | 22 | output",
     },
 ];
 
