@@ -16,6 +16,7 @@ use crate::kept::{Reach, Reaches, check};
 use crate::machine::Machine;
 use cap_ops::{Access, Cause, null};
 use ck_base::{Sink, Source};
+use output_bytes::put_byte;
 use rv_code::decode;
 use rv_instr::{Instr, Reg};
 
@@ -123,7 +124,7 @@ impl Machine {
             LeavesContained t self.new (ending_of result) }
     {
         let byte = self.low_byte();
-        match out.put(&[byte]) {
+        match put_byte(out, byte) {
             Ok(()) => {
                 self.answer(u64::from(byte));
                 Step::Next
