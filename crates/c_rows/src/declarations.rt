@@ -24,6 +24,24 @@ const SOUND: Faults = Faults {
     too_large: false,
 };
 
+const ALL_FAULTS: Faults = Faults {
+    lacks: true,
+    misfits: true,
+    too_large: true,
+};
+
+const NONE_LACKS: Faults = Faults {
+    lacks: false,
+    misfits: true,
+    too_large: true,
+};
+
+const TOO_LARGE: Faults = Faults {
+    lacks: false,
+    misfits: false,
+    too_large: true,
+};
+
 // A type that the steps name.
 #[derive(Clone, Copy)]
 enum Of {
@@ -36,6 +54,7 @@ enum Of {
     Call,
     Other,
 }
+
 use Of::{Call, Char, Int, Open, Other, Ten};
 
 // What a declaration gives: an entry, a typedef name of its type, or the code at the name.
@@ -45,16 +64,13 @@ enum Given {
     Aliases,
     Refused(u16),
 }
+
 use Given::{Aliases, Gives, Refused};
 
-// The kind of records in one another, how many levels there are of them, how often each has the one before it, and the
-// bytes of the last.
-type Nested = (RecordKind, u32, usize, u64);
-
-// What is asked of scopes and a program. Each step is to be met.
+// What is so of scopes and a program.
 #[derive(Clone, Copy)]
-enum Step {
-    // A name denotes this, if anything.
+enum Fact {
+    // What a name denotes, if anything.
     Denotes(&'static [u8], Option<Entry>),
     // A name denotes a type.
     IsType(&'static [u8]),
@@ -62,6 +78,31 @@ enum Step {
     IsHere(&'static [u8], bool),
     // A name is no tag.
     IsNoTag(&'static [u8]),
+    // The types of an object, of a function and of a local, by their numbers.
+    OfObject(u32, Of),
+    OfFunction(u32, Of),
+    OfLocal(u32, Of),
+    IsDefined(u32, bool),
+    // How many globals and functions there are.
+    Counts(usize, usize),
+    // The newest type, a struct or union, has no layout.
+    IsIncomplete,
+    // How many members the first struct or union has.
+    HasMembers(Option<usize>),
+    // There is one struct or union, which is a union.
+    IsUnion,
+}
+
+use Fact::{Denotes, IsHere, IsNoTag};
+
+// The kind of records in one another, how many levels there are of them, how often each has the one before it, and the
+// bytes of the last.
+type Nested = (RecordKind, u32, usize, u64);
+
+// A call and what it answers, or what is so then.
+#[derive(Clone, Copy)]
+enum Step {
+    Is(Fact),
     Enters,
     // The block is closed, in which a name of the scope around it was not, and open again.
     OpensAgain(&'static [u8]),
@@ -70,67 +111,72 @@ enum Step {
     Constant(i32, Given),
     // The place of a name, its type, what is declared, its storage and whether it is defined; and what is given.
     Declares(u32, Of, DeclKind, Storage, bool, Given),
-    // The place of a declaration of an object whose type breaks rules, which of them, in the order of `Faults`, and the
-    // code that comes first.
-    Breaks(u32, (bool, bool, bool), u16),
-    HasTwoOfEach,
-    IsDefined(u32, bool),
-    // The type of the second local.
-    IsSecond(Of),
-    DeclaresTagOnce,
+    // The place of a declaration of an object whose type breaks rules, which of them, and the code that comes first.
+    Breaks(u32, Faults, u16),
+    // A struct's tag is declared as one of this kind: it is found then, or refused by a code.
+    Tags(TagKind, Option<u16>),
+    // A struct or union without a tag.
+    Begins(RecordKind),
+    // Whether the braces of the first struct or union can be opened.
+    Opens(bool),
+    // It gets one member of a type.
+    Completes(Of),
     AddsParameter(Of),
     CompletesLocal,
     // So many locals are taken.
     Takes(usize),
     CompletesGlobal(Of),
     FillsGlobal,
-    FillsFunction,
-    HasMembers,
+    FillsFunction(u32),
     HasOneNumber,
     Nests(Nested),
-    BeginsOnce,
 }
-use Step::{Breaks, Declares, Denotes, IsHere, IsNoTag};
+
+use Step::{Breaks, Declares, Is};
 
 // Names, and what they denote where nothing is declared, in a block and outside.
 static KNOWN: [Step; 16] = [
-    Denotes(b"putchar", Some(Entry::Library(0))),
-    Denotes(b"__builtin_cheri_equal_exact", Some(Entry::Library(15))),
-    Denotes(b"cheri_representable_alignment_mask", Some(Entry::Library(17))),
-    Denotes(b"__builtin_putchar", None),
-    Step::IsType(b"uint16_t"),
+    Is(Denotes(b"putchar", Some(Entry::Library(0)))),
+    Is(Denotes(b"__builtin_cheri_equal_exact", Some(Entry::Library(15)))),
+    Is(Denotes(
+        b"cheri_representable_alignment_mask",
+        Some(Entry::Library(17)),
+    )),
+    Is(Denotes(b"__builtin_putchar", None)),
+    Is(Fact::IsType(b"uint16_t")),
     Step::Enters,
     Step::Constant(-7, Gives(Entry::Constant(-7))),
-    Denotes(b"x", Some(Entry::Constant(-7))),
+    Is(Denotes(b"x", Some(Entry::Constant(-7)))),
     Step::Constant(8, Refused(131)),
-    Denotes(b"exit", Some(Entry::Library(3))),
-    IsHere(b"exit", false),
-    IsNoTag(b"exit"),
+    Is(Denotes(b"exit", Some(Entry::Library(3)))),
+    Is(IsHere(b"exit", false)),
+    Is(IsNoTag(b"exit")),
     Step::OpensAgain(b"exit"),
     Step::Leaves,
-    IsHere(b"exit", true),
-    IsNoTag(b"exit"),
+    Is(IsHere(b"exit", true)),
+    Is(IsNoTag(b"exit")),
 ];
 
 static NUMBERS: [Step; 1] = [Step::HasOneNumber];
 
-static RECORDS: [Step; 4] = [
+static RECORDS: [Step; 3] = [
     Step::Nests((RecordKind::Struct, 10_000, 1, 4)),
     Step::Nests((RecordKind::Union, 40, 2, 4)),
     Step::Nests((RecordKind::Struct, 2, 3, 36)),
-    Step::BeginsOnce,
 ];
 
-static TAGS_AND_LOCALS: [Step; 6] = [
-    Step::DeclaresTagOnce,
+static TAGS_AND_LOCALS: [Step; 8] = [
+    Step::Tags(TagKind::Struct, None),
+    Step::Tags(TagKind::Struct, Some(131)),
+    Step::Tags(TagKind::Enum, Some(133)),
     Step::AddsParameter(Int),
     Step::CompletesLocal,
-    Denotes(b"x", Some(Entry::Var(0))),
+    Is(Denotes(b"x", Some(Entry::Var(0)))),
     Step::Takes(1),
     Step::Takes(0),
 ];
 
-static FILE_SCOPE: [Step; 21] = [
+static FILE_SCOPE: [Step; 23] = [
     Declares(0, Int, Object, Plain, false, Gives(Entry::Global(0))),
     Declares(0, Int, Object, Static, true, Gives(Entry::Global(0))),
     Declares(0, Char, Object, Extern, false, Refused(131)),
@@ -149,9 +195,18 @@ static FILE_SCOPE: [Step; 21] = [
     Declares(4, Open, Object, Storage::Typedef, false, Aliases),
     Declares(4, Ten, Object, Storage::Typedef, false, Refused(131)),
     Declares(5, Open, Object, Storage::Typedef, true, Refused(133)),
-    Declares(5, Int, DeclKind::Constant(3), Plain, false, Gives(Entry::Constant(3))),
-    Step::HasTwoOfEach,
-    Step::IsDefined(1, true),
+    Declares(
+        5,
+        Int,
+        DeclKind::Constant(3),
+        Plain,
+        false,
+        Gives(Entry::Constant(3)),
+    ),
+    Is(Fact::OfObject(1, Ten)),
+    Is(Fact::OfFunction(1, Call)),
+    Is(Fact::Counts(2, 2)),
+    Is(Fact::IsDefined(1, true)),
 ];
 
 static BLOCKS: [Step; 21] = [
@@ -171,33 +226,54 @@ static BLOCKS: [Step; 21] = [
     Declares(5, Int, Object, Extern, true, Refused(133)),
     Declares(5, Int, Object, Storage::Typedef, false, Aliases),
     Declares(5, Int, Object, Storage::Typedef, false, Refused(131)),
-    Step::IsSecond(Open),
+    Is(Fact::OfLocal(1, Open)),
     Step::Leaves,
-    Denotes(b"a", Some(Entry::Global(0))),
-    Denotes(b"b", None),
-    Step::IsDefined(1, false),
+    Is(Denotes(b"a", Some(Entry::Global(0)))),
+    Is(Denotes(b"b", None)),
+    Is(Fact::IsDefined(1, false)),
 ];
 
-static FILLED: [Step; 7] = [
+static FILLED: [Step; 8] = [
     Declares(0, Int, Object, Plain, false, Gives(Entry::Global(0))),
     Declares(2, Call, Fun, Plain, true, Gives(Entry::Fun(0))),
     Step::CompletesGlobal(Char),
+    Is(Fact::OfObject(0, Char)),
     Step::FillsGlobal,
     Declares(0, Char, Object, Plain, true, Refused(131)),
     Step::AddsParameter(Int),
-    Step::FillsFunction,
+    Step::FillsFunction(5),
 ];
 
-static MEMBERS: [Step; 1] = [Step::HasMembers];
+static BRACES: [Step; 4] = [
+    Step::Begins(RecordKind::Struct),
+    Is(Fact::IsIncomplete),
+    Step::Opens(true),
+    Step::Opens(false),
+];
+
+static MEMBERS: [Step; 5] = [
+    Step::Begins(RecordKind::Union),
+    Is(Fact::HasMembers(None)),
+    Step::Completes(Int),
+    Is(Fact::HasMembers(Some(1))),
+    Is(Fact::IsUnion),
+];
 
 // The lowest code comes first. A name that is declared twice stands before.
 static CODES: [Step; 6] = [
-    Breaks(6, (true, true, true), 132),
-    Breaks(6, (false, true, true), 133),
-    Breaks(6, (false, false, true), 140),
-    Denotes(b"u", None),
-    Declares(7, Int, DeclKind::Constant(1), Plain, false, Gives(Entry::Constant(1))),
-    Breaks(7, (false, false, true), 131),
+    Breaks(6, ALL_FAULTS, 132),
+    Breaks(6, NONE_LACKS, 133),
+    Breaks(6, TOO_LARGE, 140),
+    Is(Denotes(b"u", None)),
+    Declares(
+        7,
+        Int,
+        DeclKind::Constant(1),
+        Plain,
+        false,
+        Gives(Entry::Constant(1)),
+    ),
+    Breaks(7, TOO_LARGE, 131),
 ];
 
 // The numbers of the types that the steps name.
@@ -211,20 +287,27 @@ struct Kinds {
     other: u32,
 }
 
-fn known_kinds(alloc: Global, scopes: &mut Scopes, p: &mut Typed) -> Result<Kinds, NoMemory> {
-    let int = scopes.number_of(p, CType::Int(IntKind::I32, 0))?;
-    let char = scopes.number_of(p, CType::Int(IntKind::U8, 0))?;
-    let open = scopes.number_of(p, CType::Array(int, 0))?;
-    let ten = scopes.number_of(p, CType::Array(int, 10))?;
-    let call = scopes.number_of(p, CType::Function(int, none(alloc)))?;
-    let other = scopes.number_of(p, CType::Function(char, none(alloc)))?;
+// Scopes and a program that are begun.
+#[derive(Drop)]
+struct Declaring {
+    scopes: Scopes<'static>,
+    p: Typed,
+}
+
+fn known_kinds(alloc: Global, d: &mut Declaring) -> Result<Kinds, NoMemory> {
+    let int = d.scopes.number_of(&mut d.p, CType::Int(IntKind::I32, 0))?;
+    let char = d.scopes.number_of(&mut d.p, CType::Int(IntKind::U8, 0))?;
     Ok(Kinds {
         int,
         char,
-        open,
-        ten,
-        call,
-        other,
+        open: d.scopes.number_of(&mut d.p, CType::Array(int, 0))?,
+        ten: d.scopes.number_of(&mut d.p, CType::Array(int, 10))?,
+        call: d
+            .scopes
+            .number_of(&mut d.p, CType::Function(int, none(alloc)))?,
+        other: d
+            .scopes
+            .number_of(&mut d.p, CType::Function(char, none(alloc)))?,
     })
 }
 
@@ -262,29 +345,53 @@ fn answer(name: Decl, given: Given) -> Result<Entry, Refusal> {
     }
 }
 
-fn is_declared(scopes: &mut Scopes, p: &mut Typed, name: Decl, given: Given) -> bool {
-    scopes.declare(p, name) == answer(name, given)
+fn local(of: u32) -> VarDef {
+    VarDef {
+        name: NAME,
+        pos: PLACE,
+        of,
+        simple: false,
+    }
 }
 
-fn broken(at: u32, (lacks, misfits, too_large): (bool, bool, bool)) -> Decl {
-    let mut object = named(at, 0, Object, Plain, false);
-    object.faults = Faults {
-        lacks,
-        misfits,
-        too_large,
-    };
-    object
+// The type of a struct or union by the number of its tag, if it is the newest type.
+fn newest(p: &Typed) -> u32 {
+    u32::try_from(p.types.as_slice().len())
+        .unwrap_or(0)
+        .saturating_sub(1)
 }
 
-fn is_constant(scopes: &mut Scopes, value: i32, given: Given) -> bool {
-    let name = named(NAME.start, 0, DeclKind::Constant(-7), Plain, false);
-    scopes.declare_constant(name, value) == answer(name, given)
-}
-
-fn is_no_tag(scopes: &Scopes, name: &[u8]) -> bool {
-    scopes.find_tag(name).is_none()
-        && scopes.look_tag(name).is_none()
-        && scopes.look_tag_here(name).is_none()
+fn is_so(d: &Declaring, k: Kinds, fact: Fact) -> bool {
+    match fact {
+        Denotes(name, entry) => d.scopes.find(name) == entry,
+        Fact::IsType(name) => matches!(d.scopes.find(name), Some(Entry::Typedef(_))),
+        IsHere(name, here) => d.scopes.look_here(name).is_some() == here,
+        IsNoTag(name) => {
+            d.scopes.find_tag(name).is_none()
+                && d.scopes.look_tag(name).is_none()
+                && d.scopes.look_tag_here(name).is_none()
+        }
+        Fact::OfObject(n, of) => d.scopes.type_of_object(&d.p, n) == Some(number_of(k, of)),
+        Fact::OfFunction(n, of) => d.scopes.type_of_function(&d.p, n) == Some(number_of(k, of)),
+        Fact::OfLocal(n, of) => d.scopes.type_of_local(n) == Some(number_of(k, of)),
+        Fact::IsDefined(n, defined) => d.scopes.is_defined(n) == defined,
+        Fact::Counts(globals, funs) => {
+            d.p.globals.as_slice().len() == globals && d.p.funs.as_slice().len() == funs
+        }
+        Fact::IsIncomplete => {
+            d.scopes.layout(&d.p, newest(&d.p)) == Err(LayoutFault::Incomplete)
+                && !d.scopes.is_complete(&d.p, newest(&d.p))
+        }
+        Fact::HasMembers(count) => match d.scopes.members(&d.p, 0) {
+            Some(members) => count == Some(members.len()),
+            None => count.is_none(),
+        },
+        Fact::IsUnion => {
+            matches!(d.scopes.kind_of_tag(0), Some(RecordKind::Union))
+                && d.scopes.kind_of_tag(1).is_none()
+                && d.scopes.tag_count() == 1
+        }
+    }
 }
 
 fn opens_again(scopes: &mut Scopes, name: &[u8]) -> bool {
@@ -297,216 +404,142 @@ fn opens_again(scopes: &mut Scopes, name: &[u8]) -> bool {
     }
 }
 
+fn is_tag(d: &mut Declaring, kind: TagKind, refused: Option<u16>) -> bool {
+    let tag = named(NAME.start, 0, DeclKind::Tag(TagKind::Struct), Plain, true);
+    match d.scopes.declare_tag(&mut d.p, kind, tag) {
+        Ok(entry) => refused.is_none() && d.scopes.find_tag(b"x") == Some(entry),
+        Err(Refusal::Code(code, pos)) => refused == Some(code) && pos == tag.pos,
+        Err(Refusal::NoMemory) => false,
+    }
+}
+
 // Whether a type has this layout.
-fn is_laid_out(scopes: &Scopes, p: &Typed, t: u32, size: u64, align: u64) -> bool {
-    scopes.layout(p, t) == Ok(Layout { size, align })
+fn is_laid_out(d: &Declaring, t: u32, size: u64, align: u64) -> bool {
+    d.scopes.layout(&d.p, t) == Ok(Layout { size, align })
 }
 
-// Pointers in one another to a type, made by turns in two rows of the same.
-fn rows_of_pointers(scopes: &mut Scopes, p: &mut Typed, of: u32) -> Result<(u32, u32), NoMemory> {
-    let mut first = of;
-    let mut second = of;
+// Pointers in one another, made by turns in two rows of the same, and arrays and the words `const` around them.
+fn has_one_number(d: &mut Declaring, char: u32) -> Result<bool, NoMemory> {
+    let other = d.scopes.number_of(&mut d.p, CType::Int(IntKind::U8, 1))?;
+    let mut first = char;
+    let mut second = char;
     for _ in 0..100_000 {
-        first = scopes.number_of(p, CType::Pointer(first))?;
-        second = scopes.number_of(p, CType::Pointer(second))?;
+        first = d.scopes.number_of(&mut d.p, CType::Pointer(first))?;
+        second = d.scopes.number_of(&mut d.p, CType::Pointer(second))?;
     }
-    Ok((first, second))
-}
-
-// Arrays and the words `const` in one another around a type.
-fn arrays(scopes: &mut Scopes, p: &mut Typed, of: u32) -> Result<u32, NoMemory> {
-    let mut inner = of;
+    let mut array = second;
     for _ in 0..100_000 {
-        inner = scopes.number_of(p, CType::Array(inner, 1))?;
-        inner = scopes.number_of(p, CType::Const(inner))?;
+        array = d.scopes.number_of(&mut d.p, CType::Array(array, 1))?;
+        array = d.scopes.number_of(&mut d.p, CType::Const(array))?;
     }
-    Ok(inner)
-}
-
-fn has_one_number(scopes: &mut Scopes, p: &mut Typed, char: u32) -> Result<bool, NoMemory> {
-    let other = scopes.number_of(p, CType::Int(IntKind::U8, 1))?;
-    let (first, second) = rows_of_pointers(scopes, p, char)?;
-    let array = arrays(scopes, p, second)?;
-    Ok(char != other
-        && first == second
-        && is_laid_out(scopes, p, first, 16, 16)
-        && is_laid_out(scopes, p, array, 16, 16)
-        && scopes.is_complete(p, array))
-}
-
-// The type of a struct or union by the number of its tag, if it is the newest type.
-fn newest(p: &Typed) -> u32 {
-    u32::try_from(p.types.as_slice().len())
-        .unwrap_or(0)
-        .saturating_sub(1)
+    Ok(
+        char != other
+            && first == second
+            && is_laid_out(d, first, 16, 16)
+            && is_laid_out(d, array, 16, 16)
+            && d.scopes.is_complete(&d.p, array),
+    )
 }
 
 // A struct or union gets so many members of a type.
 fn complete(
     alloc: Global,
-    scopes: &mut Scopes,
-    p: &mut Typed,
+    d: &mut Declaring,
     tag: u32,
     of: u32,
     times: usize,
 ) -> Result<(), Refusal> {
     let members = vec![in alloc; Member { name: NAME, of }; times]?;
-    scopes.complete_tag(p, tag, members, PLACE)
-}
-
-// A struct or union of so many members of a type.
-fn record(
-    alloc: Global,
-    scopes: &mut Scopes,
-    p: &mut Typed,
-    kind: RecordKind,
-    of: u32,
-    times: usize,
-) -> Result<u32, Refusal> {
-    let tag = scopes.new_tag(p, kind)?;
-    let whole = newest(p);
-    scopes.begin_tag(tag, PLACE)?;
-    complete(alloc, scopes, p, tag, of, times)?;
-    Ok(whole)
+    d.scopes.complete_tag(&mut d.p, tag, members, PLACE)
 }
 
 fn is_nested(
     alloc: Global,
-    scopes: &mut Scopes,
-    p: &mut Typed,
+    d: &mut Declaring,
     int: u32,
     (kind, levels, times, size): Nested,
 ) -> Result<bool, Refusal> {
     let mut of = int;
     for _ in 0..levels {
-        of = record(alloc, scopes, p, kind, of, times)?;
+        let tag = d.scopes.new_tag(&mut d.p, kind)?;
+        let whole = newest(&d.p);
+        d.scopes.begin_tag(tag, PLACE)?;
+        complete(alloc, d, tag, of, times)?;
+        of = whole;
     }
-    Ok(is_laid_out(scopes, p, of, size, 4))
+    Ok(is_laid_out(d, of, size, 4))
 }
 
-fn is_incomplete(scopes: &Scopes, p: &Typed, t: u32) -> bool {
-    scopes.layout(p, t) == Err(LayoutFault::Incomplete) && !scopes.is_complete(p, t)
-}
-
-fn is_begun_once(scopes: &mut Scopes, p: &mut Typed) -> Result<bool, NoMemory> {
-    let tag = scopes.new_tag(p, RecordKind::Struct)?;
-    Ok(is_incomplete(scopes, p, newest(p))
-        && scopes.begin_tag(tag, PLACE).is_ok()
-        && scopes.begin_tag(tag, PLACE).is_err())
-}
-
-fn has_one_union(scopes: &Scopes, p: &Typed, tag: u32) -> bool {
-    matches!(scopes.members(p, tag), Some([_]))
-        && matches!(scopes.kind_of_tag(tag), Some(RecordKind::Union))
-        && scopes.kind_of_tag(1).is_none()
-        && scopes.tag_count() == 1
-}
-
-fn has_members(
-    alloc: Global,
-    scopes: &mut Scopes,
-    p: &mut Typed,
-    int: u32,
-) -> Result<bool, NoMemory> {
-    let tag = scopes.new_tag(p, RecordKind::Union)?;
-    Ok(scopes.members(p, tag).is_none()
-        && complete(alloc, scopes, p, tag, int, 1).is_ok()
-        && has_one_union(scopes, p, tag))
-}
-
-fn declared_tag(scopes: &mut Scopes, p: &mut Typed, kind: TagKind) -> Result<Entry, Refusal> {
-    let tag = named(NAME.start, 0, DeclKind::Tag(TagKind::Struct), Plain, true);
-    scopes.declare_tag(p, kind, tag)
-}
-
-fn is_tag_declared_once(scopes: &mut Scopes, p: &mut Typed) -> bool {
-    let first = declared_tag(scopes, p, TagKind::Struct);
-    let pos = Pos { line: 1, col: NAME.start };
-    first.is_ok()
-        && scopes.find_tag(b"x") == first.ok()
-        && declared_tag(scopes, p, TagKind::Struct) == Err(Refusal::Code(131, pos))
-        && declared_tag(scopes, p, TagKind::Enum) == Err(Refusal::Code(133, pos))
-}
-
-fn local(of: u32) -> VarDef {
-    VarDef {
-        name: NAME,
-        pos: PLACE,
-        of,
-        simple: false,
-    }
-}
-
-fn has_two_of_each(scopes: &Scopes, p: &Typed, k: Kinds) -> bool {
-    scopes.type_of_object(p, 1) == Some(k.ten)
-        && scopes.type_of_function(p, 1) == Some(k.call)
-        && p.globals.as_slice().len() == 2
-        && p.funs.as_slice().len() == 2
-}
-
-fn is_global_completed(scopes: &Scopes, p: &mut Typed, of: u32) -> bool {
-    scopes.complete_global(p, 0, of);
-    scopes.type_of_object(p, 0) == Some(of)
-}
-
-fn is_global_filled(alloc: Global, scopes: &mut Scopes, p: &mut Typed) -> bool {
+fn is_global_filled(alloc: Global, d: &mut Declaring) -> bool {
     match Vec::from_slice(alloc, &[7]) {
         Ok(sevens) => {
-            scopes.fill_global(p, 0, sevens, Vec::new(alloc));
+            d.scopes.fill_global(&mut d.p, 0, sevens, Vec::new(alloc));
             true
         }
         Err(_) => false,
     }
 }
 
-fn is_function_filled(alloc: Global, scopes: &mut Scopes, p: &mut Typed) -> bool {
-    let locals = scopes.take_locals();
-    scopes.fill_function(p, 0, Vec::new(alloc), locals, 5);
-    matches!(p.funs.as_slice(), [f] if f.body == 5)
+fn is_function_filled(alloc: Global, d: &mut Declaring, body: u32) -> bool {
+    let locals = d.scopes.take_locals();
+    d.scopes
+        .fill_function(&mut d.p, 0, Vec::new(alloc), locals, body);
+    matches!(d.p.funs.as_slice(), [f] if f.body == body)
+}
+
+fn is_constant(scopes: &mut Scopes, value: i32, given: Given) -> bool {
+    let name = named(NAME.start, 0, DeclKind::Constant(-7), Plain, false);
+    scopes.declare_constant(name, value) == answer(name, given)
+}
+
+fn is_declared(d: &mut Declaring, name: Decl, given: Given) -> bool {
+    d.scopes.declare(&mut d.p, name) == answer(name, given)
 }
 
 // One function asks all.
-fn is_met(alloc: Global, scopes: &mut Scopes, p: &mut Typed, k: Kinds, step: Step) -> bool {
+fn is_met(alloc: Global, d: &mut Declaring, k: Kinds, step: Step) -> bool {
     match step {
-        Denotes(name, entry) => scopes.find(name) == entry,
-        Step::IsType(name) => matches!(scopes.find(name), Some(Entry::Typedef(_))),
-        IsHere(name, here) => scopes.look_here(name).is_some() == here,
-        IsNoTag(name) => is_no_tag(scopes, name),
-        Step::Enters => scopes.enter().is_ok(),
-        Step::OpensAgain(name) => opens_again(scopes, name),
+        Is(fact) => is_so(d, k, fact),
         Step::Leaves => {
-            scopes.leave();
+            d.scopes.leave();
             true
         }
-        Step::Constant(value, given) => is_constant(scopes, value, given),
+        Step::Enters => d.scopes.enter().is_ok(),
+        Step::OpensAgain(name) => opens_again(&mut d.scopes, name),
+        Step::Constant(value, given) => is_constant(&mut d.scopes, value, given),
         Declares(at, of, what, storage, defines, given) => {
             let name = named(at, number_of(k, of), what, storage, defines);
-            is_declared(scopes, p, name, given)
+            is_declared(d, name, given)
         }
-        Breaks(at, faults, code) => is_declared(scopes, p, broken(at, faults), Refused(code)),
-        Step::HasTwoOfEach => has_two_of_each(scopes, p, k),
-        Step::IsDefined(object, defined) => scopes.is_defined(object) == defined,
-        Step::IsSecond(of) => scopes.type_of_local(1) == Some(number_of(k, of)),
-        Step::DeclaresTagOnce => is_tag_declared_once(scopes, p),
-        Step::AddsParameter(of) => scopes.add_parameter(local(number_of(k, of))).is_ok(),
-        Step::CompletesLocal => scopes.complete_local(0, 1, NAME).is_ok(),
-        Step::Takes(count) => scopes.take_locals().len() == count,
-        Step::CompletesGlobal(of) => is_global_completed(scopes, p, number_of(k, of)),
-        Step::FillsGlobal => is_global_filled(alloc, scopes, p),
-        Step::FillsFunction => is_function_filled(alloc, scopes, p),
-        Step::HasMembers => has_members(alloc, scopes, p, k.int).unwrap_or(false),
-        Step::HasOneNumber => has_one_number(scopes, p, k.char).unwrap_or(false),
-        Step::Nests(row) => is_nested(alloc, scopes, p, k.int, row) == Ok(true),
-        Step::BeginsOnce => is_begun_once(scopes, p).unwrap_or(false),
+        Breaks(at, faults, code) => {
+            let mut object = named(at, 0, Object, Plain, false);
+            object.faults = faults;
+            is_declared(d, object, Refused(code))
+        }
+        Step::Tags(kind, refused) => is_tag(d, kind, refused),
+        Step::Begins(kind) => d.scopes.new_tag(&mut d.p, kind).is_ok(),
+        Step::Opens(opens) => d.scopes.begin_tag(0, PLACE).is_ok() == opens,
+        Step::Completes(of) => complete(alloc, d, 0, number_of(k, of), 1).is_ok(),
+        Step::AddsParameter(of) => d.scopes.add_parameter(local(number_of(k, of))).is_ok(),
+        Step::CompletesLocal => d.scopes.complete_local(0, 1, NAME).is_ok(),
+        Step::Takes(count) => d.scopes.take_locals().len() == count,
+        Step::CompletesGlobal(of) => {
+            d.scopes.complete_global(&mut d.p, 0, number_of(k, of));
+            true
+        }
+        Step::FillsFunction(body) => is_function_filled(alloc, d, body),
+        Step::FillsGlobal => is_global_filled(alloc, d),
+        Step::HasOneNumber => has_one_number(d, k.char).unwrap_or(false),
+        Step::Nests(row) => is_nested(alloc, d, k.int, row) == Ok(true),
     }
 }
 
-fn are_met(alloc: Global, scopes: &mut Scopes, p: &mut Typed, steps: &[Step]) -> bool {
-    let Ok(k) = known_kinds(alloc, scopes, p) else {
+fn are_met(alloc: Global, d: &mut Declaring, steps: &[Step]) -> bool {
+    let Ok(k) = known_kinds(alloc, d) else {
         return false;
     };
     for step in steps {
-        if !is_met(alloc, scopes, p, k, *step) {
+        if !is_met(alloc, d, k, *step) {
             return false;
         }
     }
@@ -517,7 +550,7 @@ fn are_met(alloc: Global, scopes: &mut Scopes, p: &mut Typed, steps: &[Step]) ->
 fn holds(alloc: Global, steps: &[Step]) -> bool {
     let mut p = with_types(alloc, Vec::new(alloc));
     match Scopes::new(alloc, &mut p, NAMES) {
-        Ok(mut scopes) => are_met(alloc, &mut scopes, &mut p, steps),
+        Ok(scopes) => are_met(alloc, &mut Declaring { scopes, p }, steps),
         Err(_) => false,
     }
 }
@@ -533,6 +566,7 @@ fn types_have_numbers_and_layouts(rt: HostRuntime) {
 fn names_and_declarations_answer(rt: HostRuntime) {
     let alloc = rt.alloc();
     assert!(rt; holds(alloc, &KNOWN));
+    assert!(rt; holds(alloc, &BRACES));
     assert!(rt; holds(alloc, &TAGS_AND_LOCALS));
     assert!(rt; holds(alloc, &FILE_SCOPE));
     assert!(rt; holds(alloc, &BLOCKS));

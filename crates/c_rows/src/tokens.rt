@@ -8,9 +8,7 @@ use c_lex::*;
 use ck_base::{NoMemory, Pos};
 use std::alloc::{AllocError, Global};
 use std::fmt::Write;
-use tables::{
-    CHARACTERS, INTEGERS, LEFT_OUT, PUNCTUATORS, READINGS, REFUSALS, STRINGS, WORDS,
-};
+use tables::{CHARACTERS, INTEGERS, LEFT_OUT, PUNCTUATORS, READINGS, REFUSALS, STRINGS, WORDS};
 
 // The tokens of a file, each with its kind, its position and its text, and how the file ends: `end`, or a code and its
 // position.
