@@ -14,7 +14,7 @@ import tempfile
 from calls import ROOT, prepared
 
 TABLES = ("front_tables", "declared_files", "initialised_files", "typed_files", "constant_files")
-# A table: a string of rows. A row is the answer, `: ` and a remark, and the file from the next line on.
+# A table: a string of rows. A row is the answer, `: ` and a remark, and the file from the next line on, or a remark.
 # GOES_ON is where a line is broken.
 TABLE = re.compile(r'^pub\(super\) const \w+: &str = "((?:[^"\\]|\\.)*)";$', re.M | re.S)
 GOES_ON = re.compile(r"\\\n\s*")
@@ -26,8 +26,9 @@ def rows_of(table):
     with open(f"{ROOT}/crates/cheric_rows/src/{table}.rt", encoding="utf-8") as it:
         for text in TABLE.findall(GOES_ON.sub("", it.read())):
             for row in ast.literal_eval(f'"""{text}"""').split("\n\n"):
-                head, file = row.split("\n", 1)
-                rows.append((file, head.split(": ")[0]))
+                head, _, file = row.partition("\n")
+                if not head.startswith("//"):
+                    rows.append((file, head.split(": ")[0]))
     return rows
 
 

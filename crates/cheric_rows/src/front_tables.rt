@@ -2,8 +2,10 @@
 //! break, worked out by hand from the rules. A row is what is said, `: ` and a remark, and the file from the next line
 //! on. An empty line ends it.
 
-/// Words of types and storage, kinds of tags, and the names that stand before a file (C11 6.7.1 to 6.7.3).
-pub(super) const WORDS: &str = "\
+/// The files by kinds. A remark behind `//` begins a kind.
+pub(super) const FILES: &str = "\
+// Words of types and storage, kinds of tags, and the names that stand before a file (C11 6.7.1 to 6.7.3).
+
 typed: the words of unsigned long long may stand in any order
 unsigned long int long x;int main(void){return 0;}
 
@@ -50,10 +52,10 @@ typed: an integer goes to a capability integer
 intptr_t p;uint8_t b;int main(void){p=0;b=255;return b;}
 
 130 1:23: x is not declared
-int main(void){return x;}";
+int main(void){return x;}
 
-/// Types of functions, lengths, what is completed later, and one name for one thing (6.2.5, 6.7, 6.7.6, 6.9.2).
-pub(super) const DECLARATIONS: &str = "\
+// Types of functions, lengths, what is completed later, and one name for one thing (6.2.5, 6.7, 6.7.6, 6.9.2).
+
 typed: () is (void)
 int f();int main(void){return f();}int f(void){return 3;}
 
@@ -208,10 +210,10 @@ int main(void){static int n=3;n++;return n;}
 int main(void){void x;return 0;}
 
 typed: f is declared and not used
-int f(void);int main(void){return 0;}";
+int f(void);int main(void){return 0;}
 
-/// Values of arrays and functions, sizes, and operators on what they fit (6.3.2.1, 6.5).
-pub(super) const OPERATORS: &str = "\
+// Values of arrays and functions, sizes, and operators on what they fit (6.3.2.1, 6.5).
+
 typed: arrays and functions as values, but not under &
 int f(void){return 1;}int main(void){int a[3];int *p=a;int(*g)(void)=f;int(*h)[3]=&a;return p==a&&g==&f&&h!=0;}
 
@@ -291,10 +293,10 @@ struct S{int a;};struct T{int a;};int main(void){struct S s;struct T t;int c=1;c
 int main(void){int *p=0;int c=1;c?p:c;return 0;}
 
 typed: a value that is not used
-int x;int main(void){x;return 0;}";
+int x;int main(void){x;return 0;}
 
-/// Assignments, casts, addresses, members and calls (6.5.2 to 6.5.4, 6.5.16).
-pub(super) const PLACES: &str = "\
+// Assignments, casts, addresses, members and calls (6.5.2 to 6.5.4, 6.5.16).
+
 typed: integers, _Bool from a pointer, pointers without regard to const, void
 int main(void){_Bool b=(int*)0;char c=300;const int *p;int *q=0;p=q;q=p;void *v=p;q=v;return b+c;}
 
@@ -389,10 +391,10 @@ struct S{int a;int b[2];};int main(void){struct S s;struct S t;t.a=1;t.b[0]=2;re
 struct S{int a;};int main(void){struct S s;struct S t;t.a=1;(s=t).a=3;return 0;}
 
 133 1:61: a value has no address
-struct S{int a;};int main(void){struct S s;struct S t;t.a=1;&(s=t);return 0;}";
+struct S{int a;};int main(void){struct S s;struct S t;t.a=1;&(s=t);return 0;}
 
-/// Constant expressions, objects that begin with values, and the intrinsics (6.6, 6.7.9).
-pub(super) const CONSTANTS: &str = "\
+// Constant expressions, objects that begin with values, and the intrinsics (6.6, 6.7.9).
+
 typed: enumerators, sizeof and operators
 enum E{A=2,B,C=A*3};int a[C+sizeof(int)];int main(void){switch(7){case B+4:return 1;default:return a[9];}}
 
@@ -478,10 +480,10 @@ int main(void){int x=0;return cheri_tag_get(&x,&x);}
 int main(void){return cheri_tag_get!=0;}
 
 typed: lengths
-int main(void){return cheri_representable_length(4097)==4104;}";
+int main(void){return cheri_representable_length(4097)==4104;}
 
-/// Jumps, `return` and `switch`, scopes and parameters, and `main` (6.8, 6.2.1, 5.1.2.2.1).
-pub(super) const STATEMENTS: &str = "\
+// Jumps, `return` and `switch`, scopes and parameters, and `main` (6.8, 6.2.1, 5.1.2.2.1).
+
 typed: in their places
 int main(void){int i;for(i=0;i<9;i++){if(i==3)continue;if(i==5)break;}do{i--;}while(i);switch(i){case 'a':break;\
     default:;}return i;}
@@ -580,10 +582,9 @@ int main(int a){return a;}
 void main(void){}
 
 135 1:1: the empty file
-";
 
-/// Limits of sizes, tags and names of types, and what ends the reading before the typing (6.7.2.3, 6.7.8).
-pub(super) const TYPES: &str = "\
+// Limits of sizes, tags and names of types, and what ends the reading before the typing (6.7.2.3, 6.7.8).
+
 140 1:6: one byte too many
 char a[67108865];int main(void){return 0;}
 
