@@ -1,5 +1,4 @@
 -- The code stays what it is as words, lines, labels and entries are added and jumps are led.
-use mir.Val.{SFits}
 use Rattle.std.proofs.Common.{◌≡◌, ℕ, zero, suc, ◌+◌, ◌*◌, ◌/◌, ◌<◌, ◌≤◌, ℤ, pos, negsuc, true, List, [], ◌∷◌, ◌++◌}
 use Rattle.std.proofs.Common.{length, get_or, to_z, of_z, w32, Some, refl, sym, ap, ◌∙◌, subst, arith}
 use Rattle.std.specs.Prelude.{◌+ℤ◌, slice_get}
@@ -17,32 +16,19 @@ use Rattle.cap_machine.specs.ContainedText.{sets_service}
 use Rattle.elf_file.specs.declared.image.Line.{Line}
 use Rattle.elf_file.specs.Image.{lines_ok}
 use Rattle.purecap_abi.specs.Words.{IsPlainWord}
-use Rattle.rv_emit.specs.declared.jumps.Mark.{Mark}
 use Rattle.select_words.specs.ContainedCode.{offset_of, IsTarget, IsEntry, AreContained, IsContainedCode}
-use Rattle.rv_emit.specs.Growing.{IsText, AreEntries}
-use Rattle.rv_emit.specs.Leading.{AreSound, IsSoFar, AreMarks, AreEntered, AreTargets, IsGrowing, IsStill, IsLed}
-use Rattle.rv_emit.specs.Leading.{IsMarked, AreLed}
-use Rattle.rv_emit.proofs.Contained.{all_get, contained_plain, contained_still, contained_service, sets_one}
-use Rattle.rv_emit.proofs.Contained.{contained_append, contained_led, no_first, target_left, target_led}
+use Rattle.rv_emit.specs.Growing.{Size, IsText, AreEntries}
+use Rattle.rv_emit.specs.Leading.{AreLedTo, IsEnteredAt, IsCompleted}
+use Rattle.rv_emit.specs.Leading.{AreSound, IsSoFar, AreMarks, AreEntered, AreTargets, IsGrowing, IsStill, AreLed}
+use Rattle.rv_words.specs.declared.jumps.Mark.{Mark}
+use Rattle.rv_words.specs.declared.jumps.Jump.{Jump}
+use Rattle.rv_words.proofs.Contained.{contained_plain, contained_still, contained_service, sets_one}
+use Rattle.rv_words.proofs.Contained.{contained_append, no_first, target_left}
+use Rattle.rv_words.proofs.Targets.{all_keep, marks_keep, entered_keep, word_again}
 use Rattle.rv_emit.proofs.Entries.{entries_more, entries_push}
 use Rattle.rv_emit.proofs.Texts.{lines_more, lines_add}
 
 -- ---- targets
-
-entry_keeps : (a b : List Instr) → ((k : ℕ) → IsSoFar a k → IsSoFar b k) → (at : ℕ) → IsEntry (length a + 1) a at
-    → IsEntry (length b + 1) b at
-entry_keeps a b f at e = record { word = e.word; is = e.is; target = f e.word e.target }
-
-all_keep : {A : Type 0} (P Q : A → Type 0) (xs : List A) → ((x : A) → P x → Q x) → All P xs → All Q xs
-all_keep P Q xs f h k d lt = f _ (h k d lt)
-
-pub marks_keep : (a b : List Instr) (ms : List Mark) → ((k : ℕ) → IsSoFar a k → IsSoFar b k) → AreMarks a ms
-    → AreMarks b ms
-marks_keep a b ms f h = all_keep (λ m. IsSoFar a m.at) (λ m. IsSoFar b m.at) ms (λ m. f m.at) h
-
-pub entered_keep : (a b : List Instr) (es : List ℕ) → ((k : ℕ) → IsSoFar a k → IsSoFar b k) → AreEntered a es
-    → AreEntered b es
-entered_keep a b es f h = all_keep (IsEntry (length a + 1) a) (IsEntry (length b + 1) b) es (entry_keeps a b f) h
 
 targets_keep : (a b : List Instr) (ms : List Mark) (es : List ℕ) (top : ℕ) → ((k : ℕ) → IsSoFar a k → IsSoFar b k)
     → AreTargets a ms es top → AreTargets b ms es top
@@ -58,17 +44,6 @@ next_target a = record {
   below = omega arith;
   no_call = λ e. let n = slice_get_past a (length a) (omega arith) in absurd (cc (n, e));
 }
-
-pub marked_target : (a : List Instr) (ms : List Mark) (at : ℕ) → AreMarks a ms → IsMarked ms at → IsSoFar a at
-marked_target a ms at h m = subst (IsSoFar a) m.there (all_get (λ n. IsSoFar a n.at) ms m.number m.mark h m.is)
-
-pub entered_target : (a : List Instr) (es : List ℕ) (k at : ℕ) → AreEntered a es → k < length es → at ≡ get_or es k at
-    → IsSoFar a (at / 4)
-entered_target a es k at h lt e =
-    let n = all_get (IsEntry (length a + 1) a) es k at h (slice_get_read es (length es) k at refl lt e) in
-    let w = n.is in
-    let same : n.word ≡ at / 4 = omega arith in
-    subst (IsSoFar a) same n.target
 
 -- ---- sound words
 
@@ -127,14 +102,6 @@ r_service : (n : ℕ) → n ≤ 3 → InRange (Imm Addi 17 0 (pos n))
 unfolding InRange
 r_service n h = (omega arith, omega arith, (omega (arith, ints), omega (arith, ints)))
 
--- a number of few bits as it is stored
-fits_word : (z : ℤ) → FitsBits 21 z → SFits w32 z
-fits_word (pos n) h = let high = h.1 in record { sfits = omega (arith, ints, high) }
-fits_word (negsuc n) h = let low = h.0 in record { sfits = omega (arith, ints, low) }
-
-pub word_again : (z : ℤ) → FitsBits 21 z → to_z w32 (of_z w32 z) ≡ z
-word_again z h = to_z-of_z w32 z (fits_word z h)
-
 pub sound_ask : (z : ℤ) (n : ℕ) → z ≡ pos n → 1 ≤ n → n ≤ 3
     → AreSound (Imm Addi 17 0 (to_z w32 (of_z w32 z)) ∷ Ecall ∷ [])
 sound_ask z n e h j =
@@ -153,31 +120,6 @@ sound_append a b s t = record {
 keeps_append : (a b : List Instr) → AreSound b → (k : ℕ) → IsSoFar a k → IsSoFar (a ++ b) k
 keeps_append a b t k h = target_left a b (length a + 1) (length (a ++ b) + 1) k h (omega arith)
     (omega (arith, length-append a b)) (no_first (length b + 1) b t.contained)
-
--- ---- jumps that are led
-
-pub led_none : (a : List Instr) → AreSound a → AreLed a a
-led_none a s = record { sound = s; len = refl; keeps = λ k t. t }
-
-pub led_then : (a b c : List Instr) → AreLed a b → AreLed b c → AreLed a c
-led_then a b c p q = record { sound = q.sound; len = q.len ∙ p.len; keeps = λ k t. q.keeps k (p.keeps k t) }
-
-pub led_one : (a : List Instr) (k w : ℕ) (i j : Instr) (z : ℤ) → AreSound a → k < length a → i ≡ get_or a k i
-    → IsLed i (to_z w32 (of_z w32 z)) j → InRange j → IsSoFar a w → FitsBits 21 z → pos (4 * w) ≡ pos (4 * k) +ℤ z
-    → AreLed a (set a k j)
-led_one a k w i j z s lt e l r t fits h =
-    let at = slice_get_read a (length a) k i refl lt e in
-    let by = subst (λ (y : ℤ). IsLed i y j) (word_again z fits) l in
-    record {
-      sound = record {
-        in_range = All-set InRange a k j r s.in_range;
-        contained = subst (λ n. AreContained (n + 1) (set a k j)) (sym (length-set a k j))
-            (contained_led a (length a + 1) k w i j z s.contained at by t h);
-      };
-      len = length-set a k j;
-      keeps = λ m g. subst (λ n. IsTarget (n + 1) (set a k j) m) (sym (length-set a k j))
-          (target_led a (length a + 1) k m i j z at by g);
-    }
 
 -- ---- the code
 
@@ -324,3 +266,12 @@ module _ (ls : List Line) (ms : List Mark) (es : List ℕ) (top : ℕ) where
         started = record { word = 0; is = omega arith; target = keep 0 first };
         last = record { last = last_jump; at = length b; end = sym size; is = at_end b last_jump; plain = refl };
       })
+
+pub completed : (old : Size) (text front code : List Instr) (calls cs : List Jump) (entries es : List ℕ)
+    → old.text ≡ text → old.links.calls ≡ calls → old.links.entered ≡ entries → cs ≡ calls → es ≡ entries
+    → code ≡ front ++ Cjal 0 (pos 0) ∷ [] → AreLedTo (IsEnteredAt es) cs text front → IsCompleted old code
+completed old text front code calls cs entries es d e f g h i l = record {
+  front = front;
+  are = i;
+  led = rw (d, e, f, ← g, ← h) l;
+}

@@ -1,9 +1,7 @@
 pub mod Appended
-pub mod Contained
 pub mod Entries
 pub mod Grown
-pub mod Landed
-pub mod Led
-pub mod MadeNumbers
 pub mod Texts
-pub mod WordNumbers
+pub use Rattle.rv_words.proofs.Contained
+pub use Rattle.rv_words.proofs.Landed
+pub use Rattle.rv_words.proofs.WordNumbers

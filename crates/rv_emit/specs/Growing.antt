@@ -1,18 +1,17 @@
 -- The code that selection makes, as it grows.
-use Rattle.std.specs.Prelude.{◌≡◌, ℕ, ◌+◌, ◌-◌, ◌*◌, ◌%◌, ◌^◌, ◌<◌, ◌≤◌, Bool, true, false, List, [], ◌∷◌, ◌++◌, length}
+use Rattle.std.specs.Prelude.{◌≡◌, ℕ, ◌+◌, ◌*◌, ◌%◌, ◌<◌, ◌≤◌, true, List, [], ◌∷◌, ◌++◌, length}
 use Rattle.std.specs.Prelude.{slice_index}
 use Rattle.std.specs.List.{All}
 use Rattle.ck_base.specs.declared.positions.Pos.{Pos}
 use Rattle.rv_instr.specs.Range.{InRange}
 use Rattle.rv_instr.specs.declared.instr.Instr.{Instr}
-use Rattle.rv_instr.specs.declared.ops.CapGetOp.{CapGetOp}
-use Rattle.rv_instr.specs.declared.ops.CapGetOp.TheVariants.{Csealentry}
 use Rattle.elf_file.specs.declared.image.Line.{Line}
 use Rattle.elf_file.specs.Image.{lines_ok}
 use Rattle.tac_ir.specs.Costs.{number_cost}
 use Rattle.select_words.specs.Numbers.{MakesNumber}
-use Rattle.rv_emit.specs.declared.jumps.Jump.{Jump}
-use Rattle.rv_emit.specs.declared.jumps.Mark.{Mark}
+use Rattle.rv_words.specs.declared.jumps.Jump.{Jump}
+use Rattle.rv_words.specs.declared.jumps.Mark.{Mark}
+pub use Rattle.rv_words.specs.Instructions.{reach, seals}
 
 -- Each instruction has a word, and the lines ascend strictly and stand in the code
 pub record IsText (code : List Instr) (places : List Line) : Type 0 where
@@ -108,18 +107,7 @@ pub record IsLongNumber (to value : ℕ) (words : List Instr) : Type 0 where
   pub makes : MakesNumber to value words
   pub few : length words ≤ number_cost value
 
--- two words lead to offsets below it
-abbrev pub reach : ℕ
-reach = 2 ^ 31 - 2048
-
 -- the words that a text has at most: those of 128 bytes for each unit of the greatest weight, 7,780, and of 4,096
 -- more are fewer
 abbrev pub room : ℕ
 room = 262144
-
--- ---- one instruction
-
--- it makes a sentry
-abbrev pub seals : CapGetOp → Bool
-seals Csealentry = true
-seals op = false

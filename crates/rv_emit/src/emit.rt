@@ -12,12 +12,14 @@ ghost use Rattle.rv_emit.specs.Leading.{IsStill, IsLedTo, StandsAt, AreLedTo, Is
 ghost use Rattle.rv_emit.specs.Growing.{IsText, AreEntries, Grows, Adds, Puts, reach, room, IsWordNumber, IsLongNumber};
 ghost use Rattle.rv_emit.specs.Growing.{marking, jumping, calling, trapping, entering, ended};
 
-use crate::instructions::{branch, jump};
-use crate::jumps::{Jump, Mark, lead, lead_to_entries, lead_to_marks};
-use crate::parts::{load_part, moved_part, number_part, store_part, word_part};
 use ck_base::{NoMemory, Pos};
 use elf_file::Line;
 use rv_instr::{BranchOp, ImmOp, Instr, Reg};
+use rv_words::instructions::{branch, jump};
+use rv_words::{
+    Jump, Mark, lead, lead_to_entries, lead_to_marks, load_part, moved_part, number_part,
+    store_part, word_part,
+};
 use std::alloc::Global;
 use std::marker::Model;
 

@@ -4,13 +4,10 @@
 //! Promise: each word is one of the machine, the lines ascend and lie in the code, jumps lead to where their labels
 //! stand and calls to where functions are entered, and the whole code is contained.
 //! Definitions (`specs/`): `Growing`, what is seen of the code; `Leading`, where its jumps lead.
-//! Main lemmas (`proofs/`): `Grown`, `Led`, `Contained`, `Appended`, `Landed`.
+//! Main lemmas (`proofs/`): `Grown`, `Appended`; `Contained`, `Led`, `Landed` of `rv_words`.
 #![tactic(auto)]
 
 mod emit;
-pub mod instructions;
-mod jumps;
-mod parts;
 
 pub use emit::{Code, Complete};
-pub use jumps::{Jump, Mark};
+pub use rv_words::{Jump, Mark, instructions};

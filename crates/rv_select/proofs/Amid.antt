@@ -24,7 +24,7 @@ use Rattle.rv_emit.specs.Growing.{Size, Links, line_at, trapping, jumping}
 use Rattle.rv_emit.specs.Leading.{IsHop, JumpsTo, NoJump}
 use Rattle.rv_select.specs.Noting.{noting}
 use Rattle.rv_select.specs.Selected.{WordsOf, noted_copy, ways}
-use Rattle.rv_emit.specs.declared.jumps.Jump.{Jump}
+use Rattle.rv_emit.specs.Jump.{Jump}
 use Rattle.rv_emit.proofs.Contained.{get_left, get_right}
 use Rattle.rv_emit.proofs.Landed.{at_seam, off_seam}
 

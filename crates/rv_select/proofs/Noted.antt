@@ -23,8 +23,8 @@ use Rattle.rv_emit.specs.Growing.{Size, Links, line_at, trapping, marking, jumpi
 use Rattle.rv_emit.specs.Leading.{StandsAt}
 use Rattle.rv_select.specs.Noting.{noting, Selects, SelectsAll}
 use Rattle.rv_select.specs.Selected.{WordsOf, noted_copy}
-use Rattle.rv_emit.specs.declared.jumps.Jump.{Jump}
-use Rattle.rv_emit.specs.declared.jumps.Mark.{Mark}
+use Rattle.rv_emit.specs.Jump.{Jump}
+use Rattle.rv_emit.specs.Mark.{Mark}
 
 -- ---- what is appended, one behind the other
 

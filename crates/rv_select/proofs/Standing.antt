@@ -25,7 +25,7 @@ use Rattle.rv_emit.specs.Growing.{Size, Links, Puts, line_at, entering, ended, t
 use Rattle.rv_emit.specs.Leading.{IsHop, JumpsTo, NoJump, StandsAt, AreLedTo}
 use Rattle.rv_select.specs.Noting.{SelectsAll}
 use Rattle.rv_select.specs.Selected.{WordsOf, ways, Stands, FunctionStands, is_entered, is_said, is_sunk}
-use Rattle.rv_emit.specs.declared.jumps.Jump.{Jump}
+use Rattle.rv_emit.specs.Jump.{Jump}
 use Rattle.rv_select.specs.Choosing.{chosen}
 use Rattle.rv_select.specs.Parameters.{TakesParameters}
 use Rattle.rv_select.specs.Suiting.{AllSuit}

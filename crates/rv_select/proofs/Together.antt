@@ -23,7 +23,7 @@ use Rattle.rv_emit.specs.Growing.{Size, Links, AreEntries, calling}
 use Rattle.rv_emit.specs.Leading.{IsHop, JumpsTo, NoJump, IsEnteredAt, IsCompleted}
 use Rattle.rv_select.specs.Selected.{AreNumbers, Before, EndsAt, FunctionStands, IsSelected, in_function, is_entered}
 use Rattle.rv_select.specs.Selected.{is_said, is_sunk}
-use Rattle.rv_emit.specs.declared.jumps.Jump.{Jump}
+use Rattle.rv_emit.specs.Jump.{Jump}
 use Rattle.rv_select.specs.declared.function.Function.{Function}
 use Rattle.rv_select.specs.Choosing.{chosen, number_in}
 use Rattle.rv_select.specs.Parameters.{TakesParameters}

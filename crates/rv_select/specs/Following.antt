@@ -14,7 +14,7 @@ use Rattle.rv_emit.specs.Growing.{Size, room}
 use Rattle.rv_emit.specs.Leading.{IsHop, JumpsTo, NoJump, IsEnteredAt}
 use Rattle.rv_select.specs.Selected.{AreNumbers, Before, EndsAt, FunctionStands, in_function, is_entered, is_said}
 use Rattle.rv_select.specs.Selected.{is_sunk}
-use Rattle.rv_emit.specs.declared.jumps.Jump.{Jump}
+use Rattle.rv_emit.specs.Jump.{Jump}
 
 -- ---- what is appended
 

@@ -1,7 +1,7 @@
 use Rattle.std.proofs.Common.{ap, sym}
 use Rattle.rv_emit.proofs.Grown.{text_whole, contained_whole}
 use Rattle.rv_emit.specs.Growing.{Size}
-use Rattle.rv_emit.proofs.Led.{completed}
+use Rattle.rv_emit.proofs.Grown.{completed}
 use Rattle.rv_emit.proofs.emit.Code.complete.Goals as goal
 
 pub returns-clause-text : goal.returns-clause-text

@@ -1,7 +1,7 @@
 use Rattle.std.proofs.Common.{rules}
 use Rattle.std.proofs.lemmas.List.Sorted.{All-permutation, answers_always}
-use Rattle.rv_emit.specs.declared.jumps.Mark.{Mark}
-use Rattle.rv_emit.proofs.Led.{led_sorted}
+use Rattle.rv_words.specs.declared.jumps.Mark.{Mark}
+use Rattle.rv_words.proofs.Led.{led_sorted}
 use Rattle.rv_emit.specs.Leading.{IsSoFar}
 use Rattle.rv_emit.proofs.emit.Code.lead_to_labels.Goals as goal
 

@@ -2,7 +2,7 @@ use Rattle.std.proofs.Common.{◌≡◌, ℤ, true, ◌++◌, subst, sym, ap, �
 use Rattle.purecap_abi.specs.Words.{is_word}
 use Rattle.select_words.specs.Numbers.{MakesNumber}
 use Rattle.purecap_abi.proofs.Ranges.{on_ok}
-use Rattle.rv_emit.proofs.WordNumbers.{word_bits, word_is}
+use Rattle.rv_words.proofs.WordNumbers.{word_bits, word_is}
 use Rattle.rv_emit.proofs.emit.Code.number.Goals as goal
 
 pub returns-clause-text : goal.returns-clause-text
