@@ -1,4 +1,3 @@
-pub mod Allocated
 pub mod Copied
 pub mod Moved
-pub mod Zeroes
+pub use Rattle.rv_memory.proofs.Zeroes

@@ -1,4 +1,3 @@
 pub mod Copies
-pub mod Heap
 pub mod Moves
 pub mod Operations

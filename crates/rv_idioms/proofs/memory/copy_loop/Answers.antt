@@ -6,7 +6,7 @@ use Rattle.rv_instr.specs.declared.ops.ImmOp.TheVariants.{Addi}
 use Rattle.select_words.specs.Copying.{unit_words}
 use Rattle.rv_emit.specs.Growing.{Size, both_trapping}
 use Rattle.rv_emit.proofs.Appended.{on_both}
-use Rattle.rv_idioms.proofs.Zeroes.{number_put}
+use Rattle.rv_memory.proofs.Zeroes.{number_put}
 use Rattle.rv_idioms.proofs.Copied.{unit_again, advance_is, body_put, round_copied}
 use Rattle.rv_idioms.proofs.memory.copy_loop.Goals as goal
 

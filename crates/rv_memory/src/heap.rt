@@ -3,7 +3,7 @@ ghost use Rattle.std.specs.Prelude.{◌≡◌, ◌<◌, ◌++◌, OnOk};
 ghost use Rattle.purecap_abi.specs.Words.{store_code};
 ghost use Rattle.select_words.specs.Heap.{rounds, places, takes, malloc_code};
 ghost use Rattle.rv_emit.specs.Growing.{Grows, reach};
-ghost use Rattle.rv_idioms.specs.Heap.{measured};
+ghost use Rattle.rv_memory.specs.Heap.{measured};
 
 use crate::registers::{count, left, right, spare, way};
 use ck_base::NoMemory;

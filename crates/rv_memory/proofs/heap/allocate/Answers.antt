@@ -4,8 +4,8 @@ use Rattle.rv_instr.specs.declared.instr.Instr.TheVariants.{CapGet, Branch}
 use Rattle.rv_instr.specs.declared.ops.BranchOp.TheVariants.{Bltu}
 use Rattle.rv_instr.specs.declared.ops.CapGetOp.TheVariants.{Cgetlen}
 use Rattle.purecap_abi.specs.Words.{load_code}
-use Rattle.rv_idioms.proofs.Allocated.{allocated}
-use Rattle.rv_idioms.proofs.heap.allocate.Goals as goal
+use Rattle.rv_memory.proofs.Allocated.{allocated}
+use Rattle.rv_memory.proofs.heap.allocate.Goals as goal
 
 pub returns-clause-text : goal.returns-clause-text
 returns-clause-text c = λ low.

@@ -9,7 +9,7 @@ use Rattle.rv_instr.specs.declared.ops.CapGetOp.TheVariants.{Cgetlen}
 use Rattle.rv_instr.specs.declared.ops.ImmOp.TheVariants.{Addi}
 use Rattle.purecap_abi.specs.Words.{load_code, store_code}
 use Rattle.select_words.specs.Heap.{rounds, places, takes, gives_null, malloc_code}
-use Rattle.rv_idioms.specs.Heap.{measured}
+use Rattle.rv_memory.specs.Heap.{measured}
 use Rattle.rv_emit.specs.Leading.{IsLedTo}
 use Rattle.rv_emit.proofs.Appended.{more}
 use Rattle.rv_emit.proofs.Landed.{over_words}

@@ -8,8 +8,8 @@ use Rattle.rv_instr.specs.declared.ops.StoreOp.TheVariants.{Csc}
 use Rattle.purecap_abi.proofs.Ranges.{on_ok}
 use Rattle.rv_emit.specs.Growing.{Size}
 use Rattle.rv_emit.proofs.Appended.{three_more}
-use Rattle.rv_idioms.proofs.Zeroes.{number_put, round_put}
-use Rattle.rv_idioms.proofs.memory.zero_loop.Goals as goal
+use Rattle.rv_memory.proofs.Zeroes.{number_put, round_put}
+use Rattle.rv_memory.proofs.memory.zero_loop.Goals as goal
 
 pub returns-clause-words : goal.returns-clause-words
 returns-clause-words c =

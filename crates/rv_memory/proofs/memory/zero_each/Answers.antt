@@ -2,8 +2,8 @@ use Rattle.std.proofs.Common.{◌+◌, ◌*◌, ◌<◌, ap, ◌∙◌, ◌++◌
 use Rattle.rv_instr.specs.declared.instr.Instr.{Instr}
 use Rattle.rv_instr.specs.declared.instr.Instr.TheVariants.{Store}
 use Rattle.rv_instr.specs.declared.ops.StoreOp.TheVariants.{Csc}
-use Rattle.rv_idioms.proofs.Zeroes.{store_next, small_again}
-use Rattle.rv_idioms.proofs.memory.zero_each.Goals as goal
+use Rattle.rv_memory.proofs.Zeroes.{store_next, small_again}
+use Rattle.rv_memory.proofs.memory.zero_each.Goals as goal
 
 pub loop-k-preserved : goal.loop-k-preserved
 loop-k-preserved c =

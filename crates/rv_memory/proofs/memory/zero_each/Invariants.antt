@@ -1,7 +1,7 @@
 use Rattle.std.proofs.Common.{◌≡◌, ◌++◌}
 use Rattle.select_words.specs.Zeroing.{stores_at}
 use Rattle.rv_emit.specs.Growing.{Grows}
-use Rattle.rv_idioms.proofs.memory.zero_each.Given as goal
+use Rattle.rv_memory.proofs.memory.zero_each.Given as goal
 
 abbrev pub invariant-loop-k : goal.invariant-loop-k
 invariant-loop-k l = record {

@@ -2,7 +2,7 @@ use Rattle.std.proofs.Common.{◌≡◌, ◌+◌, ◌/◌, subst, arith, rules}
 use Rattle.purecap_abi.proofs.Ranges.{on_ok}
 use Rattle.select_words.specs.Zeroing.{Zeroes}
 use Rattle.rv_emit.specs.Growing.{Puts}
-use Rattle.rv_idioms.proofs.memory.zero_object.Goals as goal
+use Rattle.rv_memory.proofs.memory.zero_object.Goals as goal
 
 pub returns-then-at-gt1984-clause-words : goal.returns-then-at-gt1984-clause-words
 returns-then-at-gt1984-clause-words c =
