@@ -73,12 +73,7 @@ const ROWS: [([[u8; 4]; 4], u64, u64, Verdict); 10] = [
     ([ADDI, ECALL, NOP, STAY], 8, 125, Verdict::Reloc(0, 8)),
 ];
 
-fn file(
-    alloc: Global,
-    words: &[[u8; 4]; 4],
-    offset: u64,
-    perms: u64,
-) -> Result<Vec<u8>, NoMemory> {
+fn file(alloc: Global, words: &[[u8; 4]; 4], offset: u64, perms: u64) -> Result<Vec<u8>, NoMemory> {
     let reloc = Reloc {
         place: DATA,
         base: TEXT,

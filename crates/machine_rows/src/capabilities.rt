@@ -113,7 +113,11 @@ fn wrong_check() -> Option<usize> {
 
 #[test]
 fn operations_give_capabilities_and_checks_the_first_cause(rt: HostRuntime) {
-    must_all_hold(&rt, "null", wrong_unless(null_has_the_whole_address_space()));
+    must_all_hold(
+        &rt,
+        "null",
+        wrong_unless(null_has_the_whole_address_space()),
+    );
     must_all_hold(&rt, "operations", wrong_operation());
     must_all_hold(&rt, "checks", wrong_check());
 }

@@ -175,5 +175,9 @@ fn bounds_and_fields_have_their_bits(rt: HostRuntime) {
     must_all_hold(&rt, "bounds are kept", wrong_keeping());
     must_all_hold(&rt, "fields stand at their places", wrong_placing());
     must_all_hold(&rt, "capabilities are packed", wrong_packing());
-    must_all_hold(&rt, "null is flipped", wrong_unless(flip_null(NULL_BITS) == 0));
+    must_all_hold(
+        &rt,
+        "null is flipped",
+        wrong_unless(flip_null(NULL_BITS) == 0),
+    );
 }

@@ -4,8 +4,8 @@ use crate::answers::must_all_hold;
 use crate::made::{Parts, file_of};
 use cap_concentrate::{bounds_of, flip_null, unpack};
 use cap_machine::Machine;
-use ck_base::NoMemory;
 use cap_ops::{Cap, SENTRY, UNSEALED, null};
+use ck_base::NoMemory;
 use elf_file::{Reloc, View};
 use image_load::{LoadRefusal, load};
 use std::alloc::Global;
@@ -136,13 +136,7 @@ const FAR: Reloc = Reloc {
 type Loaded = (u64, u64, (u64, u64), [Reloc; 2], Option<LoadRefusal>);
 
 const LOADED: [Loaded; 16] = [
-    (
-        TEXT + 4,
-        32,
-        (STACK, 4_096),
-        [POINTER, FUNCTION],
-        None,
-    ),
+    (TEXT + 4, 32, (STACK, 4_096), [POINTER, FUNCTION], None),
     (
         TEXT,
         32,
@@ -199,7 +193,13 @@ const LOADED: [Loaded; 16] = [
         [POINTER, FUNCTION],
         Some(LoadRefusal::Entry),
     ),
-    (TEXT, 32, (STACK, 4_096), [BESIDE, USER], Some(LoadRefusal::Place)),
+    (
+        TEXT,
+        32,
+        (STACK, 4_096),
+        [BESIDE, USER],
+        Some(LoadRefusal::Place),
+    ),
     (
         TEXT,
         32,

@@ -290,10 +290,7 @@ fn has_shown(m: &Machine, shown: Shown) -> bool {
     }
 }
 
-fn shows(
-    alloc: Global,
-    &(words, steps, shown): &(&[u32], u64, Shown),
-) -> Result<bool, NoMemory> {
+fn shows(alloc: Global, &(words, steps, shown): &(&[u32], u64, Shown)) -> Result<bool, NoMemory> {
     let mut m = machine(alloc, words)?;
     let end = run(alloc, &mut m, steps);
     Ok(end == End::Steps && has_shown(&m, shown))
@@ -365,5 +362,9 @@ fn machines_run_as_their_words_say(rt: HostRuntime) {
     must_all_hold(&rt, "ends where a check fails", wrong_end(alloc));
     must_all_hold(&rt, "stops after the last step", wrong_count(alloc));
     must_all_hold(&rt, "keeps tags, links and derives", wrong_machine(alloc));
-    must_all_hold(&rt, "calls the environment", wrong_unless(matches!(serves(alloc), Ok(true))));
+    must_all_hold(
+        &rt,
+        "calls the environment",
+        wrong_unless(matches!(serves(alloc), Ok(true))),
+    );
 }

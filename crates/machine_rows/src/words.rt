@@ -223,7 +223,11 @@ fn wrong_instruction() -> Option<usize> {
 
 #[test]
 fn registers_have_names_and_words_encode_instructions(rt: HostRuntime) {
-    must_all_hold(&rt, "there are 32 registers", wrong_unless(there_are_thirty_two()));
+    must_all_hold(
+        &rt,
+        "there are 32 registers",
+        wrong_unless(there_are_thirty_two()),
+    );
     must_all_hold(&rt, "names of registers", wrong_name());
     must_all_hold(&rt, "words of instructions", wrong_word());
     must_all_hold(&rt, "words of none", wrong_instruction());

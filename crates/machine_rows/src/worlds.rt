@@ -117,7 +117,11 @@ fn files_serve(alloc: Global) -> Result<bool, AllocError> {
 fn objects_in_memory_fail_in_the_calls_that_are_told(rt: HostRuntime) {
     let alloc = rt.alloc();
     must_hold(&rt, "a source", matches!(gives_two(alloc), Ok(true)));
-    must_hold(&rt, "a sink, past its room too", matches!(takes_five(alloc), Ok(true)));
+    must_hold(
+        &rt,
+        "a sink, past its room too",
+        matches!(takes_five(alloc), Ok(true)),
+    );
     must_hold(&rt, "files", matches!(files_serve(alloc), Ok(true)));
 }
 
@@ -140,8 +144,16 @@ fn sure_files_serve(alloc: Global) -> bool {
 #[test]
 fn sure_objects_do_not_fail(rt: HostRuntime) {
     let alloc = rt.alloc();
-    must_hold(&rt, "a source", matches!(sure_source_gives(alloc), Ok(true)));
-    must_hold(&rt, "a sink", takes(&mut SureSink::new(), &[(b"ab", Ok(()))]));
+    must_hold(
+        &rt,
+        "a source",
+        matches!(sure_source_gives(alloc), Ok(true)),
+    );
+    must_hold(
+        &rt,
+        "a sink",
+        takes(&mut SureSink::new(), &[(b"ab", Ok(()))]),
+    );
     must_hold(&rt, "files", sure_files_serve(alloc));
 }
 
@@ -208,6 +220,10 @@ fn objects_over_the_system_serve(rt: HostRuntime) {
     must_hold(&rt, "output", output_fails_where_its_writer_takes_nothing());
     let _ = is_removed(&rt);
     let system = rt.clone().expect(&rt, "memory");
-    must_hold(&rt, "files come back as they were put", come_back(rt.alloc(), system));
+    must_hold(
+        &rt,
+        "files come back as they were put",
+        come_back(rt.alloc(), system),
+    );
     must_hold(&rt, "their file is removed", is_removed(&rt));
 }
