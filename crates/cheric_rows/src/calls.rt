@@ -33,10 +33,20 @@ fn two_files(alloc: Global, file: &[u8], elf: Vec<u8>) -> Result<SureFiles, NoMe
     Ok(SureFiles::new(names, contents))
 }
 
+/// What is built of a file, and how many steps it is given for each turn.
+pub fn elf_and_count(alloc: Global, file: &[u8]) -> Result<(Vec<u8>, u64), Refusal> {
+    let built = build(alloc, file)?;
+    Ok((built.elf, built.count))
+}
+
+/// What is built of a file.
+pub fn elf_of(alloc: Global, file: &[u8]) -> Result<Vec<u8>, Refusal> {
+    Ok(elf_and_count(alloc, file)?.0)
+}
+
 /// A C file `a.c`, and what is built of it as `a.c.elf`.
 pub fn built(alloc: Global, file: &[u8]) -> Result<SureFiles, Refusal> {
-    let built = build(alloc, file)?;
-    Ok(two_files(alloc, file, built.elf)?)
+    Ok(two_files(alloc, file, elf_of(alloc, file)?)?)
 }
 
 pub fn words_of(alloc: Global, words: &str) -> Result<Vec<String>, NoMemory> {
@@ -55,11 +65,34 @@ fn source(alloc: Global, input: &str, failing: u64) -> Result<MemSource, NoMemor
     Ok(MemSource::new(bytes, vec![in alloc; failing]?))
 }
 
-/// An output of 65,536 bytes, of which the call with this number fails (0: none).
+/// An output of 1,048,576 bytes, of which the call with this number fails (0: none).
 fn sink(alloc: Global, failing: u64) -> Result<MemSink, NoMemory>
     ensures { IfOk result (λ sink. sink.faults ≡ 0) }
 {
-    MemSink::new(alloc, 65_536, vec![in alloc; failing]?)
+    MemSink::new(alloc, 1_048_576, vec![in alloc; failing]?)
+}
+
+/// What a call answers: its status, and all that is put to the output and to the notes.
+type Answered = (u8, Vec<u8>, Vec<u8>);
+
+/// What the command answers to these words on an input, where the calls with these numbers fail.
+fn answered<F: Files>(
+    alloc: Global,
+    files: &mut F,
+    words: &str,
+    input: &str,
+    failing: Failing,
+) -> Result<Answered, NoMemory>
+    requires { F.faults files.old < 2 ^ 64 - 1 }
+{
+    let [_, read, byte, note] = failing;
+    let words = words_of(alloc, words)?;
+    let mut input = source(alloc, input, read)?;
+    let mut out = sink(alloc, byte)?;
+    let mut notes = sink(alloc, note)?;
+    let status = cheric(alloc, &words, files, &mut input, &mut out, &mut notes);
+    let put = Vec::from_slice(alloc, out.bytes())?;
+    Ok((status, put, Vec::from_slice(alloc, notes.bytes())?))
 }
 
 /// Whether the command answers these words so on an input, where the calls with these numbers fail.
@@ -73,14 +106,17 @@ pub fn answers<F: Files>(
 ) -> Result<bool, NoMemory>
     requires { F.faults files.old < 2 ^ 64 - 1 }
 {
-    let [_, read, byte, note] = failing;
-    let words = words_of(alloc, words)?;
-    let mut input = source(alloc, input, read)?;
-    let mut out = sink(alloc, byte)?;
-    let mut notes = sink(alloc, note)?;
-    let status = cheric(alloc, &words, files, &mut input, &mut out, &mut notes);
-    let (wanted, put, line) = answer;
-    Ok(status == wanted && out.bytes() == put.as_bytes() && notes.bytes() == line.as_bytes())
+    let (status, put, line) = answer;
+    let got = answered(alloc, files, words, input, failing)?;
+    Ok(got.0 == status && got.1.as_slice() == put.as_bytes() && got.2.as_slice() == line.as_bytes())
+}
+
+/// What the command puts to the output on these words and the C file `a.c`; nothing where it does not end by 0.
+pub fn put_of(alloc: Global, file: &[u8], words: &str) -> Result<String, NoMemory> {
+    let mut files = one_file(alloc, "a.c", file, 0)?;
+    let (status, put, _) = answered(alloc, &mut files, words, "", SURE)?;
+    let put = if status == 0 { put } else { Vec::new(alloc) };
+    Ok(String::from_utf8_lossy(alloc, &put)?)
 }
 
 /// Whether the command answers these words so on one file of this name, leaves it as it was and puts no `a.c.elf`.

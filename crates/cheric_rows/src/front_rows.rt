@@ -1,9 +1,10 @@
 //! What is said of files by the front end and by `build`.
 
+use crate::calls::elf_of;
 use crate::{
     constant_files, declared_files, front_tables, initialised_files, typed_files, whole_language,
 };
-use cheric_build::{build, front};
+use cheric_build::front;
 use ck_base::{Pos, Refusal};
 use std::alloc::{AllocError, Global};
 use std::process::Abort;
@@ -18,7 +19,7 @@ pub enum By {
 fn refusal(alloc: Global, by: By, text: &[u8]) -> Option<Refusal> {
     match by {
         By::Front => front(alloc, text).err(),
-        By::Build => build(alloc, text).err(),
+        By::Build => elf_of(alloc, text).err(),
     }
 }
 

@@ -1,8 +1,10 @@
 //! The modes `build`, `exec` and `audit` of the command.
 
-use crate::calls::{SURE, Table, answers, answers_on, calls_are_answered, is_call_so, one_file};
+use crate::calls::{
+    SURE, Table, answers, answers_on, calls_are_answered, elf_and_count, elf_of, is_call_so,
+    one_file,
+};
 use crate::whole_language::WORDS;
-use cheric_build::build;
 use ck_base::Refusal;
 use elf_file::View;
 use std::alloc::Global;
@@ -55,7 +57,7 @@ fn a_refused_file_puts_no_name(rt: HostRuntime) {
 
 /// Whether the words put what is built of `a.c` under the name, say how many bytes it has, and leave `a.c`.
 pub fn builds(alloc: Global, file: &[u8], words: &str, name: &str) -> Result<bool, Refusal> {
-    let elf = build(alloc, file)?.elf;
+    let elf = elf_of(alloc, file)?;
     let len = elf.len();
     let line = format!(in alloc; "built {len}\n")?;
     let mut files = one_file(alloc, "a.c", file, 0)?;
@@ -153,7 +155,7 @@ const IMAGES: [Image; 13] = [
 ];
 
 fn is_so(alloc: Global, &(file, change, case): &Image) -> Option<bool> {
-    let elf = changed(build(alloc, file.as_bytes()).ok()?.elf, change);
+    let elf = changed(elf_of(alloc, file.as_bytes()).ok()?, change);
     is_call_so(alloc, "b", &elf, "", case)
 }
 
@@ -170,7 +172,7 @@ fn images_are_run_and_audited(rt: HostRuntime) {
 
 /// Whether `addi x10,x0,72` in place of the last word is named by its place.
 fn names_last_word(alloc: Global) -> Result<bool, Refusal> {
-    let mut elf = build(alloc, HI.as_bytes())?.elf;
+    let mut elf = elf_of(alloc, HI.as_bytes())?;
     let last = lengths(&elf).0.saturating_sub(4);
     put(&mut elf, last, &[0x13, 5, 0x80, 4]);
     let place = 1_073_741_824_u64.saturating_add(last as u64);
@@ -185,13 +187,13 @@ fn a_last_word_that_goes_on_is_named(rt: HostRuntime) {
 
 /// Whether a file's image says its version and its count, and nothing behind.
 fn says_its_count(alloc: Global, file: &str) -> bool {
-    let Ok(built) = build(alloc, file.as_bytes()) else {
+    let Ok((elf, count)) = elf_and_count(alloc, file.as_bytes()) else {
         return false;
     };
-    let Ok(view) = View::read(&built.elf) else {
+    let Ok(view) = View::read(&elf) else {
         return false;
     };
-    view.word(0) == Some(2) && view.word(12) == Some(built.count) && view.word(13).is_none()
+    view.word(0) == Some(2) && view.word(12) == Some(count) && view.word(13).is_none()
 }
 
 #[test]

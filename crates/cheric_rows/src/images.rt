@@ -1,9 +1,8 @@
 //! Images by hand: written to their files, read, loaded and run.
 
-use crate::calls::{Answer, SURE, answers_on};
+use crate::calls::{Answer, SURE, answers_on, elf_of};
 use crate::version_1::{TAIL, WORDS};
 use cap_machine::End;
-use cheric_build::build;
 use ck_base::{NoMemory, Refusal, SureSink, SureSource};
 use elf_file::{ElfRefusal, Image, Reloc, Sequence, View, write};
 use image_load::{LoadRefusal, load};
@@ -390,7 +389,7 @@ fn is_judged_complemented(alloc: Global, elf: &mut [u8]) -> bool {
 /// Whether a built file is refused so at each cut, and judged so with each header byte complemented.
 fn is_refused_broken(alloc: Global) -> Result<bool, Refusal> {
     let file = b"int main(void){putchar(72);putchar(105);return 0;}";
-    let mut elf = build(alloc, file)?.elf;
+    let mut elf = elf_of(alloc, file)?;
     Ok(is_refused_cut(alloc, &elf) && is_judged_complemented(alloc, &mut elf))
 }
 

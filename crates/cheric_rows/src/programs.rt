@@ -3,10 +3,11 @@ ghost use Rattle.std.specs.Prelude.{◌≡◌, [], ◌∷◌, IfOk};
 ghost use Rattle.c_tree.specs.Typing.{Sound};
 ghost use Rattle.cheric_rows.specs.OneFunction.{frame};
 
+use crate::calls::elf_and_count;
 use bounds_place::{USUAL, place};
 use c_tree::{Typed, weight};
 use cap_reloc::{Table, table};
-use cheric_build::{build, build_typed, front};
+use cheric_build::{build_typed, front};
 use ck_base::{NoMemory, Refusal, Sequence};
 use elf_file::Reloc;
 use obj_mem::{Frame, Map};
@@ -19,8 +20,8 @@ fn built(alloc: Global, file: &str, p: &Typed) -> Result<(bool, u64), Refusal>
     requires sound { Sound p.now }
 {
     let typed = build_typed(alloc, p, USUAL)?;
-    let built = build(alloc, file.as_bytes())?;
-    Ok((typed.elf.as_slice() == built.elf.as_slice(), built.count))
+    let (elf, count) = elf_and_count(alloc, file.as_bytes())?;
+    Ok((typed.elf.as_slice() == elf.as_slice(), count))
 }
 
 /// What the file weighs, and whether it is built as its program, in so many steps for each turn.
@@ -74,6 +75,15 @@ fn placed(alloc: Global, p: &Typed) -> Result<Option<(Map, Table)>, Refusal>
     Ok(Some((map, contents)))
 }
 
+/// The length of the table of a file's program, with its pointers and initial bytes; none for another program.
+fn contents_of(alloc: Global, file: &str) -> Result<Option<(u64, Table)>, Refusal> {
+    let p = front(alloc, file.as_bytes())?;
+    let Some((map, contents)) = placed(alloc, &p)? else {
+        return Ok(None);
+    };
+    Ok(Some((map.table.1, contents)))
+}
+
 /// Files, with the length of the table, the relocations, and the bytes that are not zero.
 const PLACED: [(&str, u64, usize, usize); 3] = [
     ("int main(void){return 0;}", 48, 2, 0),
@@ -93,12 +103,11 @@ const PLACED: [(&str, u64, usize, usize); 3] = [
 
 /// The length of the table of a file's program, how many relocations it has, and how many bytes are not zero.
 fn measured(alloc: Global, file: &str) -> Result<Option<(u64, usize, usize)>, Refusal> {
-    let p = front(alloc, file.as_bytes())?;
-    let Some((map, contents)) = placed(alloc, &p)? else {
+    let Some((length, contents)) = contents_of(alloc, file)? else {
         return Ok(None);
     };
     let set = contents.bytes.iter().filter(|b| **b != 0).count();
-    Ok(Some((map.table.1, contents.relocs.len(), set)))
+    Ok(Some((length, contents.relocs.len(), set)))
 }
 
 fn has_measures(alloc: Global, &(file, length, relocs, set): &(&str, u64, usize, usize)) -> bool {
@@ -160,8 +169,7 @@ fn first_other(relocs: &[Reloc]) -> Option<usize> {
 
 /// How many relocations the file's program has, and the first that is another.
 fn judged(alloc: Global, file: &str) -> Result<(usize, Option<usize>), Refusal> {
-    let p = front(alloc, file.as_bytes())?;
-    let Some((_, contents)) = placed(alloc, &p)? else {
+    let Some((_, contents)) = contents_of(alloc, file)? else {
         return Ok((0, None));
     };
     Ok((contents.relocs.len(), first_other(&contents.relocs)))

@@ -1,10 +1,9 @@
 //! The modes `map`, `list` and `gen` of the command.
 
-use crate::calls::{SURE, Table, answers, built, calls_are_answered, is_answered, words_of};
+use crate::calls::{SURE, Table, answers, built, calls_are_answered, elf_of, is_answered, put_of};
 use crate::image_commands::builds;
-use cheric_build::build;
-use cheric_top::{cheric, generate};
-use ck_base::{MemSink, NoMemory, Refusal, SureFiles, SureSource};
+use cheric_top::generate;
+use ck_base::{NoMemory, Refusal};
 use elf_file::View;
 use std::alloc::{AllocError, Global};
 
@@ -39,23 +38,6 @@ const HI_MAP: [&str; 6] = [
     "stack 33554432 1048576",
     "frame main ",
 ];
-
-/// What the command puts to the output on these words and this file; nothing where it does not end by 0.
-fn put_of(alloc: Global, file: &[u8], words: &str) -> Result<String, NoMemory> {
-    let words = words_of(alloc, words)?;
-    let names = vec![in alloc; String::from_str(alloc, "a.c")?]?;
-    let mut files = SureFiles::new(names, vec![in alloc; Vec::from_slice(alloc, file)?]?);
-    let mut input = SureSource::new(Vec::new(alloc));
-    let mut out = MemSink::new(alloc, 1_048_576, Vec::new(alloc))?;
-    let mut notes = MemSink::new(alloc, 64, Vec::new(alloc))?;
-    let status = cheric(alloc, &words, &mut files, &mut input, &mut out, &mut notes);
-    let put = if status == 0 {
-        out.bytes()
-    } else {
-        b"".as_slice()
-    };
-    Ok(String::from_utf8_lossy(alloc, put)?)
-}
 
 fn are_numbers(text: &str) -> bool {
     for byte in text.bytes() {
@@ -130,7 +112,7 @@ fn lists(alloc: Global, listing: &str, text: &[u8]) -> bool {
 
 /// Whether the listing and the map of a file tell the text that is built.
 fn tell_the_text(alloc: Global, file: &[u8]) -> Result<bool, Refusal> {
-    let elf = build(alloc, file)?.elf;
+    let elf = elf_of(alloc, file)?;
     let Ok(view) = View::read(&elf) else {
         return Ok(false);
     };
