@@ -1,7 +1,9 @@
 //! The whole program as it is run.
 
-ghost use Rattle.std.specs.Prelude.{◌≡◌, IfOk, OnOk, map};
+ghost use Rattle.std.specs.Prelude.{◌≡◌, true, IfOk, OnOk, map};
+ghost use Rattle.c_tree.specs.Views.{IsOrdered};
 ghost use Rattle.c_copy.specs.Copying.{Extends};
+ghost use Rattle.plain_programs.specs.Plain.{IsPlain};
 ghost use Rattle.c_passing.specs.Named.{HasSyntax};
 ghost use Rattle.c_passing.specs.Routines.{written_routine, HaveBodies, AreFunctions, IsObject, AreObjects};
 ghost use Rattle.c_passing.specs.Routines.{IsPassedProgram};
@@ -11,7 +13,9 @@ use crate::names::names_of;
 use crate::types::{listed, types_of};
 use c_tree::{FunDef, GlobalDef, Tree, Typed};
 use ck_base::{NoMemory, Sequence};
+use ordered_programs::is_ordered;
 use passing_steps::{Made, number_in};
+use plain_programs::is_plain;
 use std::alloc::Global;
 
 fn functions(whole: &Whole<'_>, out: &mut Made) -> Result<Vec<FunDef>, NoMemory>
@@ -58,9 +62,8 @@ fn objects(
     Ok(list)
 }
 
-/// The program that is run in the place of one that is typed as it is written. Structs and unions go to functions and
-/// come back by pointers, through hidden locals, which have the names of the calls in the file's tree.
-pub fn pass(alloc: Global, p: Typed, tree: &Tree) -> Result<Typed, NoMemory>
+// The program with structs and unions by pointers.
+fn with_pointers(alloc: Global, p: Typed, tree: &Tree) -> Result<Typed, NoMemory>
     requires syntax { HasSyntax tree.now }
     requires bodies { HaveBodies p }
     ensures { IfOk result (IsPassedProgram tree.now p) }
@@ -90,4 +93,29 @@ pub fn pass(alloc: Global, p: Typed, tree: &Tree) -> Result<Typed, NoMemory>
         stmts: Sequence::from_vec(out.stmts),
         main: p.main,
     })
+}
+
+// Whether a program is run as it is written: no struct or union goes by value, and its numbers are in order.
+fn is_unchanged(alloc: Global, p: &Typed) -> Result<bool, NoMemory>
+    ensures { IfOk result (λ b. b ≡ true → IsOrdered p.now × IsPlain p.now) }
+{
+    if !is_plain(p) {
+        return Ok(false);
+    }
+    is_ordered(alloc, p)
+}
+
+/// The program that is run in the place of one that is typed as it is written. Structs and unions go to functions and
+/// come back by pointers, through hidden locals, which have the names of the calls in the file's tree. Where none goes
+/// by value, it is the program itself.
+pub fn pass(alloc: Global, p: Typed, tree: &Tree) -> Result<Typed, NoMemory>
+    requires syntax { HasSyntax tree.now }
+    requires bodies { HaveBodies p }
+    ensures { IfOk result (IsPassedProgram tree.now p) }
+{
+    let unchanged = is_unchanged(alloc, &p)?;
+    if unchanged {
+        return Ok(p);
+    }
+    with_pointers(alloc, p, tree)
 }
