@@ -10,4 +10,5 @@ pub mod RowLaws
 pub mod SlotLaws
 pub mod StartLaws
 pub mod StepLaws
+pub mod TextLaws
 pub mod WithinLaws

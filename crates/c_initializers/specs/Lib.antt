@@ -7,3 +7,4 @@ pub mod Rows
 pub mod Sizes
 pub mod Slots
 pub mod Starts
+pub mod Texts

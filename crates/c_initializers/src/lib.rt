@@ -20,6 +20,7 @@ mod slots;
 mod starts;
 mod statics;
 mod strings;
+mod texts;
 
 pub use addresses::is_start;
 pub use counts::with_count;
@@ -30,3 +31,4 @@ pub use sizes::complete_now;
 pub use slots::{Filled, Slot};
 pub use statics::{Found, pointers_end, start_slots};
 pub use strings::{plain, string, takes_string};
+pub use texts::fill_text;

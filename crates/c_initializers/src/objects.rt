@@ -39,7 +39,7 @@ fn retype(nodes: &mut Nodes<'_>, k: u32, of: u32)
 
 // The type of an object of static storage duration whose initialiser gives so many elements: an array whose length was
 // not known gets it (C11 6.7.9p22).
-fn complete_object(work: &mut Work, k: u32, count: u64) -> Result<(), Refusal>
+pub(crate) fn complete_object(work: &mut Work, k: u32, count: u64) -> Result<(), Refusal>
     requires { IsWhole work.old.nodes }
     ensures { Answers freely work.old work.new (completes_object k count) NothingThere IsNothing result }
 {
@@ -54,7 +54,7 @@ fn complete_object(work: &mut Work, k: u32, count: u64) -> Result<(), Refusal>
 }
 
 // An object has a complete type (132), within the limit (140).
-fn object_complete(work: &Work, k: u32, pos: Pos) -> Result<(), Refusal>
+pub(crate) fn object_complete(work: &Work, k: u32, pos: Pos) -> Result<(), Refusal>
     requires { IsWhole work.now.nodes }
     ensures { Answers quietly work.now work.now (object_complete k pos) NothingThere IsNothing result }
 {
@@ -89,7 +89,12 @@ fn mark_filled(nodes: &mut Nodes<'_>, k: u32)
 }
 
 // An object of static storage duration gets its initial bytes and pointers.
-fn fill_object(work: &mut Work, k: u32, bytes: Vec<u8>, starts: Vec<Start>) -> Result<(), Refusal>
+pub(crate) fn fill_object(
+    work: &mut Work,
+    k: u32,
+    bytes: Vec<u8>,
+    starts: Vec<Start>,
+) -> Result<(), Refusal>
     requires { IsWhole work.old.nodes }
     ensures { Answers freely work.old work.new
         (fills_object k bytes.items (map aiming_of starts.items)) NothingThere IsNothing result }

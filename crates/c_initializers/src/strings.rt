@@ -7,6 +7,7 @@ ghost use Rattle.c_expressions.specs.Answers.{Answers as Built};
 ghost use Rattle.c_elaborator.specs.Answers.{Answers, quietly};
 ghost use Rattle.c_initializers.specs.Slots.{HasSlots, SlotThere, IsSlot, FilledThere, IsFilled, string_filled};
 ghost use Rattle.c_initializers.specs.Slots.{plain_slot, IsSlotIn, IsFilledIn};
+ghost use Rattle.c_initializers.specs.Texts.{AreTaken};
 
 use crate::slots::{Filled, Slot};
 use c_elaborator::Work;
@@ -80,6 +81,21 @@ fn has_room(count: u64, room: u64) -> bool
     count <= room || count - room == 1
 }
 
+// How many of so many bytes of a string an array takes: none where more than the last has no room.
+pub(crate) fn taken_of(nodes: &Nodes, count: u64, of: u32) -> Option<u64>
+    requires whole { IsWhole nodes.now }
+    requires there { of < type_count nodes.now }
+    ensures { AreTaken count (type_in nodes.now of) result }
+{
+    let (_, length) = row_of(nodes, of);
+    let room = room_of(length, count);
+    if has_room(count, room) {
+        Some(count.min(room))
+    } else {
+        None
+    }
+}
+
 // The bytes of a string literal in an array of characters.
 fn string_in(
     nodes: &mut Nodes,
@@ -96,14 +112,14 @@ fn string_in(
         result }
 {
     let count = bytes.len() as u64;
-    let (element, length) = row_of(nodes, of);
-    let room = room_of(length, count);
-    if !has_room(count, room) {
-        return Err(Refusal::Code(MISFIT, pos));
+    match taken_of(nodes, count, of) {
+        None => Err(Refusal::Code(MISFIT, pos)),
+        Some(most) => {
+            let (element, _) = row_of(nodes, of);
+            let slots = byte_slots(nodes, whole, element, at, &bytes[..most as usize])?;
+            Ok(Filled { slots, count })
+        }
     }
-    let most = count.min(room) as usize;
-    let slots = byte_slots(nodes, whole, element, at, &bytes[..most])?;
-    Ok(Filled { slots, count })
 }
 
 /// The bytes of a string literal in an array of characters: 133 at the literal where more than its last zero has no

@@ -1,25 +1,23 @@
-use Rattle.std.proofs.Common.{◌≡◌, ap, ◌∙◌, length, refl, sym}
-use Rattle.std.specs.Prelude.{◌==◌, if◌then◌else◌}
+use Rattle.std.proofs.Common.{length, refl}
 use Rattle.c_expressions.specs.Nodes.{type_in}
 use Rattle.c_initializers.specs.declared.slots.Filled.{Filled}
+use Rattle.c_initializers.specs.Texts.{room_for}
 use Rattle.c_initializers.proofs.FillLaws.{string-given, string-refused}
 use Rattle.c_initializers.proofs.strings.string_in.Goals as goal
 
-pub returns-then-not-has_room : goal.returns-then-not-has_room
-returns-then-not-has_room c =
+pub returns-in-None : goal.returns-in-None
+returns-in-None c =
     let n = c.args.nodes.now in
     let bytes = c.args.bytes.now in
-    let room = c.room_of-room.ensures ∙ ap (λ k. (if k == 0 then length bytes else k)) c.row_of-element.ensures.count in
-    string-refused bytes c.args.pos c.args.whole (type_in n c.args.of) c.args.at c.room_of-room.result room
-    (sym c.if-not-has_room.ensures)
+    let t = type_in n c.args.of in
+    string-refused bytes c.args.pos c.args.whole t c.args.at (room_for (length bytes) t) refl c.in-None.ensures
 
-pub returns : goal.returns
-returns c =
+pub returns-in_ok-slots-in-Some : goal.returns-in_ok-slots-in-Some
+returns-in_ok-slots-in-Some c =
     let n = c.args.nodes.now in
     let bytes = c.args.bytes.now in
-    let room = c.room_of-room.ensures ∙ ap (λ k. (if k == 0 then length bytes else k)) c.row_of-element.ensures.count in
-    let f : Filled = record { slots = c.in_ok-slots.slots; count = length bytes } in
-    string-given n c.byte_slots.new.nodes bytes c.args.pos c.args.whole
-    (type_in n c.args.of) c.args.at f c.row_of-element.result.0 c.room_of-room.result c.min-most.result room
-    (sym c.if-not-has_room.ensures) c.min-most.ensures
-    c.row_of-element.ensures.element c.in_ok-slots.ensures refl
+    let t = type_in n c.args.of in
+    let f : Filled = record { slots = c.in_ok-slots-in-Some.slots; count = length bytes } in
+    string-given n c.byte_slots.new.nodes bytes c.args.pos c.args.whole t c.args.at f c.row_of-element.result.0
+    (room_for (length bytes) t) c.in-Some.most refl c.in-Some.ensures.0 c.in-Some.ensures.1
+    c.row_of-element.ensures.element c.in_ok-slots-in-Some.ensures refl
