@@ -9,7 +9,7 @@ use Rattle.ck_base.specs.declared.refusal.Refusal.{Refusal}
 use Rattle.ck_base.specs.declared.tokens.TokenKind.TheVariants.{Word}
 use Rattle.ck_base.specs.Tokens.{Lexeme}
 use Rattle.c_tree.specs.declared.typed.StmtKind.TheVariants as stmts
-use Rattle.c_tree.specs.Syntax.{Syn}
+use Rattle.c_tree.specs.Syntax.{Syn, Syns}
 use Rattle.c_tree.specs.Types.{Ty}
 use Rattle.c_tree.specs.Terms.{Action, Init, Term, action, terms, actions}
 use Rattle.c_tree.specs.Readings as meant
@@ -18,7 +18,8 @@ use Rattle.c_tree.specs.Scopes.{State, Doing, Fault, Local, give, look, change, 
 use Rattle.c_tree.specs.Scopes.{bind_name, changed_at}
 use Rattle.c_tree.specs.Statics.{is_start}
 use Rattle.c_tree.specs.Declarations.{Behind, no_items, static_of, init_action, complete_now}
-use Rattle.c_tree.specs.Initializers.{every_slot, with_count}
+use Rattle.c_tree.specs.Initializers.{every_slot, with_count, string_initializer}
+use Rattle.c_tree.specs.Expressions.{text_bytes}
 use Rattle.c_tree.specs.Programs.{reading}
 use Rattle.c_tree.specs.Views.{terms_of, kind_action}
 use Rattle.c_types.specs.Stands.{text_at}
@@ -33,15 +34,17 @@ use Rattle.c_elaborator.proofs.Sequencing.{free_law, answers_at, then, also_then
 use Rattle.c_initializers.specs.declared.slots.Slot.{Slot}
 use Rattle.c_initializers.specs.declared.slots.Filled.{Filled}
 use Rattle.c_initializers.specs.Slots.{slot_in, slots_in, filled_in, FilledThere, IsFilled, SlotsThere}
-use Rattle.c_initializers.specs.Slots.{AreSlots}
+use Rattle.c_initializers.specs.Slots.{AreSlots, string_filled}
 use Rattle.c_initializers.specs.Objects.{static_filled, local_filled}
+use Rattle.c_initializers.specs.Texts.{fills_text}
 use Rattle.c_elaborator.specs.declared.items.Items.{Items}
 use Rattle.c_elaborator.specs.Items.{AddsAction, ActionsThere, ItemsThere, IsItems, items_in}
 use Rattle.c_elaborator.proofs.Going.{items_kept, actions_there}
 use Rattle.c_statements.specs.declared.declarations.Behind.{Behind as Standing}
 use Rattle.c_statements.specs.Declaring.{IsBehind, fills_local, fills_static, local_initialized, static_initialized}
-use Rattle.c_statements.specs.Declaring.{init_items}
+use Rattle.c_statements.specs.Declaring.{init_items, static_from}
 use Rattle.c_statements.proofs.Gather.{there_both}
+use Rattle.c_statements.proofs.Reading.{string_is}
 
 -- ---- the statements that initialise a local
 
@@ -286,6 +289,47 @@ static_filled_so u v w k name of r p filled i o a b e f =
     (FilledThere v filled) ItemsThere IsItems (Ok i) (freed u v d FilledThere IsFilled (Ok filled) a)
     (also_then freely free_law v w w (static_filled k name.pos (filled_in v.nodes filled)) (give no_items) (Unit {0})
     (λ s a. Unit {0}) ItemsThere IsItems (Ok i) b (nothing_given w i b.whole e f)))
+
+-- ---- a string
+
+-- what an initializer is read as
+pub static_text : (u w : Work) (k : ℕ) (name : Name) (of : ℕ) (r : Reading) (p : Pos) (d : Doing meant.Filled)
+    (x : Result Items Refusal) → IsStatic u k of → starting u of r p ≡ d →
+    Answers freely u w (static_from k name.pos d) ItemsThere IsItems x →
+    Answers freely u w (fills_static k (token_of u name) r p) ItemsThere IsItems x
+static_text u w k name of r p d x i e a =
+    answers_at freely u w (fills_static k (token_of u name) r p) (static_from k name.pos d) ItemsThere IsItems x
+    (λ s h. static_is u k name of r p i s h ∙ ap (λ (y : Doing meant.Filled). static_from k name.pos y s) e) a
+
+text_is : (k : ℕ) (t : Lexeme) (xs : Syns) (bytes other : List ℕ) (p first : Pos) (of : Ty) → other ≡ bytes →
+    bytes ≡ text_bytes t xs → (s : State) → static_from k p (string_initializer t xs first of 0) s
+    ≡ (fills_text k p other t.pos first of >> give no_items) s
+text_is k t xs bytes other p first of h e s =
+    ap (λ (d : Doing meant.Filled). static_from k p d s)
+    (string_is t xs first of 0 ∙ ap (λ (bs : List ℕ). string_filled bs t.pos first of 0) (sym (h ∙ e)))
+    ∙ sym (then_there (string_filled other t.pos first of 0) (static_filled k p) (λ a. give no_items) s)
+
+pub text_refused : (u w : Work) (k : ℕ) (t : Lexeme) (xs : Syns) (bytes other : List ℕ) (p first : Pos) (of : Ty)
+    (e : Refusal) → other ≡ bytes → bytes ≡ text_bytes t xs →
+    Answers freely u w (fills_text k p other t.pos first of) NothingThere IsNothing (Err e) →
+    Answers freely u w (static_from k p (string_initializer t xs first of 0)) ItemsThere IsItems (Err e)
+text_refused u w k t xs bytes other p first of e h q a =
+    let d = fills_text k p other t.pos first of in
+    answers_at freely u w (static_from k p (string_initializer t xs first of 0)) (d >> give no_items) ItemsThere IsItems
+    (Err e) (λ s g. text_is k t xs bytes other p first of h q s)
+    (failed freely u w w d (λ x. give no_items) NothingThere IsNothing ItemsThere IsItems e a)
+
+pub text_filled_so : (u w : Work) (k : ℕ) (t : Lexeme) (xs : Syns) (bytes other : List ℕ) (p first : Pos) (of : Ty)
+    (i : Items) → other ≡ bytes → bytes ≡ text_bytes t xs →
+    Done freely u w (fills_text k p other t.pos first of) (Unit {0}) (λ s a. Unit {0}) → i.vars.items ≡ [] →
+    i.actions.items ≡ [] →
+    Answers freely u w (static_from k p (string_initializer t xs first of 0)) ItemsThere IsItems (Ok i)
+text_filled_so u w k t xs bytes other p first of i h q a e f =
+    let d = fills_text k p other t.pos first of in
+    answers_at freely u w (static_from k p (string_initializer t xs first of 0)) (d >> give no_items) ItemsThere IsItems
+    (Ok i) (λ s g. text_is k t xs bytes other p first of h q s)
+    (also_then freely free_law u w w d (give no_items) (Unit {0}) (λ s b. Unit {0}) ItemsThere IsItems (Ok i) a
+    (nothing_given w i a.whole e f))
 
 -- ---- by what is declared
 

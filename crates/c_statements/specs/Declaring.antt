@@ -27,6 +27,7 @@ use Rattle.c_elaborator.specs.Parts.{IsPart}
 use Rattle.c_readings.specs.Within.{PartWithin}
 use Rattle.c_declarators.specs.declared.parts.Wrap.{Wrap}
 use Rattle.c_declarators.specs.Forming.{WrapIsThere}
+use Rattle.c_initializers.specs.Objects.{static_filled}
 use Rattle.c_statements.specs.declared.declarations.Behind.{Behind}
 
 -- ---- what stands behind a declarator
@@ -110,6 +111,10 @@ initializes x t of b = give no_items
 
 abbrev pub fills_static : ℕ → Lexeme → Reading → Pos → Doing meant.Items
 fills_static k t r first = fill_static k t (r, first) >> give no_items
+
+-- the same from what an initializer gives
+abbrev pub static_from : ℕ → Pos → Doing meant.Filled → Doing meant.Items
+static_from k p d = d >>= λ f. static_filled k p f >> give no_items
 
 abbrev pub fills_local : ℕ → Lexeme → Ty → Reading → Pos → Doing meant.Items
 fills_local k t of r first = fill_local k t of (r, first) >>= λ xs. give (record { vars = k ∷ []; actions = xs })

@@ -1,27 +1,30 @@
 //! What is declared gets its initial value (C11 6.7.9).
 
-ghost use Rattle.std.specs.Prelude.{◌≡◌, ◌<◌, ◌∷◌, ◌++◌, [], IfOk, OnOk};
+ghost use Rattle.std.specs.Prelude.{◌≡◌, ◌<◌, ◌∷◌, ◌++◌, [], true, IfOk, OnOk};
 ghost use Rattle.ck_base.specs.declared.positions.Pos.{Pos as Place};
-ghost use Rattle.c_tree.specs.Syntax.{Syn};
+ghost use Rattle.ck_base.specs.Lexes.{IsAccepted};
+ghost use Rattle.c_tree.specs.Initializers.{takes_string, string_initializer};
+ghost use Rattle.c_tree.specs.Syntax.{Syn, Syns};
 ghost use Rattle.c_tree.specs.Programs.{reading};
 ghost use Rattle.c_tree.specs.Scopes.{give};
 ghost use Rattle.c_tree.specs.Declarations as meant;
+ghost use Rattle.c_types.specs.Stands.{text_at};
 ghost use Rattle.c_expressions.specs.Nodes.{IsWhole, type_in, type_count};
 ghost use Rattle.c_elaborator.specs.Answers.{Answers, freely};
-ghost use Rattle.c_elaborator.specs.Parts.{IsPart, token_of};
+ghost use Rattle.c_elaborator.specs.Parts.{IsPart, AreParts, HaveTexts, token_of};
 ghost use Rattle.c_readings.specs.Within.{PartWithin};
 ghost use Rattle.c_initializers.specs.Slots.{AreSlotsThere, slots_in};
 ghost use Rattle.c_elaborator.specs.Items.{ItemsThere, IsItems};
 ghost use Rattle.c_statements.specs.Declaring.{HasBehind, IsBehind, fills_local, fills_static, init_items, initializes};
-ghost use Rattle.c_statements.specs.Declaring.{local_initialized, static_initialized};
+ghost use Rattle.c_statements.specs.Declaring.{local_initialized, static_initialized, static_from};
 
 use crate::declarations::Behind;
 use crate::initial::{Asked, Goal, initializer};
 use c_elaborator::{Items, Name, Work, add_statement, no_items};
-use c_initializers::{Slot, fill_local, fill_static};
-use c_tree::StmtKind;
+use c_initializers::{Slot, fill_local, fill_static, fill_text, takes_string};
+use c_tree::{NodeKind, StmtKind};
 use c_types::Entry;
-use ck_base::{NoMemory, Pos, Refusal};
+use ck_base::{NoMemory, Pos, Refusal, TokenKind};
 use std::alloc::Global;
 
 // A variable that is declared, and no statements.
@@ -92,8 +95,31 @@ fn initialize_local(
     init_actions(work, k, name.pos, slots.as_slice())
 }
 
-// An object of static storage duration gets its initial bytes and pointers (C11 6.7.9p4).
-fn initialize_static(
+// An object of static storage duration gets the bytes of the string that is its initialiser (C11 6.7.9p14).
+fn initialize_text(
+    work: &mut Work<'_>,
+    k: u32,
+    name: Name,
+    of: u32,
+    text: Name,
+    kids: &[u32],
+) -> Result<Items, Refusal>
+    requires whole { IsWhole work.old.nodes }
+    requires there { of < type_count work.old.nodes }
+    requires takes { takes_string (type_in work.old.nodes of) ≡ true }
+    requires accepted { IsAccepted TokenKind.Text (text_at work.old.file.now text.span) }
+    requires parts { HaveTexts work.old kids.now }
+    ensures { (xs : Syns) (first : Place) → AreParts work.old kids.now xs →
+        Answers freely work.old work.new (static_from k name.pos (string_initializer (token_of work.old text) xs first
+        (type_in work.old.nodes of) 0)) ItemsThere IsItems result }
+{
+    let bytes = work.text_bytes(text, kids)?;
+    fill_text(work, k, name.pos, bytes.as_slice(), text.pos, of)?;
+    Ok(no_items(work.nodes.alloc))
+}
+
+// An object of static storage duration gets its initial bytes and pointers from the values that its initialiser gives.
+fn initialize_values(
     work: &mut Work<'_>,
     k: u32,
     name: Name,
@@ -117,6 +143,34 @@ fn initialize_static(
     let filled = initializer(work, b.node, goal, depth)?;
     fill_static(work, k, name.pos, &filled)?;
     Ok(no_items(work.nodes.alloc))
+}
+
+// An object of static storage duration gets its initial bytes and pointers (C11 6.7.9p4).
+fn initialize_static(
+    work: &mut Work<'_>,
+    k: u32,
+    name: Name,
+    b: Behind,
+    depth: u32,
+) -> Result<Items, Refusal>
+    requires whole { IsWhole work.old.nodes }
+    requires part { PartWithin work.old depth b.node }
+    ensures { (x : Syn) → IsPart work.old b.node x →
+        Answers freely work.old work.new (fills_static k (token_of work.old name) (reading x) b.first) ItemsThere
+        IsItems result }
+{
+    let of = work.static_type(k);
+    let part = work.part(b.node);
+    match part.kind {
+        NodeKind::Text => {
+            if takes_string(work, of) {
+                initialize_text(work, k, name, of, part.name, part.kids)
+            } else {
+                initialize_values(work, k, name, b, depth)
+            }
+        }
+        _ => initialize_values(work, k, name, b, depth),
+    }
 }
 
 // A local without an initialiser.
