@@ -2,7 +2,6 @@
 //! leaves.
 ghost use Rattle.std.specs.Prelude.{◌≡◌, ◌<◌, true, length};
 
-use crate::given::{got, with_types};
 use c_interner::{Lengths, Numbers, agree, append, next_number};
 use c_tree::{CType, Typed};
 use ck_base::{NoMemory, Sequence};
@@ -18,8 +17,9 @@ fn add(alloc: Global, p: &mut Typed, c: CType) -> Result<u32, NoMemory> {
     k
 }
 
-fn params(alloc: Global, ps: &[u32]) -> Result<Sequence<u32>, NoMemory> {
-    Ok(Sequence::from_vec(ps.to_vec(alloc)?))
+fn add_function(alloc: Global, p: &mut Typed, gives: u32, ps: &[u32]) -> Result<u32, NoMemory> {
+    let params = ps.to_vec(alloc)?;
+    add(alloc, p, CType::Function(gives, Sequence::from_vec(params)))
 }
 
 fn are_there(p: &Typed, a: u32, b: u32) -> bool
@@ -71,30 +71,25 @@ fn tower(
     let mut top = add(alloc, p, CType::Pointer(of))?;
     for _ in 0..levels {
         if doubled {
-            let pair = params(alloc, &[top, top])?;
-            top = add(alloc, p, CType::Function(0, pair))?;
+            top = add_function(alloc, p, 0, &[top, top])?;
         }
         top = add(alloc, p, CType::Pointer(top))?;
     }
     Ok(top)
 }
 
-// `int`, an array of an unknown number of them and one of four, pointers to these, and a function from the one to the
-// other, and back.
-fn small_types(alloc: Global) -> Result<Typed, NoMemory> {
-    let to_open = params(alloc, &[3])?;
-    let to_four = params(alloc, &[4])?;
-    let types = vec![in alloc;
-        INT,
-        CType::Array(0, 0),
-        CType::Array(0, 4),
-        CType::Pointer(1),
-        CType::Pointer(2),
-        CType::Function(3, to_four),
-        CType::Function(4, to_open),
-        CType::Const(3),
-    ]?;
-    Ok(with_types(alloc, types))
+// `int`, an array of an unknown number of them and one of four, pointers to these, a function from the one to the
+// other, and back, and a const pointer.
+fn add_small_types(alloc: Global, p: &mut Typed) -> Result<(), NoMemory> {
+    add(alloc, p, INT)?;
+    add(alloc, p, CType::Array(0, 0))?;
+    add(alloc, p, CType::Array(0, 4))?;
+    add(alloc, p, CType::Pointer(1))?;
+    add(alloc, p, CType::Pointer(2))?;
+    add_function(alloc, p, 3, &[4])?;
+    add_function(alloc, p, 4, &[3])?;
+    add(alloc, p, CType::Const(3))?;
+    Ok(())
 }
 
 // The pointed types of a call and the numbers of the pointers.
@@ -105,19 +100,14 @@ fn has_number(numbers: &mut Numbers, p: &mut Typed, &(of, expected): &(u32, u32)
         && numbers.number_of(p, CType::Pointer(of)) == Ok(expected)
 }
 
-fn have_one_number(numbers: &mut Numbers, p: &mut Typed) -> bool {
+pub(crate) fn have_one_number(alloc: Global, p: &mut Typed) -> bool {
+    let mut numbers = Numbers::new(alloc);
     for row in &NUMBERED {
-        if !has_number(numbers, p, row) {
+        if !has_number(&mut numbers, p, row) {
             return false;
         }
     }
     true
-}
-
-#[test]
-fn equal_types_have_one_number(rt: HostRuntime) {
-    let mut p = with_types(rt.alloc(), Vec::new(rt.alloc()));
-    assert!(rt; have_one_number(&mut Numbers::new(rt.alloc()), &mut p));
 }
 
 // Two of the small types, and whether they are equal, and compatible.
@@ -169,13 +159,18 @@ fn composed(
     Ok((bottom(p.types.as_slice(), c).0, compatible))
 }
 
-fn are_composed(alloc: Global, numbers: &mut Numbers, p: &mut Typed) -> Result<bool, NoMemory> {
+fn have_composites(alloc: Global, numbers: &mut Numbers, p: &mut Typed) -> Result<bool, NoMemory> {
     for &(a, b, length) in &COMPOSITES {
         if composed(alloc, numbers, p, a, b)? != (length, true) {
             return Ok(false);
         }
     }
     Ok(true)
+}
+
+fn are_composed(alloc: Global, p: &mut Typed) -> Result<bool, NoMemory> {
+    let mut numbers = Numbers::new(alloc);
+    have_composites(alloc, &mut numbers, p)
 }
 
 // Towers on the two arrays: their levels, and whether they are doubled; the levels of the composite, and a number of
@@ -186,6 +181,12 @@ const MANY_LEAVES: Towers = (60, true, 121, 400);
 
 const DEEP: Towers = (99_999, false, 100_000, 400_000);
 
+// The composite by numbers that know no type yet.
+fn new_composite(alloc: Global, p: &mut Typed, a: u32, b: u32) -> Result<u32, NoMemory> {
+    let mut numbers = Numbers::new(alloc);
+    composite_in(&mut numbers, p, a, b)
+}
+
 // Whether only the lengths at the bottom tell two towers apart.
 fn are_compared(
     alloc: Global,
@@ -195,23 +196,18 @@ fn are_compared(
     let a = tower(alloc, p, 1, levels, doubled)?;
     let b = tower(alloc, p, 2, levels, doubled)?;
     let agreed = agreements(alloc, p, a, b)?;
-    let c = composite_in(&mut Numbers::new(alloc), p, a, b)?;
+    let c = new_composite(alloc, p, a, b)?;
     let types = p.types.as_slice();
     Ok(agreed == (false, true) && bottom(types, c) == (4, height) && types.len() < most)
 }
 
 // A composite knows each length.
-#[test]
-fn types_agree_and_are_composed(rt: HostRuntime) {
-    let alloc = rt.alloc();
-    let mut p = got(&rt, small_types(alloc));
-    assert!(rt; are_agreed(alloc, &p).unwrap_or(false));
-    assert!(rt; are_compared(alloc, &mut p, MANY_LEAVES).unwrap_or(false));
-    assert!(rt; are_composed(alloc, &mut Numbers::new(alloc), &mut p).unwrap_or(false));
+pub(crate) fn are_known(alloc: Global, p: &mut Typed) -> Result<bool, NoMemory> {
+    add_small_types(alloc, p)?;
+    Ok(are_agreed(alloc, p)? && are_compared(alloc, p, MANY_LEAVES)? && are_composed(alloc, p)?)
 }
 
-#[test]
-fn deep_types(rt: HostRuntime) {
-    let mut p = got(&rt, small_types(rt.alloc()));
-    assert!(rt; are_compared(rt.alloc(), &mut p, DEEP).unwrap_or(false));
+pub(crate) fn are_deep(alloc: Global, p: &mut Typed) -> Result<bool, NoMemory> {
+    add_small_types(alloc, p)?;
+    are_compared(alloc, p, DEEP)
 }

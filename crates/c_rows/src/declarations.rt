@@ -1,6 +1,6 @@
 //! Types, tags and declarations: calls in order, each with what it answers, and types that are large in number or
 //! depth.
-use crate::given::{none, with_types};
+use crate::given::none;
 use c_tree::{CType, Member, RecordKind, Typed, VarDef};
 use c_types::DeclKind::{self, Fun, Object};
 use c_types::Storage::{self, Extern, Plain, Static};
@@ -42,6 +42,14 @@ const TOO_LARGE: Faults = Faults {
     too_large: true,
 };
 
+// A parameter of the first type.
+const PARAMETER: VarDef = VarDef {
+    name: NAME,
+    pos: PLACE,
+    of: 0,
+    simple: false,
+};
+
 // A type that the steps name.
 #[derive(Clone, Copy)]
 enum Of {
@@ -67,17 +75,22 @@ enum Given {
 
 use Given::{Aliases, Gives, Refused};
 
+// What is so of a name.
+#[derive(Clone, Copy)]
+enum Naming {
+    // What it denotes, if anything.
+    Denotes(&'static [u8], Option<Entry>),
+    IsType(&'static [u8]),
+    // Whether it is of the innermost scope.
+    IsHere(&'static [u8], bool),
+    IsNoTag(&'static [u8]),
+}
+
+use Naming::{Denotes, IsHere, IsNoTag, IsType};
+
 // What is so of scopes and a program.
 #[derive(Clone, Copy)]
 enum Fact {
-    // What a name denotes, if anything.
-    Denotes(&'static [u8], Option<Entry>),
-    // A name denotes a type.
-    IsType(&'static [u8]),
-    // Whether a name is of the innermost scope.
-    IsHere(&'static [u8], bool),
-    // A name is no tag.
-    IsNoTag(&'static [u8]),
     // The types of an object, of a function and of a local, by their numbers.
     OfObject(u32, Of),
     OfFunction(u32, Of),
@@ -93,22 +106,35 @@ enum Fact {
     IsUnion,
 }
 
-use Fact::{Denotes, IsHere, IsNoTag};
-
 // The kind of records in one another, how many levels there are of them, how often each has the one before it, and the
 // bytes of the last.
 type Nested = (RecordKind, u32, usize, u64);
 
-// A call and what it answers, or what is so then.
+// A call on scopes alone, and what it answers.
 #[derive(Clone, Copy)]
-enum Step {
-    Is(Fact),
+enum Scoping {
     Enters,
     // The block is closed, in which a name of the scope around it was not, and open again.
     OpensAgain(&'static [u8]),
     Leaves,
     // An enumeration constant of this value is declared.
     Constant(i32, Given),
+    // Whether the braces of the first struct or union can be opened.
+    Opens(bool),
+    AddsParameter,
+    CompletesLocal,
+    // So many locals are taken.
+    Takes(usize),
+}
+
+use Scoping::{AddsParameter, CompletesLocal, Constant, Enters, Leaves, Opens, OpensAgain, Takes};
+
+// A call and what it answers, or what is so then.
+#[derive(Clone, Copy)]
+enum Step {
+    Names(Naming),
+    Is(Fact),
+    Does(Scoping),
     // The place of a name, its type, what is declared, its storage and whether it is defined; and what is given.
     Declares(u32, Of, DeclKind, Storage, bool, Given),
     // The place of a declaration of an object whose type breaks rules, which of them, and the code that comes first.
@@ -117,14 +143,8 @@ enum Step {
     Tags(TagKind, Option<u16>),
     // A struct or union without a tag.
     Begins(RecordKind),
-    // Whether the braces of the first struct or union can be opened.
-    Opens(bool),
     // It gets one member of a type.
     Completes(Of),
-    AddsParameter(Of),
-    CompletesLocal,
-    // So many locals are taken.
-    Takes(usize),
     CompletesGlobal(Of),
     FillsGlobal,
     FillsFunction(u32),
@@ -132,29 +152,29 @@ enum Step {
     Nests(Nested),
 }
 
-use Step::{Breaks, Declares, Is};
+use Step::{Breaks, Declares, Does, Is, Names};
 
 // Names, and what they denote where nothing is declared, in a block and outside.
 static KNOWN: [Step; 16] = [
-    Is(Denotes(b"putchar", Some(Entry::Library(0)))),
-    Is(Denotes(b"__builtin_cheri_equal_exact", Some(Entry::Library(15)))),
-    Is(Denotes(
+    Names(Denotes(b"putchar", Some(Entry::Library(0)))),
+    Names(Denotes(b"__builtin_cheri_equal_exact", Some(Entry::Library(15)))),
+    Names(Denotes(
         b"cheri_representable_alignment_mask",
         Some(Entry::Library(17)),
     )),
-    Is(Denotes(b"__builtin_putchar", None)),
-    Is(Fact::IsType(b"uint16_t")),
-    Step::Enters,
-    Step::Constant(-7, Gives(Entry::Constant(-7))),
-    Is(Denotes(b"x", Some(Entry::Constant(-7)))),
-    Step::Constant(8, Refused(131)),
-    Is(Denotes(b"exit", Some(Entry::Library(3)))),
-    Is(IsHere(b"exit", false)),
-    Is(IsNoTag(b"exit")),
-    Step::OpensAgain(b"exit"),
-    Step::Leaves,
-    Is(IsHere(b"exit", true)),
-    Is(IsNoTag(b"exit")),
+    Names(Denotes(b"__builtin_putchar", None)),
+    Names(IsType(b"uint16_t")),
+    Does(Enters),
+    Does(Constant(-7, Gives(Entry::Constant(-7)))),
+    Names(Denotes(b"x", Some(Entry::Constant(-7)))),
+    Does(Constant(8, Refused(131))),
+    Names(Denotes(b"exit", Some(Entry::Library(3)))),
+    Names(IsHere(b"exit", false)),
+    Names(IsNoTag(b"exit")),
+    Does(OpensAgain(b"exit")),
+    Does(Leaves),
+    Names(IsHere(b"exit", true)),
+    Names(IsNoTag(b"exit")),
 ];
 
 static NUMBERS: [Step; 1] = [Step::HasOneNumber];
@@ -169,11 +189,11 @@ static TAGS_AND_LOCALS: [Step; 8] = [
     Step::Tags(TagKind::Struct, None),
     Step::Tags(TagKind::Struct, Some(131)),
     Step::Tags(TagKind::Enum, Some(133)),
-    Step::AddsParameter(Int),
-    Step::CompletesLocal,
-    Is(Denotes(b"x", Some(Entry::Var(0)))),
-    Step::Takes(1),
-    Step::Takes(0),
+    Does(AddsParameter),
+    Does(CompletesLocal),
+    Names(Denotes(b"x", Some(Entry::Var(0)))),
+    Does(Takes(1)),
+    Does(Takes(0)),
 ];
 
 static FILE_SCOPE: [Step; 23] = [
@@ -212,7 +232,7 @@ static FILE_SCOPE: [Step; 23] = [
 static BLOCKS: [Step; 21] = [
     Declares(0, Int, Object, Plain, false, Gives(Entry::Global(0))),
     Declares(2, Call, Fun, Plain, true, Gives(Entry::Fun(0))),
-    Step::Enters,
+    Does(Enters),
     Declares(0, Int, Object, Extern, false, Gives(Entry::Global(0))),
     Declares(0, Int, Object, Plain, false, Refused(131)),
     Declares(1, Open, Object, Extern, false, Gives(Entry::Global(1))),
@@ -227,9 +247,9 @@ static BLOCKS: [Step; 21] = [
     Declares(5, Int, Object, Storage::Typedef, false, Aliases),
     Declares(5, Int, Object, Storage::Typedef, false, Refused(131)),
     Is(Fact::OfLocal(1, Open)),
-    Step::Leaves,
-    Is(Denotes(b"a", Some(Entry::Global(0)))),
-    Is(Denotes(b"b", None)),
+    Does(Leaves),
+    Names(Denotes(b"a", Some(Entry::Global(0)))),
+    Names(Denotes(b"b", None)),
     Is(Fact::IsDefined(1, false)),
 ];
 
@@ -240,15 +260,15 @@ static FILLED: [Step; 8] = [
     Is(Fact::OfObject(0, Char)),
     Step::FillsGlobal,
     Declares(0, Char, Object, Plain, true, Refused(131)),
-    Step::AddsParameter(Int),
+    Does(AddsParameter),
     Step::FillsFunction(5),
 ];
 
 static BRACES: [Step; 4] = [
     Step::Begins(RecordKind::Struct),
     Is(Fact::IsIncomplete),
-    Step::Opens(true),
-    Step::Opens(false),
+    Does(Opens(true)),
+    Does(Opens(false)),
 ];
 
 static MEMBERS: [Step; 5] = [
@@ -264,7 +284,7 @@ static CODES: [Step; 6] = [
     Breaks(6, ALL_FAULTS, 132),
     Breaks(6, NONE_LACKS, 133),
     Breaks(6, TOO_LARGE, 140),
-    Is(Denotes(b"u", None)),
+    Names(Denotes(b"u", None)),
     Declares(
         7,
         Int,
@@ -287,27 +307,20 @@ struct Kinds {
     other: u32,
 }
 
-// Scopes and a program that are begun.
-#[derive(Drop)]
-struct Declaring {
-    scopes: Scopes<'static>,
-    p: Typed,
-}
-
-fn known_kinds(alloc: Global, d: &mut Declaring) -> Result<Kinds, NoMemory> {
-    let int = d.scopes.number_of(&mut d.p, CType::Int(IntKind::I32, 0))?;
-    let char = d.scopes.number_of(&mut d.p, CType::Int(IntKind::U8, 0))?;
+fn known_kinds(alloc: Global, scopes: &mut Scopes, p: &mut Typed) -> Result<Kinds, NoMemory> {
+    let int = scopes.number_of(p, CType::Int(IntKind::I32, 0))?;
+    let char = scopes.number_of(p, CType::Int(IntKind::U8, 0))?;
+    let open = scopes.number_of(p, CType::Array(int, 0))?;
+    let ten = scopes.number_of(p, CType::Array(int, 10))?;
+    let call = scopes.number_of(p, CType::Function(int, none(alloc)))?;
+    let other = scopes.number_of(p, CType::Function(char, none(alloc)))?;
     Ok(Kinds {
         int,
         char,
-        open: d.scopes.number_of(&mut d.p, CType::Array(int, 0))?,
-        ten: d.scopes.number_of(&mut d.p, CType::Array(int, 10))?,
-        call: d
-            .scopes
-            .number_of(&mut d.p, CType::Function(int, none(alloc)))?,
-        other: d
-            .scopes
-            .number_of(&mut d.p, CType::Function(char, none(alloc)))?,
+        open,
+        ten,
+        call,
+        other,
     })
 }
 
@@ -345,15 +358,6 @@ fn answer(name: Decl, given: Given) -> Result<Entry, Refusal> {
     }
 }
 
-fn local(of: u32) -> VarDef {
-    VarDef {
-        name: NAME,
-        pos: PLACE,
-        of,
-        simple: false,
-    }
-}
-
 // The type of a struct or union by the number of its tag, if it is the newest type.
 fn newest(p: &Typed) -> u32 {
     u32::try_from(p.types.as_slice().len())
@@ -361,36 +365,44 @@ fn newest(p: &Typed) -> u32 {
         .saturating_sub(1)
 }
 
-fn is_so(d: &Declaring, k: Kinds, fact: Fact) -> bool {
-    match fact {
-        Denotes(name, entry) => d.scopes.find(name) == entry,
-        Fact::IsType(name) => matches!(d.scopes.find(name), Some(Entry::Typedef(_))),
-        IsHere(name, here) => d.scopes.look_here(name).is_some() == here,
+fn is_named(scopes: &Scopes, naming: Naming) -> bool {
+    match naming {
+        Denotes(name, entry) => scopes.find(name) == entry,
+        IsType(name) => matches!(scopes.find(name), Some(Entry::Typedef(_))),
+        IsHere(name, here) => scopes.look_here(name).is_some() == here,
         IsNoTag(name) => {
-            d.scopes.find_tag(name).is_none()
-                && d.scopes.look_tag(name).is_none()
-                && d.scopes.look_tag_here(name).is_none()
+            scopes.find_tag(name).is_none()
+                && scopes.look_tag(name).is_none()
+                && scopes.look_tag_here(name).is_none()
         }
-        Fact::OfObject(n, of) => d.scopes.type_of_object(&d.p, n) == Some(number_of(k, of)),
-        Fact::OfFunction(n, of) => d.scopes.type_of_function(&d.p, n) == Some(number_of(k, of)),
-        Fact::OfLocal(n, of) => d.scopes.type_of_local(n) == Some(number_of(k, of)),
-        Fact::IsDefined(n, defined) => d.scopes.is_defined(n) == defined,
+    }
+}
+
+fn is_incomplete(scopes: &Scopes, p: &Typed, t: u32) -> bool {
+    scopes.layout(p, t) == Err(LayoutFault::Incomplete) && !scopes.is_complete(p, t)
+}
+
+fn is_one_union(scopes: &Scopes) -> bool {
+    scopes.tag_count() == 1
+        && scopes.kind_of_tag(1).is_none()
+        && matches!(scopes.kind_of_tag(0), Some(RecordKind::Union))
+}
+
+fn is_so(scopes: &Scopes, p: &Typed, k: Kinds, fact: Fact) -> bool {
+    match fact {
+        Fact::OfObject(n, of) => scopes.type_of_object(p, n) == Some(number_of(k, of)),
+        Fact::OfFunction(n, of) => scopes.type_of_function(p, n) == Some(number_of(k, of)),
+        Fact::OfLocal(n, of) => scopes.type_of_local(n) == Some(number_of(k, of)),
+        Fact::IsDefined(n, defined) => scopes.is_defined(n) == defined,
         Fact::Counts(globals, funs) => {
-            d.p.globals.as_slice().len() == globals && d.p.funs.as_slice().len() == funs
+            p.globals.as_slice().len() == globals && p.funs.as_slice().len() == funs
         }
-        Fact::IsIncomplete => {
-            d.scopes.layout(&d.p, newest(&d.p)) == Err(LayoutFault::Incomplete)
-                && !d.scopes.is_complete(&d.p, newest(&d.p))
-        }
-        Fact::HasMembers(count) => match d.scopes.members(&d.p, 0) {
+        Fact::IsIncomplete => is_incomplete(scopes, p, newest(p)),
+        Fact::HasMembers(count) => match scopes.members(p, 0) {
             Some(members) => count == Some(members.len()),
             None => count.is_none(),
         },
-        Fact::IsUnion => {
-            matches!(d.scopes.kind_of_tag(0), Some(RecordKind::Union))
-                && d.scopes.kind_of_tag(1).is_none()
-                && d.scopes.tag_count() == 1
-        }
+        Fact::IsUnion => is_one_union(scopes),
     }
 }
 
@@ -404,87 +416,88 @@ fn opens_again(scopes: &mut Scopes, name: &[u8]) -> bool {
     }
 }
 
-fn is_tag(d: &mut Declaring, kind: TagKind, refused: Option<u16>) -> bool {
+fn is_tag(scopes: &mut Scopes, p: &mut Typed, kind: TagKind, refused: Option<u16>) -> bool {
     let tag = named(NAME.start, 0, DeclKind::Tag(TagKind::Struct), Plain, true);
-    match d.scopes.declare_tag(&mut d.p, kind, tag) {
-        Ok(entry) => refused.is_none() && d.scopes.find_tag(b"x") == Some(entry),
+    match scopes.declare_tag(p, kind, tag) {
+        Ok(entry) => refused.is_none() && scopes.find_tag(b"x") == Some(entry),
         Err(Refusal::Code(code, pos)) => refused == Some(code) && pos == tag.pos,
         Err(Refusal::NoMemory) => false,
     }
 }
 
 // Whether a type has this layout.
-fn is_laid_out(d: &Declaring, t: u32, size: u64, align: u64) -> bool {
-    d.scopes.layout(&d.p, t) == Ok(Layout { size, align })
+fn is_laid_out(scopes: &Scopes, p: &Typed, t: u32, size: u64, align: u64) -> bool {
+    scopes.layout(p, t) == Ok(Layout { size, align })
 }
 
 // Pointers in one another, made by turns in two rows of the same, and arrays and the words `const` around them.
-fn has_one_number(d: &mut Declaring, char: u32) -> Result<bool, NoMemory> {
-    let other = d.scopes.number_of(&mut d.p, CType::Int(IntKind::U8, 1))?;
+fn has_one_number(scopes: &mut Scopes, p: &mut Typed, char: u32) -> Result<bool, NoMemory> {
+    let other = scopes.number_of(p, CType::Int(IntKind::U8, 1))?;
     let mut first = char;
     let mut second = char;
     for _ in 0..100_000 {
-        first = d.scopes.number_of(&mut d.p, CType::Pointer(first))?;
-        second = d.scopes.number_of(&mut d.p, CType::Pointer(second))?;
+        first = scopes.number_of(p, CType::Pointer(first))?;
+        second = scopes.number_of(p, CType::Pointer(second))?;
     }
     let mut array = second;
     for _ in 0..100_000 {
-        array = d.scopes.number_of(&mut d.p, CType::Array(array, 1))?;
-        array = d.scopes.number_of(&mut d.p, CType::Const(array))?;
+        array = scopes.number_of(p, CType::Array(array, 1))?;
+        array = scopes.number_of(p, CType::Const(array))?;
     }
     Ok(
         char != other
             && first == second
-            && is_laid_out(d, first, 16, 16)
-            && is_laid_out(d, array, 16, 16)
-            && d.scopes.is_complete(&d.p, array),
+            && is_laid_out(scopes, p, first, 16, 16)
+            && is_laid_out(scopes, p, array, 16, 16)
+            && scopes.is_complete(p, array),
     )
 }
 
 // A struct or union gets so many members of a type.
 fn complete(
     alloc: Global,
-    d: &mut Declaring,
+    scopes: &mut Scopes,
+    p: &mut Typed,
     tag: u32,
     of: u32,
     times: usize,
 ) -> Result<(), Refusal> {
     let members = vec![in alloc; Member { name: NAME, of }; times]?;
-    d.scopes.complete_tag(&mut d.p, tag, members, PLACE)
+    scopes.complete_tag(p, tag, members, PLACE)
 }
 
 fn is_nested(
     alloc: Global,
-    d: &mut Declaring,
+    scopes: &mut Scopes,
+    p: &mut Typed,
     int: u32,
     (kind, levels, times, size): Nested,
 ) -> Result<bool, Refusal> {
     let mut of = int;
     for _ in 0..levels {
-        let tag = d.scopes.new_tag(&mut d.p, kind)?;
-        let whole = newest(&d.p);
-        d.scopes.begin_tag(tag, PLACE)?;
-        complete(alloc, d, tag, of, times)?;
+        let tag = scopes.new_tag(p, kind)?;
+        let whole = newest(p);
+        scopes.begin_tag(tag, PLACE)?;
+        complete(alloc, scopes, p, tag, of, times)?;
         of = whole;
     }
-    Ok(is_laid_out(d, of, size, 4))
+    Ok(is_laid_out(scopes, p, of, size, 4))
 }
 
-fn is_global_filled(alloc: Global, d: &mut Declaring) -> bool {
+fn is_global_filled(alloc: Global, scopes: &mut Scopes, p: &mut Typed) -> bool {
     match Vec::from_slice(alloc, &[7]) {
         Ok(sevens) => {
-            d.scopes.fill_global(&mut d.p, 0, sevens, Vec::new(alloc));
+            scopes.fill_global(p, 0, sevens, Vec::new(alloc));
             true
         }
         Err(_) => false,
     }
 }
 
-fn is_function_filled(alloc: Global, d: &mut Declaring, body: u32) -> bool {
-    let locals = d.scopes.take_locals();
-    d.scopes
-        .fill_function(&mut d.p, 0, Vec::new(alloc), locals, body);
-    matches!(d.p.funs.as_slice(), [f] if f.body == body)
+fn is_function_filled(alloc: Global, scopes: &mut Scopes, p: &mut Typed, body: u32) -> bool {
+    let locals = scopes.take_locals();
+    scopes.fill_function(p, 0, Vec::new(alloc), locals, body);
+    matches!(p.funs.as_slice(), [f] if f.body == body)
 }
 
 fn is_constant(scopes: &mut Scopes, value: i32, given: Given) -> bool {
@@ -492,85 +505,103 @@ fn is_constant(scopes: &mut Scopes, value: i32, given: Given) -> bool {
     scopes.declare_constant(name, value) == answer(name, given)
 }
 
-fn is_declared(d: &mut Declaring, name: Decl, given: Given) -> bool {
-    d.scopes.declare(&mut d.p, name) == answer(name, given)
+fn is_broken(scopes: &mut Scopes, p: &mut Typed, at: u32, faults: Faults, code: u16) -> bool {
+    let mut object = named(at, 0, Object, Plain, false);
+    object.faults = faults;
+    is_declared(scopes, p, object, Refused(code))
 }
 
-// One function asks all.
-fn is_met(alloc: Global, d: &mut Declaring, k: Kinds, step: Step) -> bool {
+fn is_declared(scopes: &mut Scopes, p: &mut Typed, name: Decl, given: Given) -> bool {
+    scopes.declare(p, name) == answer(name, given)
+}
+
+fn is_met_by_scopes(scopes: &mut Scopes, step: Scoping) -> bool {
     match step {
-        Is(fact) => is_so(d, k, fact),
-        Step::Leaves => {
-            d.scopes.leave();
+        Leaves => {
+            scopes.leave();
             true
         }
-        Step::Enters => d.scopes.enter().is_ok(),
-        Step::OpensAgain(name) => opens_again(&mut d.scopes, name),
-        Step::Constant(value, given) => is_constant(&mut d.scopes, value, given),
-        Declares(at, of, what, storage, defines, given) => {
-            let name = named(at, number_of(k, of), what, storage, defines);
-            is_declared(d, name, given)
-        }
-        Breaks(at, faults, code) => {
-            let mut object = named(at, 0, Object, Plain, false);
-            object.faults = faults;
-            is_declared(d, object, Refused(code))
-        }
-        Step::Tags(kind, refused) => is_tag(d, kind, refused),
-        Step::Begins(kind) => d.scopes.new_tag(&mut d.p, kind).is_ok(),
-        Step::Opens(opens) => d.scopes.begin_tag(0, PLACE).is_ok() == opens,
-        Step::Completes(of) => complete(alloc, d, 0, number_of(k, of), 1).is_ok(),
-        Step::AddsParameter(of) => d.scopes.add_parameter(local(number_of(k, of))).is_ok(),
-        Step::CompletesLocal => d.scopes.complete_local(0, 1, NAME).is_ok(),
-        Step::Takes(count) => d.scopes.take_locals().len() == count,
-        Step::CompletesGlobal(of) => {
-            d.scopes.complete_global(&mut d.p, 0, number_of(k, of));
-            true
-        }
-        Step::FillsFunction(body) => is_function_filled(alloc, d, body),
-        Step::FillsGlobal => is_global_filled(alloc, d),
-        Step::HasOneNumber => has_one_number(d, k.char).unwrap_or(false),
-        Step::Nests(row) => is_nested(alloc, d, k.int, row) == Ok(true),
+        Enters => scopes.enter().is_ok(),
+        OpensAgain(name) => opens_again(scopes, name),
+        Constant(value, given) => is_constant(scopes, value, given),
+        Opens(opens) => scopes.begin_tag(0, PLACE).is_ok() == opens,
+        AddsParameter => scopes.add_parameter(PARAMETER).is_ok(),
+        CompletesLocal => scopes.complete_local(0, 1, NAME).is_ok(),
+        Takes(count) => scopes.take_locals().len() == count,
     }
 }
 
-fn are_met(alloc: Global, d: &mut Declaring, steps: &[Step]) -> bool {
-    let Ok(k) = known_kinds(alloc, d) else {
+// One function asks all.
+fn is_met(alloc: Global, scopes: &mut Scopes, p: &mut Typed, k: Kinds, step: Step) -> bool {
+    match step {
+        Names(naming) => is_named(scopes, naming),
+        Is(fact) => is_so(scopes, p, k, fact),
+        Does(step) => is_met_by_scopes(scopes, step),
+        Declares(at, of, what, storage, defines, given) => {
+            let name = named(at, number_of(k, of), what, storage, defines);
+            is_declared(scopes, p, name, given)
+        }
+        Breaks(at, faults, code) => is_broken(scopes, p, at, faults, code),
+        Step::Tags(kind, refused) => is_tag(scopes, p, kind, refused),
+        Step::Begins(kind) => scopes.new_tag(p, kind).is_ok(),
+        Step::Completes(of) => complete(alloc, scopes, p, 0, number_of(k, of), 1).is_ok(),
+        Step::CompletesGlobal(of) => {
+            scopes.complete_global(p, 0, number_of(k, of));
+            true
+        }
+        Step::FillsFunction(body) => is_function_filled(alloc, scopes, p, body),
+        Step::FillsGlobal => is_global_filled(alloc, scopes, p),
+        Step::HasOneNumber => has_one_number(scopes, p, k.char) == Ok(true),
+        Step::Nests(row) => is_nested(alloc, scopes, p, k.int, row) == Ok(true),
+    }
+}
+
+fn are_met(alloc: Global, scopes: &mut Scopes, p: &mut Typed, steps: &[Step]) -> bool {
+    let Ok(k) = known_kinds(alloc, scopes, p) else {
         return false;
     };
     for step in steps {
-        if !is_met(alloc, d, k, *step) {
+        if !is_met(alloc, scopes, p, k, *step) {
             return false;
         }
     }
     true
 }
 
-// One function owns what is asked: each that owns it takes a proof long.
-fn holds(alloc: Global, steps: &[Step]) -> bool {
-    let mut p = with_types(alloc, Vec::new(alloc));
-    match Scopes::new(alloc, &mut p, NAMES) {
-        Ok(scopes) => are_met(alloc, &mut Declaring { scopes, p }, steps),
-        Err(_) => false,
+// The tables of steps: each is asked of scopes and a program of its own.
+#[derive(Clone, Copy)]
+pub(crate) enum Table {
+    Numbers,
+    Records,
+    Known,
+    Braces,
+    TagsAndLocals,
+    FileScope,
+    Blocks,
+    Filled,
+    Members,
+    Codes,
+}
+
+fn steps_of(table: Table) -> &'static [Step] {
+    match table {
+        Table::Numbers => &NUMBERS,
+        Table::Records => &RECORDS,
+        Table::Known => &KNOWN,
+        Table::Braces => &BRACES,
+        Table::TagsAndLocals => &TAGS_AND_LOCALS,
+        Table::FileScope => &FILE_SCOPE,
+        Table::Blocks => &BLOCKS,
+        Table::Filled => &FILLED,
+        Table::Members => &MEMBERS,
+        Table::Codes => &CODES,
     }
 }
 
-// Each table is asked of scopes and a program of its own.
-#[test]
-fn types_have_numbers_and_layouts(rt: HostRuntime) {
-    assert!(rt; holds(rt.alloc(), &NUMBERS));
-    assert!(rt; holds(rt.alloc(), &RECORDS));
-}
-
-#[test]
-fn names_and_declarations_answer(rt: HostRuntime) {
-    let alloc = rt.alloc();
-    assert!(rt; holds(alloc, &KNOWN));
-    assert!(rt; holds(alloc, &BRACES));
-    assert!(rt; holds(alloc, &TAGS_AND_LOCALS));
-    assert!(rt; holds(alloc, &FILE_SCOPE));
-    assert!(rt; holds(alloc, &BLOCKS));
-    assert!(rt; holds(alloc, &FILLED));
-    assert!(rt; holds(alloc, &MEMBERS));
-    assert!(rt; holds(alloc, &CODES));
+// Whether the steps are met by scopes and a program without anything.
+pub(crate) fn are_declared(alloc: Global, p: &mut Typed, table: Table) -> bool {
+    match Scopes::new(alloc, p, NAMES) {
+        Ok(mut scopes) => are_met(alloc, &mut scopes, p, steps_of(table)),
+        Err(_) => false,
+    }
 }

@@ -29,8 +29,7 @@ fn has_bytes(alloc: Global, end: u128, length: usize, bytes: &[u8]) -> bool {
 }
 
 // The bytes end at the last that is not zero, or with the last pointer.
-#[test]
-fn bytes_end_at_the_last_that_is_not_zero(rt: HostRuntime) {
-    assert!(rt; has_bytes(rt.alloc(), 0, 8, &[1, 0, 0, 0, 254, 255, 255, 255]));
-    assert!(rt; has_bytes(rt.alloc(), 16, 16, &[1, 0, 0, 0, 254, 255, 255, 255]));
+pub(crate) fn end_at_the_last_that_is_not_zero(alloc: Global) -> bool {
+    has_bytes(alloc, 0, 8, &[1, 0, 0, 0, 254, 255, 255, 255])
+        && has_bytes(alloc, 16, 16, &[1, 0, 0, 0, 254, 255, 255, 255])
 }

@@ -2,10 +2,11 @@
 ghost use Rattle.std.specs.Prelude.{◌<◌, length};
 ghost use Rattle.cap_layout.specs.Kept.{AreLayoutsOf};
 
-use crate::given::{none, with_types};
+use crate::given::none;
+use c_interner::append;
 use c_tree::{CType, Expr, ExprKind, FunDef, Member, Stmt, StmtKind, Typed, VarDef};
 use cap_layout::{Layout, LayoutFault, Layouts, copies, granules, layout, offset_of, owned};
-use ck_base::{Pos, Sequence, Span};
+use ck_base::{NoMemory, Pos, Sequence, Span};
 use ck_int::IntKind;
 use std::alloc::{AllocError, Global};
 
@@ -83,12 +84,12 @@ const TYPES: [Kind; 26] = [
     Kind::Union(&[4, 22]),
 ];
 
-fn types(alloc: Global) -> Result<Vec<CType>, AllocError> {
-    let mut types = Vec::new(alloc);
+fn add_types(alloc: Global, p: &mut Typed) -> Result<(), NoMemory> {
     for kind in &TYPES {
-        types.push(type_of(alloc, *kind)?)?;
+        let added = type_of(alloc, *kind)?;
+        append(alloc, &mut p.types, added)?;
     }
-    Ok(types)
+    Ok(())
 }
 
 fn variable(of: u32, simple: bool) -> VarDef {
@@ -100,62 +101,47 @@ fn variable(of: u32, simple: bool) -> VarDef {
     }
 }
 
-fn functions(alloc: Global) -> Result<Vec<FunDef>, AllocError> {
-    let mut functions = Vec::new(alloc);
-    for _ in 0..2 {
-        let vars = vec![in alloc; variable(5, false), variable(0, false), variable(2, true)]?;
-        functions.push(FunDef {
-            name: NAME,
-            pos: PLACE,
-            of: 21,
-            params: none(alloc),
-            vars: Sequence::from_vec(vars),
-            body: 0,
-        })?;
-    }
-    Ok(functions)
+fn function(alloc: Global) -> Result<FunDef, AllocError> {
+    let vars = vec![in alloc; variable(5, false), variable(0, false), variable(2, true)]?;
+    Ok(FunDef {
+        name: NAME,
+        pos: PLACE,
+        of: 21,
+        params: none(alloc),
+        vars: Sequence::from_vec(vars),
+        body: 0,
+    })
 }
 
-fn expression(kind: ExprKind, of: u32) -> Expr {
-    Expr {
-        kind,
-        of,
-        pos: PLACE,
+fn add_functions(alloc: Global, p: &mut Typed) -> Result<(), NoMemory> {
+    for _ in 0..2 {
+        let added = function(alloc)?;
+        append(alloc, &mut p.funs, added)?;
     }
+    Ok(())
+}
+
+fn add_expression(alloc: Global, p: &mut Typed, kind: ExprKind, of: u32) -> Result<(), NoMemory> {
+    let pos = PLACE;
+    append(alloc, &mut p.exprs, Expr { kind, of, pos })
 }
 
 // A read, assignments of values of two structs and of an integer, and conditional expressions that choose a struct and
-// an integer.
-fn expressions(alloc: Global) -> Result<Vec<Expr>, AllocError> {
-    let mut expressions = vec![in alloc; expression(ExprKind::Load(0), 10)]?;
-    for of in &[10, 8, 2] {
-        expressions.push(expression(ExprKind::Assign(0, 0), *of))?;
+// an integer; and an initialiser.
+fn add_body(alloc: Global, p: &mut Typed) -> Result<(), NoMemory> {
+    add_expression(alloc, p, ExprKind::Load(0), 10)?;
+    for of in [10, 8, 2] {
+        add_expression(alloc, p, ExprKind::Assign(0, 0), of)?;
     }
-    for of in &[10, 2] {
-        expressions.push(expression(ExprKind::Conditional(0, 0, 0), *of))?;
+    for of in [10, 2] {
+        add_expression(alloc, p, ExprKind::Conditional(0, 0, 0), of)?;
     }
-    Ok(expressions)
-}
-
-fn statements(alloc: Global) -> Result<Vec<Stmt>, AllocError> {
     let kind = StmtKind::Init {
         var: 0,
         offset: 0,
         value: 0,
     };
-    Ok(vec![in alloc; Stmt { kind, pos: PLACE }]?)
-}
-
-fn program(alloc: Global) -> Result<Typed, AllocError> {
-    Ok(Typed {
-        types: Sequence::from_vec(types(alloc)?),
-        globals: none(alloc),
-        literals: none(alloc),
-        funs: Sequence::from_vec(functions(alloc)?),
-        exprs: Sequence::from_vec(expressions(alloc)?),
-        stmts: Sequence::from_vec(statements(alloc)?),
-        main: 0,
-    })
+    append(alloc, &mut p.stmts, Stmt { kind, pos: PLACE })
 }
 
 // Where a member of a struct begins, if there is such a member.
@@ -186,11 +172,13 @@ fn is_owned(&(n, length, align): &(u64, u64, u64)) -> bool {
     n <= 67_108_864 && owned(n).length == length && owned(n).align == align
 }
 
-#[test]
-fn lengths_are_owned(rt: HostRuntime) {
+pub(crate) fn are_owned() -> bool {
     for row in &OWNED {
-        assert!(rt; is_owned(row), "{row:?}");
+        if !is_owned(row) {
+            return false;
+        }
     }
+    true
 }
 
 const LAYOUTS: [(u32, u64, u64); 16] = [
@@ -277,16 +265,17 @@ fn have_offsets(p: &Typed) -> bool {
     true
 }
 
-#[test]
-fn types_have_layouts_and_members_have_offsets(rt: HostRuntime) {
-    let p = program(rt.alloc()).expect(&rt, "a program");
-    assert!(rt; are_kept(rt.alloc(), &p).unwrap_or(false));
-    assert!(rt; have_offsets(&p));
+// Whether the types have layouts, which are kept and counted, and their members have offsets.
+pub(crate) fn are_known(alloc: Global, p: &mut Typed) -> Result<bool, NoMemory> {
+    add_types(alloc, p)?;
+    add_functions(alloc, p)?;
+    add_body(alloc, p)?;
+    Ok(are_kept(alloc, p)? && have_offsets(p))
 }
 
 // How each type is made of the one before.
 #[derive(Clone, Copy)]
-enum Nesting {
+pub(crate) enum Nesting {
     // Arrays and the words `const`, by turns.
     Arrays,
     // Structs of one member.
@@ -304,33 +293,49 @@ fn nested(alloc: Global, how: Nesting, of: u32) -> Result<CType, AllocError> {
     })
 }
 
-// So many types in one another, from `int` on.
-fn deep(alloc: Global, how: Nesting, levels: u32) -> Result<Vec<CType>, AllocError> {
-    let mut types = vec![in alloc; CType::Int(IntKind::I32, 0)]?;
-    for of in 0..levels {
-        types.push(nested(alloc, how, of)?)?;
-    }
-    Ok(types)
-}
-
-// Whether the last of so many types in one another has the layout of an `int`, which is kept or is not.
-fn is_int(alloc: Global, how: Nesting, levels: u32, kept: bool) -> Result<bool, AllocError> {
-    let p = with_types(alloc, deep(alloc, how, levels)?);
-    let found = if kept {
-        Layouts::new(alloc, &p)?.layout(&p, levels)
-    } else {
-        layout(&p, levels)
-    };
-    Ok(is_layout(found, 4, 4))
-}
+// How types are in one another, how many of them, and whether the layouts are kept.
+pub(crate) type Nested = (Nesting, u32, bool);
 
 // Arrays and the words `const` in one another take no stack; structs in one another take some. Kept layouts take none,
 // and no more time where a type stands twice in the one around it.
-#[test]
-fn deep_types_have_layouts(rt: HostRuntime) {
-    let alloc = rt.alloc();
-    assert!(rt; is_int(alloc, Nesting::Arrays, 100_000, false).unwrap_or(false));
-    assert!(rt; is_int(alloc, Nesting::Structs, 1_000, false).unwrap_or(false));
-    assert!(rt; is_int(alloc, Nesting::Structs, 50_000, true).unwrap_or(false));
-    assert!(rt; is_int(alloc, Nesting::Unions, 50_000, true).unwrap_or(false));
+pub(crate) const ARRAYS: Nested = (Nesting::Arrays, 100_000, false);
+
+pub(crate) const STRUCTS: Nested = (Nesting::Structs, 1_000, false);
+
+pub(crate) const KEPT_STRUCTS: Nested = (Nesting::Structs, 50_000, true);
+
+pub(crate) const KEPT_UNIONS: Nested = (Nesting::Unions, 50_000, true);
+
+// So many types in one another, from `int` on.
+fn add_nested(alloc: Global, p: &mut Typed, how: Nesting, levels: u32) -> Result<(), NoMemory> {
+    append(alloc, &mut p.types, CType::Int(IntKind::I32, 0))?;
+    for of in 0..levels {
+        let added = nested(alloc, how, of)?;
+        append(alloc, &mut p.types, added)?;
+    }
+    Ok(())
+}
+
+fn kept_layout(
+    alloc: Global,
+    p: &Typed,
+    t: u32,
+) -> Result<Result<Layout, LayoutFault>, AllocError> {
+    let layouts = Layouts::new(alloc, p)?;
+    Ok(layouts.layout(p, t))
+}
+
+// Whether the last of so many types in one another has the layout of an `int`.
+pub(crate) fn are_nested(
+    alloc: Global,
+    p: &mut Typed,
+    (how, levels, kept): Nested,
+) -> Result<bool, NoMemory> {
+    add_nested(alloc, p, how, levels)?;
+    let found = if kept {
+        kept_layout(alloc, p, levels)?
+    } else {
+        layout(p, levels)
+    };
+    Ok(is_layout(found, 4, 4))
 }

@@ -21,4 +21,6 @@ mod maps;
 #[cfg(test)]
 mod parsing;
 #[cfg(test)]
+mod programs;
+#[cfg(test)]
 mod tokens;

@@ -2,14 +2,14 @@
 ghost use Rattle.std.specs.Prelude.{◌≡◌, true, length};
 ghost use Rattle.bounds_place.specs.Sizes.{in_range};
 
-use crate::given::{got, none};
+use crate::given::none;
 use bounds_place::{Sizes, USUAL, is_heap, is_stack, place};
+use c_interner::{append, next_number};
 use c_tree::{CType, FunDef, GlobalDef, Literal, Typed, VarDef};
-use ck_base::{Pos, Refusal, Sequence, Span};
+use ck_base::{NoMemory, Pos, Refusal, Sequence, Span};
 use ck_int::IntKind;
 use obj_mem::{Frame, Map, Slot};
 use std::alloc::{AllocError, Global};
-use std::process::Abort;
 
 const PLACE: Pos = Pos { line: 7, col: 5 };
 
@@ -43,55 +43,31 @@ fn function(alloc: Global) -> Result<FunDef, AllocError> {
     })
 }
 
-fn functions(rt: &impl Abort, alloc: Global) -> Vec<FunDef>
-    ensures { length result.items ≡ 1 }
-{
-    match vec![in alloc; got(rt, function(alloc))] {
-        Ok(functions) => functions,
-        Err(_) => panic!(rt; "no memory"),
-    }
-}
-
-// `unsigned char`, and arrays of it: of `local` bytes, and of these lengths.
-fn types(alloc: Global, lengths: &[u64], local: u64) -> Result<Vec<CType>, AllocError> {
-    let mut types = vec![in alloc; CType::Int(IntKind::U8, 0), CType::Array(0, local)]?;
-    for length in lengths {
-        types.push(CType::Array(0, *length))?;
-    }
-    Ok(types)
-}
-
-fn globals(alloc: Global, lengths: &[u64]) -> Result<Vec<GlobalDef>, AllocError> {
-    let mut globals = Vec::new(alloc);
-    for (of, _) in (2..).zip(lengths) {
-        globals.push(global(alloc, of))?;
-    }
-    Ok(globals)
-}
-
-fn literals(alloc: Global) -> Result<Vec<Literal>, AllocError> {
-    let bytes = vec![in alloc; 97, 0]?;
-    let literal = Literal {
+fn literal(alloc: Global) -> Result<Literal, AllocError> {
+    let bytes = Vec::from_slice(alloc, b"a\0")?;
+    Ok(Literal {
         pos: PLACE,
         bytes: Sequence::from_vec(bytes),
-    };
-    Ok(vec![in alloc; literal]?)
+    })
 }
 
-// A program whose globals are arrays of these lengths, with one literal, and with one function that has an array of
-// `local` bytes.
-fn program(rt: &impl Abort, alloc: Global, lengths: &[u64], local: u64) -> Typed
-    ensures { length result.funs ≡ 1 }
-{
-    Typed {
-        types: Sequence::from_vec(got(rt, types(alloc, lengths, local))),
-        globals: Sequence::from_vec(got(rt, globals(alloc, lengths))),
-        literals: Sequence::from_vec(got(rt, literals(alloc))),
-        funs: Sequence::from_vec(functions(rt, alloc)),
-        exprs: none(alloc),
-        stmts: none(alloc),
-        main: 0,
+// Globals that are arrays of `unsigned char` of these lengths.
+fn add_globals(alloc: Global, p: &mut Typed, lengths: &[u64]) -> Result<(), NoMemory> {
+    for length in lengths {
+        let of = next_number(p.types.as_slice())?;
+        append(alloc, &mut p.types, CType::Array(0, *length))?;
+        append(alloc, &mut p.globals, global(alloc, of))?;
     }
+    Ok(())
+}
+
+// These globals, one literal, and one function that has an array of `local` bytes.
+fn fill(alloc: Global, p: &mut Typed, lengths: &[u64], local: u64) -> Result<(), NoMemory> {
+    append(alloc, &mut p.types, CType::Int(IntKind::U8, 0))?;
+    append(alloc, &mut p.types, CType::Array(0, local))?;
+    add_globals(alloc, p, lengths)?;
+    append(alloc, &mut p.literals, literal(alloc)?)?;
+    append(alloc, &mut p.funs, function(alloc)?)
 }
 
 fn frames(alloc: Global) -> Result<Vec<Frame>, AllocError> {
@@ -110,77 +86,111 @@ fn frames(alloc: Global) -> Result<Vec<Frame>, AllocError> {
     Ok(vec![in alloc; frame]?)
 }
 
+// The map of a program with one function, whose text of 64 bytes has that function at the third word.
 #[tactic(auto, using(cap_concentrate::proofs::Laws::owned_short))]
-fn map(
-    rt: &impl Abort,
-    alloc: Global,
-    lengths: &[u64],
-    local: u64,
-    sizes: Sizes,
-) -> Result<Map, Refusal>
-    requires { in_range sizes ≡ true }
+fn map_of(alloc: Global, p: &Typed, sizes: Sizes) -> Result<Map, Refusal>
+    requires one { length p.now.funs ≡ 1 }
+    requires sizes { in_range sizes ≡ true }
 {
-    let p = program(rt, alloc, lengths, local);
-    let frames = got(rt, frames(alloc));
-    match vec![in alloc; 8] {
-        Ok(entries) => place(alloc, &p, &frames, &entries, 64, sizes),
-        Err(_) => panic!(rt; "no memory"),
+    let frames = frames(alloc)?;
+    let entries = Vec::from_slice(alloc, &[8])?;
+    place(alloc, p, &frames, &entries, 64, sizes)
+}
+
+// What is said of a program's map.
+#[derive(Clone, Copy)]
+pub(crate) enum Said {
+    // The objects exceed the limit.
+    Refused,
+    Fits,
+    // Three globals and the literal stand behind the table.
+    Begins([u64; 3], u64),
+    // The heap, and the stack behind it, by their lengths.
+    Heap((u64, u64), (u64, u64)),
+}
+
+use Said::{Begins, Fits, Heap, Refused};
+
+fn begins(m: &Map, globals: &[u64], literal: u64) -> bool {
+    m.text == (1_073_741_824, 64)
+        && m.table == (4_294_967_296, 112)
+        && m.entries.as_slice() == &[1_073_741_832][..]
+        && m.globals.as_slice() == globals
+        && m.literals.as_slice() == &[literal][..]
+        && m.frames.as_slice().len() == 1
+}
+
+fn is_so(m: &Map, said: Said) -> bool {
+    match said {
+        Refused => false,
+        Fits => true,
+        Begins(globals, literal) => begins(m, &globals, literal),
+        Heap(heap, stack) => m.heap == heap && m.stack == stack,
     }
 }
 
-#[test]
-fn objects_stand_behind_the_table(rt: HostRuntime) {
-    let m = got(
-        &rt,
-        map(&rt, rt.alloc(), &[4095, 4097, 100_000], 4097, USUAL),
-    );
-    let globals = [4_294_967_408, 4_294_971_504, 4_294_975_616];
-    assert!(rt; m.text == (1_073_741_824, 64));
-    assert!(rt; m.table == (4_294_967_296, 112));
-    assert!(rt; m.entries.as_slice() == &[1_073_741_832][..]);
-    assert!(rt; m.globals.as_slice() == &globals[..]);
-    assert!(rt; m.literals.as_slice() == &[4_295_075_712][..]);
-    assert!(rt; m.frames.as_slice().len() == 1);
-}
+// Lengths of globals and that of a local, the lengths of heap and stack, and what is said of the map.
+pub(crate) type Placed = (&'static [u64], u64, Sizes, Said);
 
-/// The heap, and the stack behind it, by their lengths.
-const SIZES: [(Sizes, (u64, u64), (u64, u64)); 3] = [
-    (USUAL, (16_777_216, 16_777_216), (33_554_432, 1_048_576)),
+// The globals of the first row with a limit take exactly 67,108,864 bytes with the literal of two, and those of the
+// second one byte more.
+pub(crate) static PLACED: [Placed; 11] = [
     (
+        &[4095, 4097, 100_000],
+        4097,
+        USUAL,
+        Begins([4_294_967_408, 4_294_971_504, 4_294_975_616], 4_295_075_712),
+    ),
+    (
+        &[4095],
+        4097,
+        USUAL,
+        Heap((16_777_216, 16_777_216), (33_554_432, 1_048_576)),
+    ),
+    (
+        &[4095],
+        4097,
         Sizes {
             heap: 67_108_864,
             stack: 33_554_432,
         },
-        (16_777_216, 67_108_864),
-        (83_886_080, 33_554_432),
+        Heap((16_777_216, 67_108_864), (83_886_080, 33_554_432)),
     ),
     (
+        &[4095],
+        4097,
         Sizes {
             heap: 16_842_752,
             stack: 65_536,
         },
-        (16_777_216, 16_842_752),
-        (33_619_968, 65_536),
+        Heap((16_777_216, 16_842_752), (33_619_968, 65_536)),
     ),
+    (&[40_000_000, 26_935_296, 28_672, 4_030], 1, USUAL, Fits),
+    (&[40_000_000, 26_935_296, 28_672, 4_031], 1, USUAL, Refused),
+    (&[40_000_000, 26_000_000], 1, USUAL, Fits),
+    (&[40_000_000, 40_000_000], 1, USUAL, Refused),
+    (&[67_043_328, 1], 1, USUAL, Refused),
+    (&[1, 1], 67_043_328, USUAL, Fits),
+    (&[1, 1], 67_043_329, USUAL, Refused),
 ];
 
-fn assert_sizes(rt: &impl Abort, alloc: Global, sizes: Sizes, heap: (u64, u64), stack: (u64, u64))
-    requires { in_range sizes ≡ true }
-{
-    let m = got(rt, map(rt, alloc, &[4095], 4097, sizes));
-    assert!(rt; m.heap == heap);
-    assert!(rt; m.stack == stack);
+fn is_mapped(alloc: Global, p: &Typed, sizes: Sizes, said: Said) -> bool {
+    if p.funs.as_slice().len() != 1 || !sizes.in_range() {
+        return false;
+    }
+    match map_of(alloc, p, sizes) {
+        Ok(m) => is_so(&m, said),
+        Err(Refusal::Code(141, Pos { line: 1, col: 1 })) => matches!(said, Refused),
+        Err(_) => false,
+    }
 }
 
-#[test]
-fn heap_and_stack_have_their_sizes(rt: HostRuntime) {
-    for &(sizes, heap, stack) in &SIZES {
-        if sizes.in_range() {
-            assert_sizes(&rt, rt.alloc(), sizes, heap, stack);
-        } else {
-            panic!(rt; "sizes out of range");
-        }
-    }
+pub(crate) fn is_placed(
+    alloc: Global,
+    p: &mut Typed,
+    &(lengths, local, sizes, said): &Placed,
+) -> bool {
+    fill(alloc, p, lengths, local).is_ok() && is_mapped(alloc, p, sizes, said)
 }
 
 /// Lengths, with whether a heap and whether a stack may have them.
@@ -196,48 +206,11 @@ const LENGTHS: [(u64, bool, bool); 9] = [
     (67_174_400, false, false),
 ];
 
-#[test]
-fn lengths_are_multiples_in_a_range(rt: HostRuntime) {
+pub(crate) fn are_lengths() -> bool {
     for &(n, heap, stack) in &LENGTHS {
-        assert!(rt; is_heap(n) == heap && is_stack(n) == stack, "{n}");
+        if is_heap(n) != heap || is_stack(n) != stack {
+            return false;
+        }
     }
-}
-
-// How a program with globals of these lengths and a local of that length is refused.
-#[tactic(auto, using(cap_concentrate::proofs::Laws::owned_short))]
-fn refusal(rt: &impl Abort, alloc: Global, lengths: &[u64], local: u64) -> Option<Refusal> {
-    let p = program(rt, alloc, lengths, local);
-    let frames = got(rt, frames(alloc));
-    match vec![in alloc; 0] {
-        Ok(entries) => place(alloc, &p, &frames, &entries, 16, USUAL).err(),
-        Err(_) => panic!(rt; "no memory"),
-    }
-}
-
-fn wanted(fits: bool) -> Option<Refusal> {
-    if fits {
-        None
-    } else {
-        Some(Refusal::Code(141, Pos { line: 1, col: 1 }))
-    }
-}
-
-// Lengths of globals and that of a local, and whether they are within the limit. The globals of the first row take
-// exactly 67,108,864 bytes with the literal of two, and those of the second one byte more.
-static LIMITS: [(&[u64], u64, bool); 7] = [
-    (&[40_000_000, 26_935_296, 28_672, 4_030], 1, true),
-    (&[40_000_000, 26_935_296, 28_672, 4_031], 1, false),
-    (&[40_000_000, 26_000_000], 1, true),
-    (&[40_000_000, 40_000_000], 1, false),
-    (&[67_043_328, 1], 1, false),
-    (&[1, 1], 67_043_328, true),
-    (&[1, 1], 67_043_329, false),
-];
-
-#[test]
-fn the_limit_is_kept(rt: HostRuntime) {
-    for &(lengths, local, fits) in &LIMITS {
-        let found = refusal(&rt, rt.alloc(), lengths, local);
-        assert!(rt; found == wanted(fits), "of {lengths:?} and {local}");
-    }
+    true
 }

@@ -1,189 +1,259 @@
 // Files and literals with what the standard says of them.
 
-// A file, and its tokens, each with its kind, position and spelling, and how it ends.
-pub static READINGS: [(&str, &str); 33] = [
-    ("", "end"),
-    (" \t\r\n\x0b\x0c", "end"),
-    ("int\n  x;\n", "Word 1:1 int, Word 2:3 x, Punct 2:4 ;, end"),
-    ("\tx\r\ny", "Word 1:2 x, Word 2:1 y, end"),
-    ("_a1 A_ $", "Word 1:1 _a1, Word 1:5 A_, 100 1:8"),
-    // The longest token is taken.
-    (
-        "a+++b",
-        "Word 1:1 a, Punct 1:2 ++, Punct 1:4 +, Word 1:5 b, end",
-    ),
-    (
-        "a>>>=b",
-        "Word 1:1 a, Punct 1:2 >>, Punct 1:4 >=, Word 1:6 b, end",
-    ),
-    (
-        "a>>=b<<=c",
-        "Word 1:1 a, Punct 1:2 >>=, Word 1:5 b, Punct 1:6 <<=, Word 1:9 c, end",
-    ),
-    (
-        "a->b.c",
-        "Word 1:1 a, Punct 1:2 ->, Word 1:4 b, Punct 1:5 ., Word 1:6 c, end",
-    ),
-    (
-        "a..b",
-        "Word 1:1 a, Punct 1:2 ., Punct 1:3 ., Word 1:4 b, end",
-    ),
-    (
-        "<::>",
-        "Punct 1:1 <, Punct 1:2 :, Punct 1:3 :, Punct 1:4 >, end",
-    ),
-    ("x1 0x1u;", "Word 1:1 x1, Number 1:4 0x1u, Punct 1:8 ;, end"),
-    ("L'a'", "Word 1:1 L, Char 1:2 'a', end"),
-    ("'\\'' '\"'", "Char 1:1 '\\'', Char 1:6 '\"', end"),
-    (
-        "\"\"\"a\\\"b\"'c'",
-        "Text 1:1 \"\", Text 1:3 \"a\\\"b\", Char 1:9 'c', end",
-    ),
-    // Comments separate tokens.
-    ("a/*b*/c", "Word 1:1 a, Word 1:7 c, end"),
-    ("a//b*/\nc", "Word 1:1 a, Word 2:1 c, end"),
-    ("/*/ */x/***/y", "Word 1:7 x, Word 1:13 y, end"),
-    ("/*\n*/x //", "Word 2:3 x, end"),
-    (
-        "a/ *b",
-        "Word 1:1 a, Punct 1:2 /, Punct 1:4 *, Word 1:5 b, end",
-    ),
-    ("a/=/**/b", "Word 1:1 a, Punct 1:2 /=, Word 1:8 b, end"),
-    ("\"/*\"", "Text 1:1 \"/*\", end"),
-    // Directive lines are skipped at the beginning of a line, behind spaces and tabs.
-    ("# 1 \"a.c\" 2\nx", "Word 2:1 x, end"),
-    (" \t#\tline 7\nx\n#12", "Word 2:1 x, end"),
-    ("# 1.5\nx", "Word 2:1 x, end"),
-    (
-        "#pragma once /*\nx*/\n#pragma packed\r\n#pragma",
-        "Word 2:1 x, Punct 2:2 *, Punct 2:3 /, end",
-    ),
-    ("/*\n*/ # 1\n", "100 2:4"),
-    ("x # 1\n", "Word 1:1 x, 100 1:3"),
-    ("\x0c#line 1\n", "100 1:2"),
-    ("#define A\n", "100 1:1"),
-    ("# 1a\n", "100 1:1"),
-    ("#\nline 1", "100 1:1"),
-    ("##", "100 1:1"),
-];
+// The tokens of a file, each with its kind, position and spelling, and how it ends, or behind `..` its end alone; and
+// the file from the next line on, each byte as the character of its number. A line `----` ends a row.
+pub static LISTINGS: &str = "\
+end
+
+----
+end
+ \t\r
+\x0b\x0c
+----
+Word 1:1 int, Word 2:3 x, Punct 2:4 ;, end
+int
+  x;
+
+----
+Word 1:2 x, Word 2:1 y, end
+\tx\r
+y
+----
+Word 1:1 _a1, Word 1:5 A_, 100 1:8
+_a1 A_ $
+----
+// The longest token is taken.
+----
+Word 1:1 a, Punct 1:2 ++, Punct 1:4 +, Word 1:5 b, end
+a+++b
+----
+Word 1:1 a, Punct 1:2 >>, Punct 1:4 >=, Word 1:6 b, end
+a>>>=b
+----
+Word 1:1 a, Punct 1:2 >>=, Word 1:5 b, Punct 1:6 <<=, Word 1:9 c, end
+a>>=b<<=c
+----
+Word 1:1 a, Punct 1:2 ->, Word 1:4 b, Punct 1:5 ., Word 1:6 c, end
+a->b.c
+----
+Word 1:1 a, Punct 1:2 ., Punct 1:3 ., Word 1:4 b, end
+a..b
+----
+Punct 1:1 <, Punct 1:2 :, Punct 1:3 :, Punct 1:4 >, end
+<::>
+----
+Word 1:1 x1, Number 1:4 0x1u, Punct 1:8 ;, end
+x1 0x1u;
+----
+Word 1:1 L, Char 1:2 'a', end
+L'a'
+----
+Char 1:1 '\\'', Char 1:6 '\"', end
+'\\'' '\"'
+----
+Text 1:1 \"\", Text 1:3 \"a\\\"b\", Char 1:9 'c', end
+\"\"\"a\\\"b\"'c'
+----
+// Comments separate tokens.
+----
+Word 1:1 a, Word 1:7 c, end
+a/*b*/c
+----
+Word 1:1 a, Word 2:1 c, end
+a//b*/
+c
+----
+Word 1:7 x, Word 1:13 y, end
+/*/ */x/***/y
+----
+Word 2:3 x, end
+/*
+*/x //
+----
+Word 1:1 a, Punct 1:2 /, Punct 1:4 *, Word 1:5 b, end
+a/ *b
+----
+Word 1:1 a, Punct 1:2 /=, Word 1:8 b, end
+a/=/**/b
+----
+Text 1:1 \"/*\", end
+\"/*\"
+----
+// Directive lines are skipped at the beginning of a line, behind spaces and tabs.
+----
+Word 2:1 x, end
+# 1 \"a.c\" 2
+x
+----
+Word 2:1 x, end
+ \t#\tline 7
+x
+#12
+----
+Word 2:1 x, end
+# 1.5
+x
+----
+Word 2:1 x, Punct 2:2 *, Punct 2:3 /, end
+#pragma once /*
+x*/
+#pragma packed\r
+#pragma
+----
+100 2:4
+/*
+*/ # 1
+
+----
+Word 1:1 x, 100 1:3
+x # 1
+
+----
+100 1:2
+\x0c#line 1
+
+----
+100 1:1
+#define A
+
+----
+100 1:1
+# 1a
+
+----
+100 1:1
+#
+line 1
+----
+100 1:1
+##
+----
+..100 1:26
+int main(void){return 0;}@
+----
+..101 1:26
+int main(void){return 0;}/*
+----
+..102 1:23
+int main(void){return 18446744073709551616;}
+----
+..103 1:1
+float x;
+----
+..104 1:1
+#pragma pack(1)
+----
+..104 2:3
+
+  # pragma\tpack
+----
+..100 1:1
+\\
+----
+..100 1:3
+a `
+----
+..100 1:2
+a\0
+----
+..100 1:1
+\u{c3}\u{a9}
+----
+..100 1:1
+\u{ff}
+----
+..100 1:6
+\"\u{c3}\u{a9}\0\"\u{80}
+----
+..100 2:6
+//\u{ff}\0
+/*\u{fe}*/\x7f
+----
+..100 2:1
+# 1 \u{ff}
+\u{80}
+----
+..101 1:9
+a /* */ /*/
+----
+..101 1:1
+/**
+----
+..101 1:1
+'a
+----
+..101 1:1
+'\\'
+----
+..101 1:2
+x\"a
+b\"
+----
+..101 1:1
+\"a\\
+\"
+----
+..101 1:1
+\"a\\
+----
+..101 1:1
+'
+----
+..102 1:1
+''
+----
+..102 1:1
+'ab'
+----
+..102 1:1
+'\u{c3}\u{a9}'
+----
+..102 1:1
+\"a\\q\"
+----
+..102 1:1
+\"\\x100\"
+----
+..102 1:3
+x=1..2
+----
+..102 1:3
+x=.5
+----
+..102 1:2
+a.5
+----
+..102 1:1
+1e+5
+----
+..102 1:1
+08
+----
+..103 1:7
+f(int,...)
+----
+..103 1:2
+(typeof)
+----
+..103 2:1
+f
+float 08";
 
 // The punctuators of the language.
-pub static PUNCTUATORS: [&str; 45] = [
-    "[", "]", "(", ")", "{", "}", ".", "->", "++", "--", "&", "*", "+", "-", "~", "!", "/", "%",
-    "<<", ">>", "<", ">", "<=", ">=", "==", "!=", "^", "|", "&&", "||", "?", ":", ";", "=", "*=",
-    "/=", "%=", "+=", "-=", "<<=", ">>=", "&=", "^=", "|=", ",",
-];
+pub static PUNCTUATORS: &str = "\
+[ ] ( ) { } . -> ++ -- & * + - ~ ! / % << >> < > <= >= == != ^ | && || ? : ; = *= /= %= += -= <<= >>= &= ^= |= ,";
 
 // The keywords, and words that are like words that are left out.
-pub static WORDS: [&str; 40] = [
-    "auto",
-    "break",
-    "case",
-    "char",
-    "const",
-    "continue",
-    "default",
-    "do",
-    "else",
-    "enum",
-    "extern",
-    "for",
-    "if",
-    "inline",
-    "int",
-    "long",
-    "register",
-    "restrict",
-    "return",
-    "short",
-    "signed",
-    "sizeof",
-    "static",
-    "struct",
-    "switch",
-    "typedef",
-    "union",
-    "unsigned",
-    "void",
-    "volatile",
-    "while",
-    "_Bool",
-    "__intcap_t",
-    "__uintcap_t",
-    "__restrict",
-    "__inline",
-    "floats",
-    "got",
-    "Goto",
-    "asm_",
-];
+pub static WORDS: &str = "\
+auto break case char const continue default do else enum extern for if inline int long register restrict return
+short signed sizeof static struct switch typedef union unsigned void volatile while _Bool __intcap_t __uintcap_t
+__restrict __inline floats got Goto asm_";
 
 // What the language leaves out.
-pub static LEFT_OUT: [&str; 24] = [
-    "float",
-    "double",
-    "_Complex",
-    "_Imaginary",
-    "goto",
-    "asm",
-    "__asm",
-    "__asm__",
-    "_Atomic",
-    "_Generic",
-    "_Alignas",
-    "_Alignof",
-    "_Noreturn",
-    "_Static_assert",
-    "_Thread_local",
-    "__attribute",
-    "__attribute__",
-    "__extension__",
-    "typeof",
-    "__typeof__",
-    "__int128",
-    "__builtin_va_list",
-    "__builtin_offsetof",
-    "...",
-];
-
-// A file, and the code and place with which it is refused.
-pub static REFUSALS: [(&[u8], &str); 35] = [
-    (b"int main(void){return 0;}@", "100 1:26"),
-    (b"int main(void){return 0;}/*", "101 1:26"),
-    (b"int main(void){return 18446744073709551616;}", "102 1:23"),
-    (b"float x;", "103 1:1"),
-    (b"#pragma pack(1)", "104 1:1"),
-    (b"\n  # pragma\tpack", "104 2:3"),
-    (b"\\", "100 1:1"),
-    (b"a `", "100 1:3"),
-    (b"a\0", "100 1:2"),
-    (b"\xc3\xa9", "100 1:1"),
-    (b"\xff", "100 1:1"),
-    (b"\"\xc3\xa9\0\"\x80", "100 1:6"),
-    (b"//\xff\0\n/*\xfe*/\x7f", "100 2:6"),
-    (b"# 1 \xff\n\x80", "100 2:1"),
-    (b"a /* */ /*/", "101 1:9"),
-    (b"/**", "101 1:1"),
-    (b"'a", "101 1:1"),
-    (b"'\\'", "101 1:1"),
-    (b"x\"a\nb\"", "101 1:2"),
-    (b"\"a\\\n\"", "101 1:1"),
-    (b"\"a\\", "101 1:1"),
-    (b"'", "101 1:1"),
-    (b"''", "102 1:1"),
-    (b"'ab'", "102 1:1"),
-    (b"'\xc3\xa9'", "102 1:1"),
-    (b"\"a\\q\"", "102 1:1"),
-    (b"\"\\x100\"", "102 1:1"),
-    (b"x=1..2", "102 1:3"),
-    (b"x=.5", "102 1:3"),
-    (b"a.5", "102 1:2"),
-    (b"1e+5", "102 1:1"),
-    (b"08", "102 1:1"),
-    (b"f(int,...)", "103 1:7"),
-    (b"(typeof)", "103 1:2"),
-    (b"f\nfloat 08", "103 2:1"),
-];
+pub static LEFT_OUT: &str = "\
+float double _Complex _Imaginary goto asm __asm __asm__ _Atomic _Generic _Alignas _Alignof _Noreturn
+_Static_assert _Thread_local __attribute __attribute__ __extension__ typeof __typeof__ __int128
+__builtin_va_list __builtin_offsetof ...";
 
 // A text, and of an integer constant its value, whether it is unsigned, how many longs it has, and whether it is
 // decimal.
