@@ -14,8 +14,3 @@ pub(crate) fn must_all_hold(rt: &impl Abort, rows: &'static str, wrong: Option<u
         assert!(rt; false, "{rows}: {row}");
     }
 }
-
-/// A fact as a table of one row.
-pub(crate) fn wrong_unless(holds: bool) -> Option<usize> {
-    if holds { None } else { Some(0) }
-}

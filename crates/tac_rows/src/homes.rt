@@ -1,6 +1,6 @@
 //! Homes that are allocated for intervals, and what the check says of homes.
 
-use crate::answers::{must_all_hold, wrong_unless};
+use crate::answers::must_all_hold;
 use ck_base::{NoMemory, Sequence};
 use reg_alloc::{Home, Interval, Places, allocate, check};
 use std::alloc::{AllocError, Global};
@@ -91,29 +91,28 @@ fn wrong_allocation(alloc: Global) -> Option<usize> {
     None
 }
 
-/// Intervals, each with the register that is its home, calls, and what the check says. Registers are shared one after
-/// the other.
-type Checked = (&'static [(Interval, u8)], &'static [u32], bool);
+/// Intervals, their homes, calls, and what the check says. Registers are shared one after the other, and an interval
+/// has a home.
+type Checked = (&'static [Interval], &'static [Home], &'static [u32], bool);
 
-const CHECKED: [Checked; 3] = [
-    (&[(FIRST, 10), (SECOND, 10)], &[], true),
-    (&[(LONGER, 10), (SECOND, 10)], &[], false),
-    (&[(WHOLE, 10)], &[4], false),
+const REGISTER: Home = Home::Register(10);
+
+const CHECKED: [Checked; 4] = [
+    (&[FIRST, SECOND], &[REGISTER; 2], &[], true),
+    (&[LONGER, SECOND], &[REGISTER; 2], &[], false),
+    (&[WHOLE], &[REGISTER], &[4], false),
+    (&[THEN], &[], &[], false),
 ];
 
-/// Whether the check says so of homes in registers.
-fn is_checked(alloc: Global, &(intervals, calls, wanted): &Checked) -> Result<bool, AllocError> {
-    let mut live = Vec::new(alloc);
-    let mut homes = Vec::new(alloc);
-    for &(interval, register) in intervals {
-        live.push(interval)?;
-        homes.push(Home::Register(register))?;
-    }
+/// Whether the check says so of homes.
+fn is_checked(
+    alloc: Global,
+    &(intervals, homes, calls, wanted): &Checked,
+) -> Result<bool, AllocError> {
+    let live = Vec::from_slice(alloc, intervals)?;
     let calls = Vec::from_slice(alloc, calls)?;
-    let places = Places {
-        homes: Sequence::from_vec(homes),
-    };
-    Ok(check(&live, &calls, &places) == wanted)
+    let homes = Sequence::from_vec(Vec::from_slice(alloc, homes)?);
+    Ok(check(&live, &calls, &Places { homes }) == wanted)
 }
 
 /// The first homes of which the check says otherwise.
@@ -126,23 +125,8 @@ fn wrong_check(alloc: Global) -> Option<usize> {
     None
 }
 
-/// Whether the check takes no interval with the homes of none.
-fn refuses_a_home_too_few(alloc: Global) -> Result<bool, NoMemory> {
-    let calls = Vec::new(alloc);
-    let mut live = Vec::new(alloc);
-    let places = allocate(alloc, &live, &calls)?;
-    live.push(Interval { first: 1, last: 2 })?;
-    Ok(!check(&live, &calls, &places))
-}
-
 #[test]
 fn homes_are_allocated_and_checked(rt: HostRuntime) {
-    let alloc = rt.alloc();
-    must_all_hold(&rt, "homes", wrong_allocation(alloc));
-    must_all_hold(&rt, "checks", wrong_check(alloc));
-    must_all_hold(
-        &rt,
-        "a home too few",
-        wrong_unless(matches!(refuses_a_home_too_few(alloc), Ok(true))),
-    );
+    must_all_hold(&rt, "homes", wrong_allocation(rt.alloc()));
+    must_all_hold(&rt, "checks", wrong_check(rt.alloc()));
 }

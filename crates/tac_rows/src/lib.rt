@@ -9,18 +9,14 @@
 #[cfg(test)]
 mod answers;
 #[cfg(test)]
-mod costs;
-#[cfg(test)]
 mod frames;
 #[cfg(test)]
 mod homes;
 #[cfg(test)]
 mod intervals;
 #[cfg(test)]
-mod shifts;
+mod selection;
 #[cfg(test)]
 mod steps;
 #[cfg(test)]
 mod three_address_code;
-#[cfg(test)]
-mod whole_selection;

@@ -7,7 +7,7 @@ use ck_int::{CmpOp, IntOp};
 use std::alloc::{AllocError, Global};
 use tac_ir::{Amount, LibOp, Tac, TacFun, TacInstr, TacKind};
 
-const PLACE: Pos = Pos { line: 1, col: 5 };
+pub(crate) const PLACE: Pos = Pos { line: 1, col: 5 };
 
 const NAME: Span = Span { start: 0, end: 0 };
 
@@ -60,8 +60,8 @@ pub(crate) enum Step {
     Get(u32),
     Exit(u32),
     Turn,
-    /// With these arguments.
-    Call(&'static [u32]),
+    /// With so many arguments, each the first temp.
+    Call(usize),
     Return(Option<u32>),
 }
 
@@ -79,8 +79,8 @@ fn library(
     })
 }
 
-fn call(alloc: Global, args: &[u32]) -> Result<TacInstr, AllocError> {
-    let args = Vec::from_slice(alloc, args)?;
+fn call(alloc: Global, count: usize) -> Result<TacInstr, AllocError> {
+    let args = vec![in alloc; 0; count]?;
     Ok(TacInstr::Call {
         to: None,
         fun: 0,
@@ -88,7 +88,7 @@ fn call(alloc: Global, args: &[u32]) -> Result<TacInstr, AllocError> {
     })
 }
 
-pub(crate) fn instruction(alloc: Global, step: Step) -> Result<TacInstr, AllocError> {
+fn instruction(alloc: Global, step: Step) -> Result<TacInstr, AllocError> {
     Ok(match step {
         Step::Const(to, kind, value) => TacInstr::Const {
             to,
@@ -117,7 +117,7 @@ pub(crate) fn instruction(alloc: Global, step: Step) -> Result<TacInstr, AllocEr
         Step::Get(to) => return library(alloc, LibOp::GetChar, Some(to), &[]),
         Step::Exit(t) => return library(alloc, LibOp::Exit, None, &[t]),
         Step::Turn => TacInstr::Turn,
-        Step::Call(args) => return call(alloc, args),
+        Step::Call(count) => return call(alloc, count),
         Step::Return(value) => TacInstr::Return(value),
     })
 }

@@ -1,14 +1,42 @@
-//! Three-address code that is made by hand: whether it is well formed.
+//! Three-address code that is made by hand: what it costs, whether it is well formed and within its program, and what
+//! is selected for it.
 
 use crate::answers::must_all_hold;
+use crate::selection::{are_shifts, is_byte, is_cheap};
 use crate::steps::{Step, main_of, program};
+use c_tree::Typed;
 use ck_int::CmpOp::{Eq, Lt};
-use ck_int::IntKind::{I32, I64, U32, U64};
-use ck_int::IntOp::{Add, Shl};
+use ck_int::IntKind::{Bool, I8, I16, I32, I64, U8, U16, U32, U64};
+use ck_int::IntOp::{Add, Shl, Shr};
 use std::alloc::{AllocError, Global};
-use tac_ir::{TacKind, well_formed};
+use tac_ir::{
+    Tac, TacInstr, TacKind, cost, function_cost, function_weight, is_within_costs, outgoing,
+    well_formed,
+};
 
 const INT: TacKind = TacKind::Int(I32);
+
+const POINTER: TacKind = TacKind::Cap(false);
+
+const WORD: TacKind = TacKind::Int(U64);
+
+/// What is asked of the code of `main`.
+#[derive(Clone, Copy)]
+enum Asked {
+    /// Whether it is well formed.
+    Formed(bool),
+    /// Whether it is within its program of weight 9: 288 words and 18 temps.
+    Within(bool),
+    /// What its instructions cost.
+    Costs([u64; 11]),
+    /// What it costs, with the places past eight of its calls, and what its program weighs.
+    Whole(u128, usize, u128),
+    /// What is selected for it: two known texts.
+    Byte,
+    Shifts,
+}
+
+use Asked::{Formed, Within};
 
 /// `for (i = 0; i < 3; i = i + 1) putchar(65 + i); return i;`
 const COUNTING: [Step; 15] = [
@@ -45,53 +73,182 @@ const ECHOING: [Step; 12] = [
     Step::Return(Some(0)),
 ];
 
-/// Kinds of temps, steps, and whether their code is well formed.
-type Formed = (&'static [TacKind], &'static [Step], &'static [Step], bool);
+const COSTLY: [Step; 11] = [
+    Step::Const(0, U64, 2047),
+    Step::Const(0, U64, 2048),
+    Step::Int(Add, I64, 0, 0, 0),
+    Step::Int(Add, I32, 0, 0, 0),
+    Step::Int(Add, I8, 0, 0, 0),
+    Step::Convert(0, 0, TacKind::Int(I64), WORD),
+    Step::Convert(0, 0, POINTER, WORD),
+    Step::Convert(0, 0, WORD, POINTER),
+    Step::Convert(0, 0, WORD, TacKind::Int(Bool)),
+    Step::Offset(0, 0, 8),
+    Step::Call(9),
+];
 
-const KINDS: [TacKind; 3] = [TacKind::Int(U64), INT, TacKind::Int(U32)];
+/// putchar(72), behind a jump over nothing; return that byte.
+const BYTE: [Step; 5] = [
+    Step::Const(0, I32, 72),
+    Step::Jump(0),
+    Step::Label(0),
+    Step::Put(0),
+    Step::Return(Some(0)),
+];
+
+/// Shifts of the first temp, of kinds that are narrower than `int`: by itself, and by 41.
+const SHIFTS: [Step; 10] = [
+    Step::Const(1, I32, 41),
+    Step::Int(Shl, I8, 0, 0, 0),
+    Step::Int(Shr, I16, 0, 0, 0),
+    Step::Int(Shr, U8, 0, 0, 0),
+    Step::Int(Shr, Bool, 0, 0, 0),
+    Step::Int(Shl, U16, 0, 0, 1),
+    Step::Int(Shr, I8, 0, 0, 1),
+    Step::Int(Shr, U16, 0, 0, 1),
+    Step::Int(Shr, Bool, 0, 0, 1),
+    Step::Return(None),
+];
+
+const KINDS: [TacKind; 3] = [WORD, INT, TacKind::Int(U32)];
+
+/// A number of eleven words.
+const NUMBER: Step = Step::Const(0, U64, 70_000);
+
+/// Kinds of temps or how many there are of none, steps in two parts, and what is asked of their code. The rows from the
+/// third on have a 64-bit kind, an `int` and an `unsigned int`: a count of another kind, a sum of two kinds, a
+/// comparison that gives no `int`, and a constant that its kind keeps or does not.
+type Row = (
+    &'static [TacKind],
+    u32,
+    &'static [Step],
+    &'static [Step],
+    Asked,
+);
+
+static ROWS: [Row; 17] = [
+    (&[INT; 4], 4, &COUNTING, &[], Formed(true)),
+    (&[INT; 3], 3, &ECHOING, &[], Formed(true)),
+    (
+        &KINDS,
+        3,
+        &[Step::Int(Shl, I32, 1, 1, 0)],
+        &RETURN,
+        Formed(true),
+    ),
+    (
+        &KINDS,
+        3,
+        &[Step::Int(Add, I32, 1, 1, 2)],
+        &RETURN,
+        Formed(false),
+    ),
+    (
+        &KINDS,
+        3,
+        &[Step::Cmp(Lt, U32, 2, 2, 2)],
+        &RETURN,
+        Formed(false),
+    ),
+    (
+        &KINDS,
+        3,
+        &[Step::Convert(0, 2, TacKind::Int(U32), WORD)],
+        &RETURN,
+        Formed(true),
+    ),
+    (
+        &KINDS,
+        3,
+        &[Step::Const(1, I32, 0xffff_ffff_ffff_fff8)],
+        &RETURN,
+        Formed(true),
+    ),
+    (
+        &KINDS,
+        3,
+        &[Step::Const(2, U32, 0xffff_ffff_ffff_fff8)],
+        &RETURN,
+        Formed(false),
+    ),
+    (&[], 18, &[NUMBER; 17], &[Step::Call(0), END], Within(true)),
+    (&[], 17, &[NUMBER; 15], &[Step::Call(9), END], Within(true)),
+    (&[], 19, &[], &[Step::Call(0), END], Within(false)),
+    (&[], 18, &[], &[Step::Call(9), END], Within(false)),
+    (&[], 0, &[NUMBER; 18], &[Step::Call(0), END], Within(false)),
+    (
+        &[],
+        1,
+        &COSTLY,
+        &[],
+        Asked::Costs([4, 11, 10, 12, 13, 6, 7, 8, 8, 8, 34]),
+    ),
+    (
+        &[],
+        17,
+        &[NUMBER; 2],
+        &[Step::Call(9), END],
+        Asked::Whole(64 + 22 + 34 + 24, 1, 9),
+    ),
+    (&[INT], 1, &BYTE, &[], Asked::Byte),
+    (&[INT; 2], 2, &SHIFTS, &[], Asked::Shifts),
+];
 
 const RETURN: [Step; 1] = [Step::Return(Some(1))];
 
-/// Two loops, then a step over a temp of a 64-bit kind, an `int` and an `unsigned int`: a count of another kind, a sum
-/// of two kinds, a comparison that gives no `int`, and a constant that its kind keeps or does not.
-const FORMED: [Formed; 8] = [
-    (&[INT; 4], &COUNTING, &[], true),
-    (&[INT; 3], &ECHOING, &[], true),
-    (&KINDS, &[Step::Int(Shl, I32, 1, 1, 0)], &RETURN, true),
-    (&KINDS, &[Step::Int(Add, I32, 1, 1, 2)], &RETURN, false),
-    (&KINDS, &[Step::Cmp(Lt, U32, 2, 2, 2)], &RETURN, false),
-    (
-        &KINDS,
-        &[Step::Convert(0, 2, TacKind::Int(U32), TacKind::Int(U64))],
-        &RETURN,
-        true,
-    ),
-    (
-        &KINDS,
-        &[Step::Const(1, I32, 0xffff_ffff_ffff_fff8)],
-        &RETURN,
-        true,
-    ),
-    (
-        &KINDS,
-        &[Step::Const(2, U32, 0xffff_ffff_ffff_fff8)],
-        &RETURN,
-        false,
-    ),
-];
+const END: Step = Step::Return(None);
 
-/// Whether the code of `main` that has these temps and steps is well formed.
-fn is_formed(alloc: Global, kinds: &[TacKind], steps: [&[Step]; 2]) -> Result<bool, AllocError> {
-    let temps = u32::try_from(kinds.len()).unwrap_or(u32::MAX);
-    let code = main_of(alloc, kinds, temps, steps)?;
-    let program = program(alloc)?;
-    Ok(well_formed(&code, &program))
+fn cost_so(code: &[TacInstr], costs: &[u64]) -> bool {
+    for (instruction, words) in code.iter().zip(costs) {
+        if cost(instruction) != *words {
+            return false;
+        }
+    }
+    code.len() == costs.len()
+}
+
+fn is_whole(t: &Tac, p: &Typed, words: u128, places: usize, weight: u128) -> bool {
+    match (t.funs.as_slice(), p.funs.as_slice()) {
+        ([f], [main]) => {
+            function_cost(f) == words
+                && outgoing(f.code.as_slice()) == places
+                && function_weight(p, main) == weight
+        }
+        _ => false,
+    }
+}
+
+fn is_so(alloc: Global, t: &Tac, p: &Typed, asked: Asked) -> bool {
+    match asked {
+        Formed(formed) => well_formed(t, p) == formed,
+        Within(within) => is_within_costs(t, p) == within,
+        Asked::Costs(costs) => match t.funs.as_slice() {
+            [f] => cost_so(f.code.as_slice(), &costs),
+            _ => false,
+        },
+        Asked::Whole(words, places, weight) => is_whole(t, p, words, places, weight),
+        Asked::Byte => is_cheap(t) && is_byte(alloc, t, p),
+        Asked::Shifts => is_cheap(t) && are_shifts(alloc, t, p),
+    }
+}
+
+/// One function owns a program and its code: each that owns them takes a proof long.
+fn is_answered(
+    alloc: Global,
+    kinds: &[TacKind],
+    temps: u32,
+    steps: [&[Step]; 2],
+    asked: Asked,
+) -> Result<bool, AllocError> {
+    let p = program(alloc)?;
+    let t = main_of(alloc, kinds, temps, steps)?;
+    Ok(is_so(alloc, &t, &p, asked))
 }
 
 /// The first code that is answered otherwise.
 fn wrong_code(alloc: Global) -> Option<usize> {
-    for (at, &(kinds, steps, then, wanted)) in FORMED.iter().enumerate() {
-        if !matches!(is_formed(alloc, kinds, [steps, then]), Ok(formed) if formed == wanted) {
+    for (at, &(kinds, temps, steps, then, asked)) in ROWS.iter().enumerate() {
+        if is_answered(alloc, kinds, temps, [steps, then], asked) != Ok(true) {
             return Some(at);
         }
     }
@@ -108,19 +265,14 @@ const WRONG: [(usize, Step); 5] = [
     (6, Step::Const(3, I64, 65)),
 ];
 
-/// Whether the counting code is well formed with another instruction at a place.
-fn is_formed_with(alloc: Global, place: usize, step: Step) -> Result<bool, AllocError> {
-    let mut steps = COUNTING;
-    if let Some(wrong) = steps.get_mut(place) {
-        *wrong = step;
-    }
-    is_formed(alloc, &[INT; 4], [&steps, &[]])
-}
-
 /// The first instruction with which it is.
 fn wrong_change(alloc: Global) -> Option<usize> {
     for (at, &(place, step)) in WRONG.iter().enumerate() {
-        if !matches!(is_formed_with(alloc, place, step), Ok(false)) {
+        let mut steps = COUNTING;
+        if let Some(wrong) = steps.get_mut(place) {
+            *wrong = step;
+        }
+        if is_answered(alloc, &[INT; 4], 4, [&steps, &[]], Formed(false)) != Ok(true) {
             return Some(at);
         }
     }
@@ -128,7 +280,7 @@ fn wrong_change(alloc: Global) -> Option<usize> {
 }
 
 #[test]
-fn code_is_well_formed_or_not(rt: HostRuntime) {
+fn code_is_answered(rt: HostRuntime) {
     must_all_hold(&rt, "code", wrong_code(rt.alloc()));
     must_all_hold(&rt, "another instruction", wrong_change(rt.alloc()));
 }

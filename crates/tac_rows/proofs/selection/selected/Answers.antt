@@ -1,5 +1,5 @@
 use Rattle.tac_rows.proofs.Framed.{no_locals, framed_one}
-use Rattle.tac_rows.proofs.whole_selection.selected.Goals as goal
+use Rattle.tac_rows.proofs.selection.selected.Goals as goal
 
 pub frame-requires-clause-locals : goal.frame-requires-clause-locals
 frame-requires-clause-locals c = rw c.new.ensures.items no_locals
