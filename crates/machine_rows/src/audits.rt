@@ -1,11 +1,10 @@
 // Images of four words and one relocation, and what their audit answers.
 
 use crate::answers::must_all_hold;
-use crate::made::{Parts, file_of};
-use ck_base::NoMemory;
-use elf_audit::{Verdict, audit};
-use elf_file::{Reloc, View};
-use image_load::load;
+use crate::loading::{Wanted, is_answered};
+use crate::made::Parts;
+use elf_audit::Verdict;
+use elf_file::Reloc;
 use std::alloc::Global;
 
 const DATA: u64 = 65_536;
@@ -30,7 +29,9 @@ const OUT: [u8; 4] = [0x6f, 0, 0, 0x01];
 const EBREAK: [u8; 4] = [0x73, 0, 0x10, 0];
 
 /// Four words, a relocation's offset in the text and its permission word, and the answer.
-const ROWS: [([[u8; 4]; 4], u64, u64, Verdict); 10] = [
+type Row = ([[u8; 4]; 4], u64, u64, Verdict);
+
+const ROWS: [Row; 10] = [
     ([ADDI, ECALL, NOP, STAY], 8, SENTRY + 3, Verdict::Yes),
     ([[0; 4]; 4], 8, SENTRY + 3, Verdict::Word(TEXT, 1)),
     (
@@ -73,7 +74,7 @@ const ROWS: [([[u8; 4]; 4], u64, u64, Verdict); 10] = [
     ([ADDI, ECALL, NOP, STAY], 8, 125, Verdict::Reloc(0, 8)),
 ];
 
-fn file(alloc: Global, words: &[[u8; 4]; 4], offset: u64, perms: u64) -> Result<Vec<u8>, NoMemory> {
+fn is_audited(alloc: Global, &(ref words, offset, perms, verdict): &Row) -> bool {
     let reloc = Reloc {
         place: DATA,
         base: TEXT,
@@ -93,22 +94,13 @@ fn file(alloc: Global, words: &[[u8; 4]; 4], offset: u64, perms: u64) -> Result<
         lines: &[],
         count: 0,
     };
-    file_of(alloc, &parts)
-}
-
-fn verdict(alloc: Global, words: &[[u8; 4]; 4], offset: u64, perms: u64) -> Option<Verdict> {
-    let file = file(alloc, words, offset, perms).ok()?;
-    let view = View::read(&file).ok()?;
-    let Ok(_machine) = load(alloc, &view) else {
-        return None;
-    };
-    audit(alloc, &view).ok()
+    is_answered(alloc, &parts, Wanted::Audited(verdict)) == Some(true)
 }
 
 /// The first row with another answer.
 fn wrong_answer(alloc: Global) -> Option<usize> {
-    for (at, (words, offset, perms, wanted)) in ROWS.iter().enumerate() {
-        if verdict(alloc, words, *offset, *perms) != Some(*wanted) {
+    for (at, row) in ROWS.iter().enumerate() {
+        if !is_audited(alloc, row) {
             return Some(at);
         }
     }

@@ -12,14 +12,10 @@ use decoding_vectors::{DECODE, KEEPS_BOUNDS};
 use packing_vectors::FIELDS;
 use rounding_vectors::{LENGTHS, SET_BOUNDS};
 
-fn is_rounded(&(length, owned, mask): &(u64, u64, u64)) -> bool {
-    rounded_length(length) == owned && alignment_mask(length) == mask
-}
-
 /// The first length that is rounded otherwise.
 fn wrong_length() -> Option<usize> {
-    for (at, row) in LENGTHS.iter().enumerate() {
-        if !is_rounded(row) {
+    for (at, &(length, owned, mask)) in LENGTHS.iter().enumerate() {
+        if rounded_length(length) != owned || alignment_mask(length) != mask {
             return Some(at);
         }
     }
@@ -57,14 +53,10 @@ fn wrong_setting() -> Option<usize> {
     None
 }
 
-fn is_decoded(&(bits, base, top): &(u128, u64, u128)) -> bool {
-    bounds_of(unpack(bits)) == (base, top)
-}
-
 /// The first bits that give other bounds.
 fn wrong_decoding() -> Option<usize> {
-    for (at, row) in DECODE.iter().enumerate() {
-        if !is_decoded(row) {
+    for (at, &(bits, base, top)) in DECODE.iter().enumerate() {
+        if bounds_of(unpack(bits)) != (base, top) {
             return Some(at);
         }
     }

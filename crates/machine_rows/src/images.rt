@@ -1,7 +1,7 @@
 //! An image and its files of both versions, written by hand from the format. The files are in words of eight bytes,
 //! little endian.
 
-use crate::answers::must_hold;
+use crate::answers::must_all_hold;
 use crate::made::{Parts, file_of};
 use ck_base::NoMemory;
 use elf_file::{ElfRefusal, Line, Reloc, View};
@@ -449,50 +449,36 @@ fn is_truncated_at_each(form: &Form, file: &[u8]) -> bool {
     true
 }
 
-/// What is answered otherwise of what is written and of the file, which are to be the same, if anything is. A byte
-/// behind the last part of a file is not looked at.
-fn wrong_part(form: &Form, written: &[u8], file: &mut Vec<u8>) -> Result<&'static str, AllocError> {
-    if file.as_slice() != written || !is_read(form, written) {
-        return Ok("written and read");
-    }
-    if !has_each_byte(form, written, file) || !has_second_lines(file) {
-        return Ok("each wrong byte");
-    }
-    if file.len() != form.len || !is_truncated_at_each(form, written) {
-        return Ok("each truncation");
-    }
-    file.push(0xff)?;
-    Ok(if refusal_of(file).is_none() {
-        ""
-    } else {
-        "a longer file"
-    })
+/// Whether what is written and the file, which are to be the same, are read, and refused with a wrong byte or a byte
+/// too few. A byte behind the last part of a file is not looked at.
+fn are_parts(form: &Form, written: &[u8], file: &mut Vec<u8>) -> bool {
+    file.as_slice() == written
+        && file.len() == form.len
+        && is_read(form, written)
+        && has_each_byte(form, written, file)
+        && has_second_lines(file)
+        && is_truncated_at_each(form, written)
+        && file.push(0xff).is_ok()
+        && refusal_of(file).is_none()
 }
 
-/// What is answered otherwise of a form, if anything is.
-fn wrong_form(alloc: Global, form: &Form) -> Result<&'static str, NoMemory> {
+fn is_formed(alloc: Global, form: &Form) -> Result<bool, NoMemory> {
     let written = written(alloc, form)?;
     let mut file = file(alloc, form, form.version)?;
-    Ok(wrong_part(form, &written, &mut file)?)
+    Ok(are_parts(form, &written, &mut file))
 }
 
-/// What is answered otherwise, if anything is.
-fn wrong(alloc: Global) -> &'static str {
-    for form in &FORMS {
-        match wrong_form(alloc, form) {
-            Ok(part) if part.is_empty() => {}
-            Ok(part) => return part,
-            Err(_) => return "memory",
-        }
-        if !reads_its_version_alone(alloc, form) {
-            return "each version with its size alone";
+/// The first form of which something is answered otherwise.
+fn wrong_form(alloc: Global) -> Option<usize> {
+    for (at, form) in FORMS.iter().enumerate() {
+        if is_formed(alloc, form) != Ok(true) || !reads_its_version_alone(alloc, form) {
+            return Some(at);
         }
     }
-    ""
+    None
 }
 
 #[test]
 fn images_are_written_and_read_and_wrong_files_refused(rt: HostRuntime) {
-    let wrong = wrong(rt.alloc());
-    must_hold(&rt, wrong, wrong.is_empty());
+    must_all_hold(&rt, "forms", wrong_form(rt.alloc()));
 }

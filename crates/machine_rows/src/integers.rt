@@ -310,56 +310,40 @@ const COMPARED: [(CmpOp, IntKind, u64, u64, bool); 38] = [
     (Le, Bool, 0, 5, true),
 ];
 
-fn wraps_as(&(kind, v, kept): &(IntKind, i128, u64)) -> bool {
-    wrap(kind, v) == kept
-}
-
 /// The first value that is wrapped otherwise.
 fn wrong_wrap() -> Option<usize> {
-    for (at, row) in WRAPPED.iter().enumerate() {
-        if !wraps_as(row) {
+    for (at, &(kind, v, kept)) in WRAPPED.iter().enumerate() {
+        if wrap(kind, v) != kept {
             return Some(at);
         }
     }
     None
-}
-
-fn converts_as(&(from, to, v, kept): &(IntKind, IntKind, u64, u64)) -> bool {
-    convert(from, to, v) == kept
 }
 
 /// The first value that is converted otherwise.
 fn wrong_conversion() -> Option<usize> {
-    for (at, row) in CONVERTED.iter().enumerate() {
-        if !converts_as(row) {
+    for (at, &(from, to, v, kept)) in CONVERTED.iter().enumerate() {
+        if convert(from, to, v) != kept {
             return Some(at);
         }
     }
     None
-}
-
-fn computes_as(&(op, kind, a, b, computed): &(IntOp, IntKind, u64, u64, u64)) -> bool {
-    binary(op, kind, a, b) == computed
 }
 
 /// The first operation that gives another value.
 fn wrong_result() -> Option<usize> {
-    for (at, row) in RESULTS.iter().enumerate() {
-        if !computes_as(row) {
+    for (at, &(op, kind, a, b, computed)) in RESULTS.iter().enumerate() {
+        if binary(op, kind, a, b) != computed {
             return Some(at);
         }
     }
     None
 }
 
-fn compares_as(&(op, kind, a, b, holds): &(CmpOp, IntKind, u64, u64, bool)) -> bool {
-    compare(op, kind, a, b) == holds
-}
-
 /// The first comparison that is answered otherwise.
 fn wrong_comparison() -> Option<usize> {
-    for (at, row) in COMPARED.iter().enumerate() {
-        if !compares_as(row) {
+    for (at, &(op, kind, a, b, holds)) in COMPARED.iter().enumerate() {
+        if compare(op, kind, a, b) != holds {
             return Some(at);
         }
     }

@@ -16,8 +16,6 @@ mod capabilities;
 #[cfg(test)]
 mod concentrate;
 #[cfg(test)]
-mod forms;
-#[cfg(test)]
 mod images;
 #[cfg(test)]
 mod integers;
@@ -29,8 +27,6 @@ mod machines;
 mod made;
 #[cfg(test)]
 mod memory;
-#[cfg(test)]
-mod texts;
 #[cfg(test)]
 mod words;
 #[cfg(test)]

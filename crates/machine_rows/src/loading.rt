@@ -1,11 +1,13 @@
 //! Images as their files, and the machine or the refusal that they load to.
+ghost use Rattle.std.specs.Prelude.{◌≡◌, Ok};
+ghost use Rattle.image_load.specs.Judging.{judged};
 
 use crate::answers::must_all_hold;
 use crate::made::{Parts, file_of};
 use cap_concentrate::{bounds_of, flip_null, unpack};
 use cap_machine::Machine;
 use cap_ops::{Cap, SENTRY, UNSEALED, null};
-use ck_base::NoMemory;
+use elf_audit::{Verdict, audit};
 use elf_file::{Reloc, View};
 use image_load::{LoadRefusal, load};
 use std::alloc::Global;
@@ -244,11 +246,35 @@ const LOADED: [Loaded; 16] = [
     ),
 ];
 
-/// The file of an image.
-fn file(
-    alloc: Global,
-    &(entry, table, stack, ref relocs, _): &Loaded,
-) -> Result<Vec<u8>, NoMemory> {
+/// What is so of an image: it is loaded as the first state, or refused, or its audit answers so.
+#[derive(Clone, Copy)]
+pub(crate) enum Wanted {
+    Loaded,
+    Refused(LoadRefusal),
+    Audited(Verdict),
+}
+
+fn is_so(alloc: Global, view: &View<'_>, m: &Machine, wanted: Wanted) -> bool
+    requires { judged view.now ≡ Ok tt }
+{
+    match wanted {
+        Wanted::Loaded => is_first_state(m),
+        Wanted::Refused(_) => false,
+        Wanted::Audited(verdict) => audit(alloc, view).ok() == Some(verdict),
+    }
+}
+
+/// Whether it is so of the image of these parts. One function owns the machine.
+pub(crate) fn is_answered(alloc: Global, parts: &Parts<'_>, wanted: Wanted) -> Option<bool> {
+    let file = file_of(alloc, parts).ok()?;
+    let view = View::read(&file).ok()?;
+    match load(alloc, &view) {
+        Ok(m) => Some(is_so(alloc, &view, &m, wanted)),
+        Err(refusal) => Some(matches!(wanted, Wanted::Refused(told) if told == refusal)),
+    }
+}
+
+fn is_loaded(alloc: Global, &(entry, table, stack, ref relocs, refused): &Loaded) -> bool {
     let parts = Parts {
         version: 1,
         entry,
@@ -261,22 +287,17 @@ fn file(
         lines: &[],
         count: 0,
     };
-    file_of(alloc, &parts)
-}
-
-fn is_loaded(alloc: Global, row: &Loaded) -> Option<bool> {
-    let file = file(alloc, row).ok()?;
-    let view = View::read(&file).ok()?;
-    match load(alloc, &view) {
-        Ok(m) => Some(row.4.is_none() && is_first_state(&m)),
-        Err(refusal) => Some(row.4 == Some(refusal)),
-    }
+    let wanted = match refused {
+        Some(refusal) => Wanted::Refused(refusal),
+        None => Wanted::Loaded,
+    };
+    is_answered(alloc, &parts, wanted) == Some(true)
 }
 
 /// The first row that is answered otherwise.
 fn wrong_loading(alloc: Global) -> Option<usize> {
     for (at, row) in LOADED.iter().enumerate() {
-        if is_loaded(alloc, row) != Some(true) {
+        if !is_loaded(alloc, row) {
             return Some(at);
         }
     }

@@ -99,110 +99,8 @@ fn run(alloc: Global, m: &mut Machine, steps: u64) -> End {
     )
 }
 
-/// One instruction on x11 and x12, their integers, and what it writes to x10.
-const INTEGERS: [(u32, u64, u64, u64); 16] = [
-    (0xfff5_851b, 0, 0, u64::MAX), // addiw x10, x11, -1
-    (0xfff5_851b, 0x8000_0000, 0, 0x7fff_ffff), // addiw x10, x11, -1
-    (0x00c5_d53b, 0x8000_0000, 0, 0xffff_ffff_8000_0000), // srlw
-    (0x00c5_d53b, 0xffff_ffff_8000_0000, 36, 0x0800_0000), // srlw
-    (0x02c5_d53b, 0xffff_ffff, 1, u64::MAX), // divuw
-    (0x02c5_d53b, 7, 0, u64::MAX), // divuw
-    (0x02c5_f53b, 0x8000_0000, 0, 0xffff_ffff_8000_0000), // remuw
-    (0x02c5_f53b, 7, 4, 3), // remuw
-    (0x02c5_853b, 0x1_0000, 0x8000, 0xffff_ffff_8000_0000), // mulw
-    (
-        0x02c5_c533,
-        0x8000_0000_0000_0000,
-        u64::MAX,
-        0x8000_0000_0000_0000,
-    ), // div
-    (0x02c5_e533, 7, 0, 7), // rem
-    (0x40c5_d533, 0x8000_0000_0000_0000, 63, u64::MAX), // sra
-    (0xfff5_a513, 0, 0, 0), // slti x10, x11, -1
-    (0xfff5_b513, 0, 0, 1), // sltiu x10, x11, -1
-    (0x0045_d51b, 0xffff_ffff_8000_0000, 0, 0x0800_0000), // srliw x10, x11, 4
-    (0x8000_0537, 0, 0, 0xffff_ffff_8000_0000), // lui x10, 0x80000
-];
-
-fn computes_as(
-    alloc: Global,
-    &(word, a, b, wanted): &(u32, u64, u64, u64),
-) -> Result<bool, NoMemory> {
-    let mut m = machine(alloc, &[word])?;
-    m.regs[11] = null(a);
-    m.regs[12] = null(b);
-    let end = run(alloc, &mut m, 1);
-    Ok(end == End::Steps && m.register(Reg::RESULT) == null(wanted) && m.counter() == TEXT + 4)
-}
-
-/// The first instruction that computes another integer.
-fn wrong_integer(alloc: Global) -> Option<usize> {
-    for (at, row) in INTEGERS.iter().enumerate() {
-        if !matches!(computes_as(alloc, row), Ok(true)) {
-            return Some(at);
-        }
-    }
-    None
-}
-
-/// One instruction, and how it ends the run.
-const ENDS: [(u32, End); 10] = [
-    (0x0084_c023, End::Trap(Cause::Store, TEXT)), // csc c8, 0(c9)
-    (0x0083_c023, End::Trap(Cause::StoreCap, TEXT)), // csc c8, 0(c7)
-    (0x0042_80e7, End::Trap(Cause::Sealed, TEXT)), // cjalr c1, 4(c5)
-    (0x0004_00e7, End::Trap(Cause::Execute, TEXT)), // cjalr c1, 0(c8)
-    (0x0404_0503, End::Trap(Cause::Bounds, TEXT)), // lb x10, 64(c8)
-    (0x0024_2503, End::Trap(Cause::Align, TEXT)), // lw x10, 2(c8)
-    (0x0000_0503, End::Trap(Cause::Tag, TEXT)), // lb x10, 0(c0)
-    (0x0003_0503, End::Trap(Cause::Load, TEXT)), // lb x10, 0(c6)
-    (0x0000_0000, End::Illegal(TEXT)),
-    (0x0010_0073, End::Break(TEXT)), // ebreak
-];
-
-fn ends_as(alloc: Global, &(word, wanted): &(u32, End)) -> Result<bool, NoMemory> {
-    let mut m = machine(alloc, &[word])?;
-    let end = run(alloc, &mut m, 9);
-    Ok(end == wanted && m.regs == registers() && m.pc == capability(TEXT, 3))
-}
-
-/// The first instruction that ends otherwise.
-fn wrong_end(alloc: Global) -> Option<usize> {
-    for (at, row) in ENDS.iter().enumerate() {
-        if !matches!(ends_as(alloc, row), Ok(true)) {
-            return Some(at);
-        }
-    }
-    None
-}
-
 // addi x10, x0, 5; addi x10, x10, -1; bne x10, x0, -4; ebreak
 const COUNTDOWN: [u32; 4] = [0x0050_0513, 0xfff5_0513, 0xfe05_1ee3, 0x0010_0073];
-
-fn counts_down_as(
-    alloc: Global,
-    &(steps, wanted, left): &(u64, End, u64),
-) -> Result<bool, NoMemory> {
-    let mut m = machine(alloc, &COUNTDOWN)?;
-    let end = run(alloc, &mut m, steps);
-    Ok(end == wanted && m.integer(Reg::RESULT) == left)
-}
-
-/// So many steps, how they end, and what is left.
-const COUNTED: [(u64, End, u64); 3] = [
-    (5, End::Steps, 3),
-    (11, End::Steps, 0),
-    (12, End::Break(TEXT + 12), 0),
-];
-
-/// The first count of steps that ends otherwise.
-fn wrong_count(alloc: Global) -> Option<usize> {
-    for (at, row) in COUNTED.iter().enumerate() {
-        if !matches!(counts_down_as(alloc, row), Ok(true)) {
-            return Some(at);
-        }
-    }
-    None
-}
 
 // csc c8, 16(c8); clc c10, 16(c8); clc c11, 16(c7); sb x0, 20(c8); clc c12, 16(c8)
 const TAGGED: [u32; 5] = [
@@ -264,6 +162,12 @@ fn integers(m: &Machine) -> [u64; 6] {
 /// What a machine shows after its last step.
 #[derive(Clone, Copy)]
 enum Shown {
+    /// The integer that one instruction writes to x10.
+    Integer(u64),
+    /// The machine as it began.
+    Start,
+    /// What is left in x10.
+    Left(u64),
     Tags,
     Link,
     Next,
@@ -271,17 +175,177 @@ enum Shown {
     Integers,
 }
 
-/// Words, so many steps of them, and what the machine shows then.
-const SHOWN: [(&[u32], u64, Shown); 5] = [
-    (&TAGGED, 5, Shown::Tags),
-    (&LINKED, 1, Shown::Link),
-    (&LINKED, 2, Shown::Next),
-    (&LINKED, 3, Shown::Code),
-    (&DERIVING, 8, Shown::Integers),
+/// Words, the integers of x11 and x12, so many steps, how they end, and what the machine shows then.
+type Run = (&'static [u32], (u64, u64), u64, End, Shown);
+
+const RUNS: [Run; 34] = [
+    (
+        &[0xfff5_851b],
+        (0, 0),
+        1,
+        End::Steps,
+        Shown::Integer(u64::MAX),
+    ), // addiw x10, x11, -1
+    (
+        &[0xfff5_851b],
+        (0x8000_0000, 0),
+        1,
+        End::Steps,
+        Shown::Integer(0x7fff_ffff),
+    ), // addiw x10, x11, -1
+    (
+        &[0x00c5_d53b],
+        (0x8000_0000, 0),
+        1,
+        End::Steps,
+        Shown::Integer(0xffff_ffff_8000_0000),
+    ), // srlw
+    (
+        &[0x00c5_d53b],
+        (0xffff_ffff_8000_0000, 36),
+        1,
+        End::Steps,
+        Shown::Integer(0x0800_0000),
+    ), // srlw
+    (
+        &[0x02c5_d53b],
+        (0xffff_ffff, 1),
+        1,
+        End::Steps,
+        Shown::Integer(u64::MAX),
+    ), // divuw
+    (
+        &[0x02c5_d53b],
+        (7, 0),
+        1,
+        End::Steps,
+        Shown::Integer(u64::MAX),
+    ), // divuw
+    (
+        &[0x02c5_f53b],
+        (0x8000_0000, 0),
+        1,
+        End::Steps,
+        Shown::Integer(0xffff_ffff_8000_0000),
+    ), // remuw
+    (&[0x02c5_f53b], (7, 4), 1, End::Steps, Shown::Integer(3)), // remuw
+    (
+        &[0x02c5_853b],
+        (0x1_0000, 0x8000),
+        1,
+        End::Steps,
+        Shown::Integer(0xffff_ffff_8000_0000),
+    ), // mulw
+    (
+        &[0x02c5_c533],
+        (0x8000_0000_0000_0000, u64::MAX),
+        1,
+        End::Steps,
+        Shown::Integer(0x8000_0000_0000_0000),
+    ), // div
+    (&[0x02c5_e533], (7, 0), 1, End::Steps, Shown::Integer(7)), // rem
+    (
+        &[0x40c5_d533],
+        (0x8000_0000_0000_0000, 63),
+        1,
+        End::Steps,
+        Shown::Integer(u64::MAX),
+    ), // sra
+    (&[0xfff5_a513], (0, 0), 1, End::Steps, Shown::Integer(0)), // slti x10, x11, -1
+    (&[0xfff5_b513], (0, 0), 1, End::Steps, Shown::Integer(1)), // sltiu x10, x11, -1
+    (
+        &[0x0045_d51b],
+        (0xffff_ffff_8000_0000, 0),
+        1,
+        End::Steps,
+        Shown::Integer(0x0800_0000),
+    ), // srliw x10, x11, 4
+    (
+        &[0x8000_0537],
+        (0, 0),
+        1,
+        End::Steps,
+        Shown::Integer(0xffff_ffff_8000_0000),
+    ), // lui x10, 0x80000
+    (
+        &[0x0084_c023],
+        (0, 0),
+        9,
+        End::Trap(Cause::Store, TEXT),
+        Shown::Start,
+    ), // csc c8, 0(c9)
+    (
+        &[0x0083_c023],
+        (0, 0),
+        9,
+        End::Trap(Cause::StoreCap, TEXT),
+        Shown::Start,
+    ), // csc c8, 0(c7)
+    (
+        &[0x0042_80e7],
+        (0, 0),
+        9,
+        End::Trap(Cause::Sealed, TEXT),
+        Shown::Start,
+    ), // cjalr c1, 4(c5)
+    (
+        &[0x0004_00e7],
+        (0, 0),
+        9,
+        End::Trap(Cause::Execute, TEXT),
+        Shown::Start,
+    ), // cjalr c1, 0(c8)
+    (
+        &[0x0404_0503],
+        (0, 0),
+        9,
+        End::Trap(Cause::Bounds, TEXT),
+        Shown::Start,
+    ), // lb x10, 64(c8)
+    (
+        &[0x0024_2503],
+        (0, 0),
+        9,
+        End::Trap(Cause::Align, TEXT),
+        Shown::Start,
+    ), // lw x10, 2(c8)
+    (
+        &[0x0000_0503],
+        (0, 0),
+        9,
+        End::Trap(Cause::Tag, TEXT),
+        Shown::Start,
+    ), // lb x10, 0(c0)
+    (
+        &[0x0003_0503],
+        (0, 0),
+        9,
+        End::Trap(Cause::Load, TEXT),
+        Shown::Start,
+    ), // lb x10, 0(c6)
+    (&[0x0000_0000], (0, 0), 9, End::Illegal(TEXT), Shown::Start),
+    (&[0x0010_0073], (0, 0), 9, End::Break(TEXT), Shown::Start), // ebreak
+    (&COUNTDOWN, (0, 0), 5, End::Steps, Shown::Left(3)),
+    (&COUNTDOWN, (0, 0), 11, End::Steps, Shown::Left(0)),
+    (
+        &COUNTDOWN,
+        (0, 0),
+        12,
+        End::Break(TEXT + 12),
+        Shown::Left(0),
+    ),
+    (&TAGGED, (0, 0), 5, End::Steps, Shown::Tags),
+    (&LINKED, (0, 0), 1, End::Steps, Shown::Link),
+    (&LINKED, (0, 0), 2, End::Steps, Shown::Next),
+    (&LINKED, (0, 0), 3, End::Steps, Shown::Code),
+    (&DERIVING, (0, 0), 8, End::Steps, Shown::Integers),
 ];
 
 fn has_shown(m: &Machine, shown: Shown) -> bool {
     match shown {
+        Shown::Integer(n) => m.register(Reg::RESULT) == null(n) && m.counter() == TEXT + 4,
+        Shown::Start => m.regs == registers() && m.pc == capability(TEXT, 3),
+        Shown::Left(n) => m.integer(Reg::RESULT) == n,
         Shown::Tags => has_tags(m),
         Shown::Link => is_linked(m),
         Shown::Next => m.pc == next(),
@@ -290,16 +354,18 @@ fn has_shown(m: &Machine, shown: Shown) -> bool {
     }
 }
 
-fn shows(alloc: Global, &(words, steps, shown): &(&[u32], u64, Shown)) -> Result<bool, NoMemory> {
+fn runs(alloc: Global, &(words, (a, b), steps, wanted, shown): &Run) -> Result<bool, NoMemory> {
     let mut m = machine(alloc, words)?;
+    m.regs[11] = null(a);
+    m.regs[12] = null(b);
     let end = run(alloc, &mut m, steps);
-    Ok(end == End::Steps && has_shown(&m, shown))
+    Ok(end == wanted && has_shown(&m, shown))
 }
 
-/// The first machine that shows something else.
-fn wrong_machine(alloc: Global) -> Option<usize> {
-    for (at, row) in SHOWN.iter().enumerate() {
-        if !matches!(shows(alloc, row), Ok(true)) {
+/// The first words that run otherwise.
+fn wrong_run(alloc: Global) -> Option<usize> {
+    for (at, row) in RUNS.iter().enumerate() {
+        if !matches!(runs(alloc, row), Ok(true)) {
             return Some(at);
         }
     }
@@ -358,10 +424,7 @@ fn serves(alloc: Global) -> Result<bool, NoMemory> {
 #[test]
 fn machines_run_as_their_words_say(rt: HostRuntime) {
     let alloc = rt.alloc();
-    must_all_hold(&rt, "computes integers", wrong_integer(alloc));
-    must_all_hold(&rt, "ends where a check fails", wrong_end(alloc));
-    must_all_hold(&rt, "stops after the last step", wrong_count(alloc));
-    must_all_hold(&rt, "keeps tags, links and derives", wrong_machine(alloc));
+    must_all_hold(&rt, "runs", wrong_run(alloc));
     must_all_hold(
         &rt,
         "calls the environment",

@@ -1,12 +1,12 @@
-//! Words with the instructions that they encode, and words that encode none. The tables are values
-//! of an independent model.
+//! Words with the texts of the instructions that they encode, and words that encode none. The tables are values of an
+//! independent model.
 
-use crate::answers::{must_all_hold, wrong_unless};
-use crate::forms::{Form, instr_of};
+use crate::answers::{must_all_hold, must_hold, wrong_unless};
+use ck_base::NoMemory;
 use rv_code::{decode, encode};
-use rv_instr::{
-    BranchOp, CapGetOp, CapImmOp, CapRegOp, ImmOp, LoadOp, Reg, RegOp, ShiftOp, StoreOp, UpperOp,
-};
+use rv_instr::Reg;
+use rv_text::line;
+use std::alloc::Global;
 
 const NAMES: [(Reg, u8); 6] = [
     (Reg::ZERO, 0),
@@ -31,167 +31,241 @@ fn wrong_name() -> Option<usize> {
     None
 }
 
-/// Words, and the instructions that they encode.
-const WORDS: [(u32, Form); 119] = [
-    // Worked words.
-    (0x04800513, Form::Imm(ImmOp::Addi, 10, 0, 72)),
-    (0x00113423, Form::Store(StoreOp::Sd, 1, 2, 8)),
-    (0x00114823, Form::Store(StoreOp::Csc, 1, 2, 16)),
-    (0x0101208f, Form::Clc(1, 2, 16)),
-    (0xfe01115b, Form::CapImm(CapImmOp::Cincoffsetimm, 2, 2, -32)),
-    (
-        0x12b5055b,
-        Form::CapReg(CapRegOp::Csetboundsexact, 10, 10, 11),
-    ),
-    (0x00008067, Form::Cjalr(0, 1, 0)),
-    (0x0000006f, Form::Cjal(0, 0)),
-    (0x00000073, Form::Ecall),
-    (0x00100073, Form::Ebreak),
-    (0x0572b5b7, Form::Upper(UpperOp::Lui, 11, 22315)),
-    (0xf8eed237, Form::Upper(UpperOp::Lui, 4, 1019629)),
-    (0x053c0717, Form::Upper(UpperOp::Auipcc, 14, 21440)),
-    (0xfcbd4717, Form::Upper(UpperOp::Auipcc, 14, 1035220)),
-    (0xfd30126f, Form::Cjal(4, -1040430)),
-    (0x02ffa06f, Form::Cjal(0, 1026094)),
-    (0x5aa3276f, Form::Cjal(14, 206250)),
-    (0xa79724ef, Form::Cjal(9, -578952)),
-    (0x800605e7, Form::Cjalr(11, 12, -2048)),
-    (0x7ff18567, Form::Cjalr(10, 3, 2047)),
-    (0x000c0967, Form::Cjalr(18, 24, 0)),
-    (0x80947563, Form::Branch(BranchOp::Bgeu, 8, 9, -4086)),
-    (0x7caacfe3, Form::Branch(BranchOp::Blt, 21, 10, 4062)),
-    (0xfc868d63, Form::Branch(BranchOp::Beq, 13, 8, -2086)),
-    (0x9db39763, Form::Branch(BranchOp::Bne, 7, 27, -3634)),
-    (0xcd25cd63, Form::Branch(BranchOp::Blt, 11, 18, -2854)),
-    (0xcd97d8e3, Form::Branch(BranchOp::Bge, 15, 25, -816)),
-    (0xe6cc6e63, Form::Branch(BranchOp::Bltu, 24, 12, -2436)),
-    (0x0bca7563, Form::Branch(BranchOp::Bgeu, 20, 28, 170)),
-    (0x800f8e83, Form::Load(LoadOp::Lb, 29, 31, -2048)),
-    (0x7ff46b03, Form::Load(LoadOp::Lwu, 22, 8, 2047)),
-    (0xfff10883, Form::Load(LoadOp::Lb, 17, 2, -1)),
-    (0x28a00a83, Form::Load(LoadOp::Lb, 21, 0, 650)),
-    (0x7ffa1503, Form::Load(LoadOp::Lh, 10, 20, 2047)),
-    (0x001dab03, Form::Load(LoadOp::Lw, 22, 27, 1)),
-    (0xa53b3603, Form::Load(LoadOp::Ld, 12, 22, -1453)),
-    (0xd42a4303, Form::Load(LoadOp::Lbu, 6, 20, -702)),
-    (0xffffd483, Form::Load(LoadOp::Lhu, 9, 31, -1)),
-    (0x800be583, Form::Load(LoadOp::Lwu, 11, 23, -2048)),
-    (0x80998023, Form::Store(StoreOp::Sb, 9, 19, -2048)),
-    (0x7f60cfa3, Form::Store(StoreOp::Csc, 22, 1, 2047)),
-    (0xffad8fa3, Form::Store(StoreOp::Sb, 26, 27, -1)),
-    (0x011500a3, Form::Store(StoreOp::Sb, 17, 10, 1)),
-    (0x81f49023, Form::Store(StoreOp::Sh, 31, 9, -2048)),
-    (0x8023a023, Form::Store(StoreOp::Sw, 2, 7, -2048)),
-    (0x80a6b023, Form::Store(StoreOp::Sd, 10, 13, -2048)),
-    (0xe2c7c9a3, Form::Store(StoreOp::Csc, 12, 15, -461)),
-    (0x8004a78f, Form::Clc(15, 9, -2048)),
-    (0x7ffe228f, Form::Clc(5, 28, 2047)),
-    (0x001cae8f, Form::Clc(29, 25, 1)),
-    (0x80058913, Form::Imm(ImmOp::Addi, 18, 11, -2048)),
-    (0x7ff8841b, Form::Imm(ImmOp::Addiw, 8, 17, 2047)),
-    (0xfff08213, Form::Imm(ImmOp::Addi, 4, 1, -1)),
-    (0x001e2893, Form::Imm(ImmOp::Slti, 17, 28, 1)),
-    (0xd820b613, Form::Imm(ImmOp::Sltiu, 12, 1, -638)),
-    (0xfff64413, Form::Imm(ImmOp::Xori, 8, 12, -1)),
-    (0x0015e993, Form::Imm(ImmOp::Ori, 19, 11, 1)),
-    (0x000f7913, Form::Imm(ImmOp::Andi, 18, 30, 0)),
-    (0x000b871b, Form::Imm(ImmOp::Addiw, 14, 23, 0)),
-    (0x00051293, Form::Shift(ShiftOp::Slli, 5, 10, 0)),
-    (0x03e61c93, Form::Shift(ShiftOp::Slli, 25, 12, 62)),
-    (0x00145893, Form::Shift(ShiftOp::Srli, 17, 8, 1)),
-    (0x03ea5c13, Form::Shift(ShiftOp::Srli, 24, 20, 62)),
-    (0x4006de93, Form::Shift(ShiftOp::Srai, 29, 13, 0)),
-    (0x43f0d493, Form::Shift(ShiftOp::Srai, 9, 1, 63)),
-    (0x00019d1b, Form::Shift(ShiftOp::Slliw, 26, 3, 0)),
-    (0x01fb921b, Form::Shift(ShiftOp::Slliw, 4, 23, 31)),
-    (0x000bd11b, Form::Shift(ShiftOp::Srliw, 2, 23, 0)),
-    (0x01fed71b, Form::Shift(ShiftOp::Srliw, 14, 29, 31)),
-    (0x4000569b, Form::Shift(ShiftOp::Sraiw, 13, 0, 0)),
-    (0x41f55e9b, Form::Shift(ShiftOp::Sraiw, 29, 10, 31)),
-    (
-        0x8000105b,
-        Form::CapImm(CapImmOp::Cincoffsetimm, 0, 0, -2048),
-    ),
-    (
-        0x7ffc96db,
-        Form::CapImm(CapImmOp::Cincoffsetimm, 13, 25, 2047),
-    ),
-    (
-        0x955c155b,
-        Form::CapImm(CapImmOp::Cincoffsetimm, 10, 24, -1707),
-    ),
-    (0x03532d5b, Form::CapImm(CapImmOp::Csetboundsimm, 26, 6, 53)),
-    (
-        0xff95a35b,
-        Form::CapImm(CapImmOp::Csetboundsimm, 6, 11, 4089),
-    ),
-    (
-        0xaff5265b,
-        Form::CapImm(CapImmOp::Csetboundsimm, 12, 10, 2815),
-    ),
-    (0x017488b3, Form::Op(RegOp::Add, 17, 9, 23)),
-    (0x001719b3, Form::Op(RegOp::Sll, 19, 14, 1)),
-    (0x012e28b3, Form::Op(RegOp::Slt, 17, 28, 18)),
-    (0x018ab3b3, Form::Op(RegOp::Sltu, 7, 21, 24)),
-    (0x01e5c8b3, Form::Op(RegOp::Xor, 17, 11, 30)),
-    (0x018ed1b3, Form::Op(RegOp::Srl, 3, 29, 24)),
-    (0x01206cb3, Form::Op(RegOp::Or, 25, 0, 18)),
-    (0x00b3f333, Form::Op(RegOp::And, 6, 7, 11)),
-    (0x41540d33, Form::Op(RegOp::Sub, 26, 8, 21)),
-    (0x419cdd33, Form::Op(RegOp::Sra, 26, 25, 25)),
-    (0x036d8b33, Form::Op(RegOp::Mul, 22, 27, 22)),
-    (0x033ac233, Form::Op(RegOp::Div, 4, 21, 19)),
-    (0x029ad8b3, Form::Op(RegOp::Divu, 17, 21, 9)),
-    (0x02576433, Form::Op(RegOp::Rem, 8, 14, 5)),
-    (0x03eef1b3, Form::Op(RegOp::Remu, 3, 29, 30)),
-    (0x0026033b, Form::Op(RegOp::Addw, 6, 12, 2)),
-    (0x004896bb, Form::Op(RegOp::Sllw, 13, 17, 4)),
-    (0x000558bb, Form::Op(RegOp::Srlw, 17, 10, 0)),
-    (0x417e023b, Form::Op(RegOp::Subw, 4, 28, 23)),
-    (0x4047d63b, Form::Op(RegOp::Sraw, 12, 15, 4)),
-    (0x02ea033b, Form::Op(RegOp::Mulw, 6, 20, 14)),
-    (0x0360c0bb, Form::Op(RegOp::Divw, 1, 1, 22)),
-    (0x027153bb, Form::Op(RegOp::Divuw, 7, 2, 7)),
-    (0x03b8e3bb, Form::Op(RegOp::Remw, 7, 17, 27)),
-    (0x035c7b3b, Form::Op(RegOp::Remuw, 22, 24, 21)),
-    (0x103d855b, Form::CapReg(CapRegOp::Csetbounds, 10, 27, 3)),
-    (0x1264815b, Form::CapReg(CapRegOp::Csetboundsexact, 2, 9, 6)),
-    (0x1b518adb, Form::CapReg(CapRegOp::Candperm, 21, 3, 21)),
-    (0x2054055b, Form::CapReg(CapRegOp::Csetaddr, 10, 8, 5)),
-    (0x238d855b, Form::CapReg(CapRegOp::Cincoffset, 10, 27, 24)),
-    (
-        0x42f6035b,
-        Form::CapReg(CapRegOp::Csetequalexact, 6, 12, 15),
-    ),
-    (0xfe0a8f5b, Form::CapGet(CapGetOp::Cgetperm, 30, 21)),
-    (0xfe240adb, Form::CapGet(CapGetOp::Cgetbase, 21, 8)),
-    (0xfe358adb, Form::CapGet(CapGetOp::Cgetlen, 21, 11)),
-    (0xfe4581db, Form::CapGet(CapGetOp::Cgettag, 3, 11)),
-    (0xfe690ddb, Form::CapGet(CapGetOp::Cgetoffset, 27, 18)),
-    (0xfe8c8e5b, Form::CapGet(CapGetOp::Crrl, 28, 25)),
-    (0xfe9388db, Form::CapGet(CapGetOp::Cram, 17, 7)),
-    (0xfeab805b, Form::CapGet(CapGetOp::Cmove, 0, 23)),
-    (0xfebf86db, Form::CapGet(CapGetOp::Ccleartag, 13, 31)),
-    (0xfef48fdb, Form::CapGet(CapGetOp::Cgetaddr, 31, 9)),
-    (0xff1f06db, Form::CapGet(CapGetOp::Csealentry, 13, 30)),
-];
+/// Words, and the texts of the instructions that they encode. A remark stands behind `//`.
+const WORDS: &str = "\
+// Worked words.
+04800513 addi x10,x0,72
+00113423 sd x1,8(c2)
+00114823 csc c1,16(c2)
+0101208f clc c1,16(c2)
+fe01115b cincoffsetimm c2,c2,-32
+12b5055b csetboundsexact c10,c10,x11
+00008067 cjalr c0,0(c1)
+0000006f cjal c0,0
+00000073 ecall
+00100073 ebreak
+// Words of an independent model.
+0572b5b7 lui x11,22315
+f8eed237 lui x4,1019629
+053c0717 auipcc c14,21440
+fcbd4717 auipcc c14,1035220
+fd30126f cjal c4,-1040430
+02ffa06f cjal c0,1026094
+5aa3276f cjal c14,206250
+a79724ef cjal c9,-578952
+800605e7 cjalr c11,-2048(c12)
+7ff18567 cjalr c10,2047(c3)
+000c0967 cjalr c18,0(c24)
+80947563 bgeu x8,x9,-4086
+7caacfe3 blt x21,x10,4062
+fc868d63 beq x13,x8,-2086
+9db39763 bne x7,x27,-3634
+cd25cd63 blt x11,x18,-2854
+cd97d8e3 bge x15,x25,-816
+e6cc6e63 bltu x24,x12,-2436
+0bca7563 bgeu x20,x28,170
+800f8e83 lb x29,-2048(c31)
+7ff46b03 lwu x22,2047(c8)
+fff10883 lb x17,-1(c2)
+28a00a83 lb x21,650(c0)
+7ffa1503 lh x10,2047(c20)
+001dab03 lw x22,1(c27)
+a53b3603 ld x12,-1453(c22)
+d42a4303 lbu x6,-702(c20)
+ffffd483 lhu x9,-1(c31)
+800be583 lwu x11,-2048(c23)
+80998023 sb x9,-2048(c19)
+7f60cfa3 csc c22,2047(c1)
+ffad8fa3 sb x26,-1(c27)
+011500a3 sb x17,1(c10)
+81f49023 sh x31,-2048(c9)
+8023a023 sw x2,-2048(c7)
+80a6b023 sd x10,-2048(c13)
+e2c7c9a3 csc c12,-461(c15)
+8004a78f clc c15,-2048(c9)
+7ffe228f clc c5,2047(c28)
+001cae8f clc c29,1(c25)
+80058913 addi x18,x11,-2048
+7ff8841b addiw x8,x17,2047
+fff08213 addi x4,x1,-1
+001e2893 slti x17,x28,1
+d820b613 sltiu x12,x1,-638
+fff64413 xori x8,x12,-1
+0015e993 ori x19,x11,1
+000f7913 andi x18,x30,0
+000b871b addiw x14,x23,0
+00051293 slli x5,x10,0
+03e61c93 slli x25,x12,62
+00145893 srli x17,x8,1
+03ea5c13 srli x24,x20,62
+4006de93 srai x29,x13,0
+43f0d493 srai x9,x1,63
+00019d1b slliw x26,x3,0
+01fb921b slliw x4,x23,31
+000bd11b srliw x2,x23,0
+01fed71b srliw x14,x29,31
+4000569b sraiw x13,x0,0
+41f55e9b sraiw x29,x10,31
+8000105b cincoffsetimm c0,c0,-2048
+7ffc96db cincoffsetimm c13,c25,2047
+955c155b cincoffsetimm c10,c24,-1707
+03532d5b csetboundsimm c26,c6,53
+ff95a35b csetboundsimm c6,c11,4089
+aff5265b csetboundsimm c12,c10,2815
+017488b3 add x17,x9,x23
+001719b3 sll x19,x14,x1
+012e28b3 slt x17,x28,x18
+018ab3b3 sltu x7,x21,x24
+01e5c8b3 xor x17,x11,x30
+018ed1b3 srl x3,x29,x24
+01206cb3 or x25,x0,x18
+00b3f333 and x6,x7,x11
+41540d33 sub x26,x8,x21
+419cdd33 sra x26,x25,x25
+036d8b33 mul x22,x27,x22
+033ac233 div x4,x21,x19
+029ad8b3 divu x17,x21,x9
+02576433 rem x8,x14,x5
+03eef1b3 remu x3,x29,x30
+0026033b addw x6,x12,x2
+004896bb sllw x13,x17,x4
+000558bb srlw x17,x10,x0
+417e023b subw x4,x28,x23
+4047d63b sraw x12,x15,x4
+02ea033b mulw x6,x20,x14
+0360c0bb divw x1,x1,x22
+027153bb divuw x7,x2,x7
+03b8e3bb remw x7,x17,x27
+035c7b3b remuw x22,x24,x21
+103d855b csetbounds c10,c27,x3
+1264815b csetboundsexact c2,c9,x6
+1b518adb candperm c21,c3,x21
+2054055b csetaddr c10,c8,x5
+238d855b cincoffset c10,c27,x24
+42f6035b csetequalexact x6,c12,c15
+fe0a8f5b cgetperm x30,c21
+fe240adb cgetbase x21,c8
+fe358adb cgetlen x21,c11
+fe4581db cgettag x3,c11
+fe690ddb cgetoffset x27,c18
+fe8c8e5b crrl x28,x25
+fe9388db cram x17,x7
+feab805b cmove c0,c23
+febf86db ccleartag c13,c31
+fef48fdb cgetaddr x31,c9
+ff1f06db csealentry c13,c30
+// Texts of an independent model.
+f3f27f97 auipcc c31,999207
+8de07f97 auipcc c31,581127
+3cd9efb7 lui x31,249246
+83fd6037 lui x0,540630
+ceab406f cjal c0,-310038
+cb04906f cjal c0,-748368
+800009e7 cjalr c19,-2048(c0)
+800b0fe7 cjalr c31,-2048(c22)
+cf0f8663 beq x31,x16,-2836
+d20e5363 bge x28,x0,-2778
+e9f0f5e3 bgeu x1,x31,-374
+f80ef163 bgeu x29,x0,-2174
+bbf7c363 blt x15,x31,-3162
+9400ea63 bltu x1,x0,-3756
+da4fede3 bltu x31,x4,-582
+84b31be3 bne x6,x11,-1962
+800c4003 lbu x0,-2048(c24)
+fff9bb83 ld x23,-1(c19)
+80099c03 lh x24,-2048(c19)
+800d2883 lw x17,-2048(c26)
+fffa6f83 lwu x31,-1(c20)
+808fc023 csc c8,-2048(c31)
+ff37cfa3 csc c19,-1(c15)
+81503023 sd x21,-2048(c0)
+fe581fa3 sh x5,-1(c16)
+00052023 sw x0,0(c10)
+800fad0f clc c26,-2048(c31)
+800f0013 addi x0,x30,-2048
+fff0091b addiw x18,x0,-1
+800f0a1b addiw x20,x30,-2048
+fff47013 andi x0,x8,-1
+80077593 andi x11,x14,-2048
+ffffe813 ori x16,x31,-1
+8006af93 slti x31,x13,-2048
+fff8a793 slti x15,x17,-1
+800e3013 sltiu x0,x28,-2048
+7ff6bf93 sltiu x31,x13,2047
+80074f93 xori x31,x14,-2048
+01f21313 slli x6,x4,31
+00111d9b slliw x27,x2,1
+401bd213 srai x4,x23,1
+40195e93 srai x29,x18,1
+41f0519b sraiw x3,x0,31
+01fdd313 srli x6,x27,31
+018008b3 add x17,x0,x24
+00d1803b addw x0,x3,x13
+00a87fb3 and x31,x16,x10
+02014fb3 div x31,x2,x0
+03f05433 divu x8,x0,x31
+0209c6bb divw x13,x19,x0
+02948fbb mulw x31,x9,x9
+0281e033 rem x0,x3,x8
+03f478b3 remu x17,x8,x31
+03f27c3b remuw x24,x4,x31
+0220603b remw x0,x0,x2
+010f9f33 sll x30,x31,x16
+01bf973b sllw x14,x31,x27
+00bfafb3 slt x31,x31,x11
+0059b033 sltu x0,x19,x5
+4102d033 sra x0,x5,x16
+400752bb sraw x5,x14,x0
+01d054b3 srl x9,x0,x29
+41d001b3 sub x3,x0,x29
+40890fbb subw x31,x18,x8
+01154033 xor x0,x10,x17
+800f90db cincoffsetimm c1,c31,-2048
+9c38afdb csetboundsimm c31,c17,2499
+a38fa0db csetboundsimm c1,c31,2616
+1ae20fdb candperm c31,c4,x14
+2315005b cincoffset c0,c10,x17
+22d3005b cincoffset c0,c6,x13
+21a58fdb csetaddr c31,c11,x26
+21400a5b csetaddr c20,c0,x20
+11900fdb csetbounds c31,c0,x25
+10050adb csetbounds c21,c10,x0
+12200b5b csetboundsexact c22,c0,x2
+4340035b csetequalexact x6,c0,c20
+43fb8cdb csetequalexact x25,c23,c31
+fe2f865b cgetbase x12,c31
+fe0f855b cgetperm x10,c31
+fe40025b cgettag x4,c0
+fe848fdb crrl x31,x9
+ff1a8fdb csealentry c31,c21";
 
-/// Whether the word encodes the instruction.
-fn encodes(&(word, form): &(u32, Form)) -> bool {
-    match decode(word) {
-        Some(found) => found == instr_of(form) && encode(found) == word,
-        None => false,
+/// Whether the word encodes the instruction of this text, which is written behind what stands there.
+fn encodes(alloc: Global, word: u32, text: &str) -> Result<bool, NoMemory> {
+    let Some(found) = decode(word) else {
+        return Ok(false);
+    };
+    let is_encoded = encode(found) == word;
+    let mut written = String::from_str(alloc, "65536 ")?;
+    line(found, &mut written)?;
+    Ok(is_encoded && written.as_str().strip_prefix("65536 ") == Some(text))
+}
+
+fn is_so(alloc: Global, row: &str) -> bool {
+    let (word, text) = row.split_once(' ').unwrap_or((row, ""));
+    match u32::from_str_radix(word, 16) {
+        Ok(word) => matches!(encodes(alloc, word, text), Ok(true)),
+        Err(_) => word == "//",
     }
 }
 
-/// The first word that does not encode its instruction.
-fn wrong_word() -> Option<usize> {
-    for (at, row) in WORDS.iter().enumerate() {
-        if !encodes(row) {
-            return Some(at);
+/// The first row that is not so, if there is one.
+fn wrong_row(alloc: Global) -> &'static str {
+    for row in WORDS.lines() {
+        if !is_so(alloc, row) {
+            return row;
         }
     }
-    None
+    ""
 }
 
 /// Words that encode no instruction.
@@ -229,6 +303,7 @@ fn registers_have_names_and_words_encode_instructions(rt: HostRuntime) {
         wrong_unless(there_are_thirty_two()),
     );
     must_all_hold(&rt, "names of registers", wrong_name());
-    must_all_hold(&rt, "words of instructions", wrong_word());
     must_all_hold(&rt, "words of none", wrong_instruction());
+    let wrong = wrong_row(rt.alloc());
+    must_hold(&rt, wrong, wrong.is_empty());
 }

@@ -108,21 +108,15 @@ const FAILING: [Call; 8] = [
     Call::Get("b.c", Ok(b"")),
 ];
 
-fn files_serve(alloc: Global) -> Result<bool, AllocError> {
-    let mut files = files(alloc)?;
-    Ok(are_so(alloc, &mut files, &FAILING) && files.contents("a.c") == Some(b"new".as_slice()))
+fn serve(alloc: Global, files: &mut MemFiles) -> bool {
+    are_so(alloc, files, &FAILING) && files.contents("a.c") == Some(b"new".as_slice())
 }
 
-#[test]
-fn objects_in_memory_fail_in_the_calls_that_are_told(rt: HostRuntime) {
-    let alloc = rt.alloc();
-    must_hold(&rt, "a source", matches!(gives_two(alloc), Ok(true)));
-    must_hold(
-        &rt,
-        "a sink, past its room too",
-        matches!(takes_five(alloc), Ok(true)),
-    );
-    must_hold(&rt, "files", matches!(files_serve(alloc), Ok(true)));
+fn files_serve(alloc: Global) -> bool {
+    match files(alloc) {
+        Ok(mut files) => serve(alloc, &mut files),
+        Err(_) => false,
+    }
 }
 
 fn sure_source_gives(alloc: Global) -> Result<bool, AllocError> {
@@ -141,20 +135,18 @@ fn sure_files_serve(alloc: Global) -> bool {
     are_so(alloc, &mut files, &SURE)
 }
 
-#[test]
-fn sure_objects_do_not_fail(rt: HostRuntime) {
-    let alloc = rt.alloc();
-    must_hold(
-        &rt,
-        "a source",
-        matches!(sure_source_gives(alloc), Ok(true)),
-    );
-    must_hold(
-        &rt,
-        "a sink",
-        takes(&mut SureSink::new(), &[(b"ab", Ok(()))]),
-    );
-    must_hold(&rt, "files", sure_files_serve(alloc));
+/// Whether objects in memory fail in the calls that are told.
+fn told_objects_serve(alloc: Global) -> bool {
+    matches!(gives_two(alloc), Ok(true))
+        && matches!(takes_five(alloc), Ok(true))
+        && files_serve(alloc)
+}
+
+/// Whether those that do not fail serve.
+fn sure_objects_serve(alloc: Global) -> bool {
+    matches!(sure_source_gives(alloc), Ok(true))
+        && takes(&mut SureSink::new(), &[(b"ab", Ok(()))])
+        && sure_files_serve(alloc)
 }
 
 /// Gives a byte of 7 at each read but the second, which fails.
@@ -213,11 +205,18 @@ fn is_removed(system: &impl rt::Files) -> bool {
     fs::remove_file(system, FILE_NAME).is_ok()
 }
 
+/// Whether input goes on after a fault, and ends with its reader, and output fails where its writer takes nothing.
+fn streams_serve() -> bool {
+    input_ends_with_its_reader()
+        && input_goes_on_after_a_fault()
+        && output_fails_where_its_writer_takes_nothing()
+}
+
 #[test]
-fn objects_over_the_system_serve(rt: HostRuntime) {
-    must_hold(&rt, "input ends", input_ends_with_its_reader());
-    must_hold(&rt, "input after a fault", input_goes_on_after_a_fault());
-    must_hold(&rt, "output", output_fails_where_its_writer_takes_nothing());
+fn objects_serve_in_memory_and_over_the_system(rt: HostRuntime) {
+    must_hold(&rt, "told objects", told_objects_serve(rt.alloc()));
+    must_hold(&rt, "sure objects", sure_objects_serve(rt.alloc()));
+    must_hold(&rt, "streams", streams_serve());
     let _ = is_removed(&rt);
     let system = rt.clone().expect(&rt, "memory");
     must_hold(
