@@ -1,6 +1,6 @@
 -- The parts of literals.
 use Rattle.std.specs.Prelude.{ℕ, ◌+◌, ◌^◌, Bool, true, false, not, ◌&&◌, ◌||◌, if◌then◌else◌, ◌==◌, nat_lt, nat_le}
-use Rattle.std.specs.Prelude.{List, [], ◌∷◌, length, take, drop, codes, Option, Some, None, option_map}
+use Rattle.std.specs.Prelude.{List, [], ◌∷◌, length, take, codes, Option, Some, None, option_map}
 use Rattle.std.specs.Str.{byte}
 use Rattle.ck_base.specs.Tokens.{is_among, line_feed}
 use Rattle.ck_base.specs.Literals.{value_of, leading_digits, simple_escape}
@@ -69,3 +69,7 @@ character_at quote [] = None
 character_at quote (b ∷ bs) =
     if b == byte "\\" then option_map (λ found. (found.0, found.1 + 1)) (escape_at bs)
     else (if b == quote || b == line_feed then None else Some (b, 1))
+
+-- a byte that stands for itself between double quotes
+abbrev pub is_plain : ℕ → Bool
+is_plain b = not (b == byte "\\" || b == byte "\"" || b == line_feed)

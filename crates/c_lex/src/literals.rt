@@ -4,13 +4,15 @@ ghost use Rattle.std.specs.Prelude.{◌≡◌, ℕ, ◌+◌, ◌^◌, ◌<◌, �
 ghost use Rattle.std.specs.Prelude.{IfNone, OnOk, OnErr, MatchOption, IsTrue};
 ghost use Rattle.std.specs.List.{prefix_len};
 ghost use Rattle.std.specs.Char.{digit_value, is_digit};
+ghost use Rattle.std.specs.Str.{byte};
 ghost use Rattle.ck_base.specs.declared.tokens.Integer.{Integer as IntegerOf};
 ghost use Rattle.ck_base.specs.Tokens.{is_among as among};
 ghost use Rattle.ck_base.specs.Literals.{are_digits, value_of as number_of, suffixes, leading_digits as digits_ahead};
 ghost use Rattle.ck_base.specs.Literals.{simple_escape as escape_of, in_quotes, IsInteger, IsCharacter, IsString};
+ghost use Rattle.ck_base.specs.Literals.{AreCharacters};
 ghost use Rattle.ck_base.specs.Lexes.{IsAccepted};
 ghost use Rattle.c_lex.specs.Spelled.{base_at, digits_at, suffix_at, has_type as typed, numeric_at, other_escape_at};
-ghost use Rattle.c_lex.specs.Spelled.{escape_at, character_at};
+ghost use Rattle.c_lex.specs.Spelled.{escape_at, character_at, is_plain as plain};
 
 use crate::forms::is_among;
 use c_spellings::digits_of;
@@ -235,6 +237,21 @@ pub fn char_of(text: &[u8]) -> Option<u8>
     }
 }
 
+// A byte that stands for itself between double quotes.
+fn is_plain(b: u8) -> bool
+    ensures { result ≡ plain b }
+{
+    !(b == b'\\' || b == b'"' || b == b'\n')
+}
+
+// How many bytes at the front stand for themselves between double quotes.
+fn plain_length(bytes: &[u8]) -> usize
+    ensures value { result ≡ prefix_len plain bytes.now }
+    ensures within { result ≤ length bytes.now }
+{
+    bytes.iter().take_while(|b| is_plain(**b)).count()
+}
+
 // Whether a string literal is spelled so.
 pub fn is_string(text: &[u8]) -> bool
     ensures { IsTrue result ↔ IsAccepted TokenKind.Text text.now }
@@ -242,10 +259,31 @@ pub fn is_string(text: &[u8]) -> bool
     let Some(mut rest) = contents_of(b'"', text) else {
         return false;
     };
-    while let Some((_, n)) = character(b'"', rest) {
-        rest = &rest[n..];
+    loop {
+        let (_, escaped) = rest.split_at(plain_length(rest));
+        let Some((_, n)) = character(b'"', escaped) else {
+            return escaped.is_empty();
+        };
+        rest = &escaped[n..];
     }
-    rest.is_empty()
+}
+
+// Appends the values of the characters. An error may leave some of them.
+fn append_values(characters: &[u8], into: &mut Vec<u8>) -> Result<(), NoMemory>
+    ensures ok { OnOk result ((values : List ℕ) → AreCharacters (byte "\"") characters.now values →
+        into.new.items ≡ into.old.items ++ values) }
+    ensures err { OnErr result ((some : List ℕ) × (into.new.items ≡ into.old.items ++ some)) }
+{
+    let mut rest = characters;
+    loop {
+        let (plain, escaped) = rest.split_at(plain_length(rest));
+        into.extend_from_slice(plain)?;
+        let Some((value, n)) = character(b'"', escaped) else {
+            return Ok(());
+        };
+        into.push(value)?;
+        rest = &escaped[n..];
+    }
 }
 
 /// Appends the bytes that a string literal spells, without the zero at their end (C11 6.4.5). An error leaves `into` as
@@ -257,15 +295,12 @@ pub fn unescape(text: &[u8], into: &mut Vec<u8>) -> Result<(), NoMemory>
     ensures err { OnErr result (into.new.items ≡ into.old.items) }
 {
     let start = into.len();
-    let Some(mut rest) = contents_of(b'"', text) else {
+    let Some(contents) = contents_of(b'"', text) else {
         unreachable!()
     };
-    while let Some((value, n)) = character(b'"', rest) {
-        if into.push(value).is_err() {
-            into.truncate(start);
-            return Err(NoMemory);
-        }
-        rest = &rest[n..];
+    let done = append_values(contents, into);
+    if done.is_err() {
+        into.truncate(start);
     }
-    Ok(())
+    done
 }
