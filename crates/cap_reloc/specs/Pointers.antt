@@ -13,20 +13,14 @@ use Rattle.c_tree.specs.declared.typed.Link.{Link}
 use Rattle.c_tree.specs.declared.typed.Target.{Target}
 use Rattle.c_tree.specs.declared.typed.Target.TheVariants as target
 use Rattle.obj_mem.specs.declared.map.Map.{Map}
-use Rattle.obj_mem.specs.Legal.{ObjectNeed, owned_of}
-use Rattle.obj_mem.specs.Needs.{global_need, literal_need}
-use Rattle.cap_reloc.specs.declared.pointers.Pointer.{Pointer}
+use Rattle.obj_mem.specs.Needs.{global_need}
+use Rattle.whole_pointers.specs.declared.pointers.Pointer.{Pointer}
+pub use Rattle.whole_pointers.specs.Whole.{whole, literal_pointer}
 
 -- ---- of whole objects, functions and the heap
 
-abbrev pub whole : ObjectNeed → ℕ → Pointer
-whole n base = record { base = base; offset = 0; length = owned_of n; perms = n.permissions }
-
 abbrev pub global_pointer : List CType → GlobalDef × ℕ → Pointer
 global_pointer types g = whole (global_need types g.0) g.1
-
-abbrev pub literal_pointer : Literal × ℕ → Pointer
-literal_pointer l = whole (literal_need l.0) l.1
 
 -- of the globals and then of the literals
 unfoldable pub object_pointers : Typed → Map → List Pointer

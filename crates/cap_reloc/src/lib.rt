@@ -2,7 +2,7 @@
 //!
 //! Promise: each relocation is the capability with which a pointer of the program begins; the other bytes begin as
 //! its objects do.
-//! Definitions (`specs/`): `Begins`, `Initial`.
+//! Definitions (`specs/`): `Whole` of `whole_pointers`; here `Begins`, `Initial`.
 //! Main lemmas (`proofs/`): `Starts`, `Contents`.
 #![tactic(auto)]
 

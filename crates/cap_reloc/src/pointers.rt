@@ -2,36 +2,17 @@
 ghost use Rattle.std.specs.Prelude.{◌≡◌, ℕ, ◌+◌, ◌-◌, ◌%◌, ◌^◌, ◌<◌, ◌++◌, ◌∷◌, [], map, length, slice_get, IfOk, OnOk};
 ghost use Rattle.std.specs.Prelude.{Bool, Some};
 ghost use Rattle.std.specs.List.{zip};
-ghost use Rattle.cap_concentrate.specs.Rounding.{owned};
 ghost use Rattle.cap_layout.specs.Kept.{AreLayoutsOf};
 ghost use Rattle.obj_mem.specs.Needs.{need_of, global_need, literal_need, is_const, is_const_of};
 ghost use Rattle.cap_reloc.specs.Levels.{const_by};
-ghost use Rattle.cap_reloc.specs.Pointers.{whole, global_pointer, literal_pointer, object_pointers, sentry, heap};
+ghost use Rattle.cap_reloc.specs.Pointers.{global_pointer, literal_pointer, object_pointers, sentry, heap};
 ghost use Rattle.cap_reloc.specs.Pointers.{table_pointers};
 
-use c_tree::{CType, GlobalDef, Literal, Typed};
-use cap_concentrate::rounded_length;
+use c_tree::{CType, GlobalDef, Typed};
 use cap_layout::Layouts;
 use obj_mem::Map;
 use std::alloc::{AllocError, Global};
-
-/// A pointer with which a program begins, as a relocation has it.
-#[derive(Clone, Copy)]
-pub struct Pointer {
-    pub base: u64,
-    /// Its address, in bytes from the base.
-    pub offset: u64,
-    /// The length of its bounds, in bytes.
-    pub length: u64,
-    /// Bits 0 to 11 are the permissions, and bit 63 says that it is a sentry.
-    pub perms: u64,
-}
-
-/// All permissions but Execute, for objects that are written and for the heap.
-const DATA: u64 = 0b111_1101;
-
-/// Global, Load and Load_Capability, for literals and for globals of const type.
-const CONST: u64 = 0b1_0101;
+use whole_pointers::{CONST, DATA, Pointer, literal_pointer, whole};
 
 /// A sentry with Global and Execute.
 const SENTRY: u64 = 0x8000_0000_0000_0003;
@@ -100,32 +81,12 @@ fn size_of(layouts: &Layouts, p: &Typed, t: u32) -> u64
     }
 }
 
-// The pointer to a whole object of `size` bytes.
-#[tactic(auto, using(crate::proofs::Sizes::owned_fits))]
-fn whole(base: u64, size: u64, perms: u64) -> Pointer
-    requires { size < 2 ^ 63 }
-    ensures { result ≡ record { base = base; offset = 0; length = owned size; perms = perms } }
-{
-    Pointer {
-        base,
-        offset: 0,
-        length: rounded_length(size),
-        perms,
-    }
-}
-
 fn global_pointer(layouts: &Layouts, p: &Typed, g: &GlobalDef, base: u64) -> Pointer
     requires { AreLayoutsOf p.now.types layouts.now }
     ensures { result ≡ global_pointer p.now.types (g.now, base) }
 {
     let perms = if is_const(p, g.of) { CONST } else { DATA };
     whole(base, size_of(layouts, p, g.of), perms)
-}
-
-fn literal_pointer(l: &Literal, base: u64) -> Pointer
-    ensures { result ≡ literal_pointer (l.now, base) }
-{
-    whole(base, l.bytes.as_slice().len() as u64, CONST)
 }
 
 fn sentry(m: &Map, entry: u64) -> Pointer
