@@ -4,7 +4,6 @@ use Rattle.std.proofs.Common.{drop, Some, None, Ok, Err, refl, arith, add-one}
 use Rattle.std.specs.Prelude.{slice_get, ◌&&◌, ◌%◌}
 use Rattle.std.proofs.lemmas.Bool.{eqb-true, leb-true}
 use Rattle.std.proofs.lemmas.List.{drop_all}
-use Rattle.cap_concentrate.specs.Rounding.{least_base, least_top}
 use Rattle.tag_mem.specs.Areas.{Area}
 use Rattle.tag_mem.specs.Memory.{written}
 use Rattle.tag_mem.specs.Numbers.{little_bytes}
@@ -15,20 +14,7 @@ use Rattle.image_load.specs.declared.refusal.LoadRefusal.TheVariants as refusal
 use Rattle.image_load.specs.Judging.{Extent, Judged, end_of, is_encodable, is_place, is_capability, capability_of}
 use Rattle.image_load.specs.Judging.{judged_relocs}
 use Rattle.image_load.specs.State.{relocated}
-
--- ---- tests that hold together
-
-pub and_both : (a b : Bool) → (a && b) ≡ true → (a ≡ true) × (b ≡ true)
-and_both true b h = (refl, h)
-and_both false b h = absurd cc
-
-pub exact_facts : (e : Extent) → is_encodable e ≡ true →
-    (end_of e ≤ 2 ^ 64) × (least_base e.0 (end_of e) ≡ e.0) × (least_top e.0 (end_of e) ≡ end_of e)
-unfolding is_encodable
-exact_facts e h =
-    let f = and_both _ _ h in
-    let g = and_both _ _ f.0 in
-    (leb-true _ _ g.0, eqb-true _ _ g.1, eqb-true _ _ f.1)
+use Rattle.image_registers.proofs.Exact.{and_both}
 
 -- ---- the list from a place on
 

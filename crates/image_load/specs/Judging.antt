@@ -1,23 +1,18 @@
 -- Which images are refused, and by which refusal: the tests in their order, the first that fails decides.
 use Rattle.std.specs.Prelude.{ℕ, ◌+◌, ◌/◌, ◌%◌, ◌^◌, ◌==◌, ◌&&◌, ◌||◌, not, nat_lt, nat_le, nat_eq, Bool, List, [], ◌∷◌}
 use Rattle.std.specs.Prelude.{length, Result, Ok, Err, if◌then◌else◌}
-use Rattle.cap_concentrate.specs.Rounding.{least_base, least_top}
 use Rattle.cap_ops.specs.declared.capability.Cap.{Cap}
 use Rattle.cap_ops.specs.declared.capability.TheConstants.{UNSEALED, SENTRY}
 use Rattle.cap_ops.specs.Capability.{base, top}
 use Rattle.cap_ops.specs.Bounded.{bounded}
+pub use Rattle.image_registers.specs.Extents.{Extent, end_of}
+unfoldable pub use Rattle.image_registers.specs.Extents.{is_encodable}
 use Rattle.elf_file.specs.declared.image.Image.{Image}
 use Rattle.elf_file.specs.declared.image.Reloc.{Reloc}
 use Rattle.image_load.specs.declared.refusal.LoadRefusal.{LoadRefusal}
 use Rattle.image_load.specs.declared.refusal.LoadRefusal.TheVariants as refusal
 
--- ---- extents: a base and a length
-
-abbrev pub Extent : Type 0
-Extent = ℕ × ℕ
-
-abbrev pub end_of : Extent → ℕ
-end_of e = e.0 + e.1
+-- ---- extents
 
 abbrev pub text_of : Image → Extent
 text_of i = (i.text_base, length i.text)
@@ -58,11 +53,6 @@ unfoldable pub is_entry : ℕ → Extent → Bool
 is_entry at text = nat_le text.0 at && nat_lt at (end_of text) && at % 4 == 0
 
 -- ---- capabilities
-
--- the bounds can be encoded as they are: they are the least bounds of themselves
-unfoldable pub is_encodable : Extent → Bool
-is_encodable e = nat_le (end_of e) (2 ^ 64) && nat_eq (least_base e.0 (end_of e)) e.0
-    && nat_eq (least_top e.0 (end_of e)) (end_of e)
 
 -- the permission word: bits 0 to 6 are permissions, bit 63 says sentry, and the others are 0; a sentry has Execute
 abbrev pub is_sentry : ℕ → Bool

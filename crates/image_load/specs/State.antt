@@ -1,11 +1,9 @@
 -- The state that an image loads to.
-use Rattle.std.specs.Prelude.{ℕ, ◌==◌, true, false, List, [], ◌∷◌, nat_lt, replicate, slice_set, if◌then◌else◌}
+use Rattle.std.specs.Prelude.{ℕ, ◌==◌, true, false, List, [], ◌∷◌, nat_lt, if◌then◌else◌}
 use Rattle.std.specs.List.{insert, prefix_len}
 use Rattle.cap_ops.specs.declared.capability.Cap.{Cap}
-use Rattle.cap_ops.specs.declared.capability.TheConstants.{UNSEALED}
-use Rattle.cap_ops.specs.Capability.{null_at}
-use Rattle.cap_ops.specs.Bounded.{bounded}
-use Rattle.cap_ops.specs.Permissions.{data_permissions, code_permissions}
+use Rattle.cap_ops.specs.Permissions.{code_permissions}
+pub use Rattle.image_registers.specs.Extents.{of_extent, registers}
 use Rattle.tag_mem.specs.Areas.{Area}
 use Rattle.tag_mem.specs.Memory.{written}
 use Rattle.tag_mem.specs.Numbers.{little_bytes}
@@ -15,7 +13,7 @@ use Rattle.cap_machine.specs.declared.machine.Machine.{Machine}
 use Rattle.cap_machine.specs.Rows.{memory_bits}
 use Rattle.elf_file.specs.declared.image.Image.{Image}
 use Rattle.elf_file.specs.declared.image.Reloc.{Reloc}
-use Rattle.image_load.specs.Judging.{Extent, end_of, segments_of, text_of, capability_of}
+use Rattle.image_load.specs.Judging.{Extent, segments_of, text_of, capability_of}
 
 -- ---- memory
 
@@ -43,14 +41,9 @@ memory_of i = relocated (written (written (fresh (regions_of (segments_of i))) i
 
 -- ---- registers
 
--- a capability of an extent at an address
-abbrev pub of_extent : Extent → ℕ → ℕ → Cap
-of_extent e perms at = bounded e.0 (end_of e) perms UNSEALED at
-
 -- c2 has the stack, with its top as address, c3 the table, with its base as address, and the others null
 abbrev pub registers_of : Image → List Cap
-registers_of i = slice_set (slice_set (replicate 32 (null_at 0)) 2
-    (of_extent i.stack data_permissions (end_of i.stack))) 3 (of_extent i.table data_permissions i.table.0)
+registers_of i = registers i.stack i.table
 
 -- the counter has the text, at the entry
 unfoldable pub machine_of : Image → Machine

@@ -1,21 +1,9 @@
-//! Extents, and the tests of a loader on them.
+//! The tests of a loader on extents.
 ghost use Rattle.std.specs.Prelude.{◌≡◌, ◌+◌, ◌<◌, ◌≤◌, ◌^◌, true};
-ghost use Rattle.image_load.specs.Judging.{end_of, lies_well, segments_fit, overlap, some_overlap, lies_inside};
-ghost use Rattle.image_load.specs.Judging.{is_entry, is_encodable, is_place, is_permission_word, is_sentry};
-ghost use Rattle.cap_ops.specs.Bounded.{bounded};
+ghost use Rattle.image_load.specs.Judging.{lies_well, segments_fit, overlap, some_overlap, lies_inside};
+ghost use Rattle.image_load.specs.Judging.{is_entry, is_place, is_permission_word, is_sentry};
 
-use cap_concentrate::{Fields, set_bounds};
-use cap_ops::Cap;
-
-/// A base and a length in bytes.
-pub type Extent = (u64, u64);
-
-fn end_of(e: Extent) -> u128
-    ensures value { result ≡ end_of e }
-    ensures small { result < 2 ^ 65 }
-{
-    u128::from(e.0) + u128::from(e.1)
-}
+use image_registers::{Extent, end_of};
 
 #[tactic(auto, unfolding(crate::specs::Judging::lies_well))]
 fn lies_well(e: Extent) -> bool
@@ -83,19 +71,6 @@ pub fn is_place(at: u64, initial: Extent) -> bool
     at % 16 == 0 && initial.0 <= at && u128::from(at) + 16 <= end_of(initial)
 }
 
-/// Whether a capability can have these bounds as they are.
-#[tactic(auto, unfolding(crate::specs::Judging::is_encodable))]
-pub fn is_encodable(e: Extent) -> bool
-    ensures { result ≡ is_encodable e }
-{
-    let end = end_of(e);
-    if end > 1 << 64 {
-        return false;
-    }
-    let bounds = set_bounds(e.0, e.1);
-    bounds.base == e.0 && bounds.top == end
-}
-
 /// Whether the word says a sentry.
 pub fn is_sentry(word: u64) -> bool
     ensures { result ≡ is_sentry word }
@@ -109,28 +84,4 @@ pub fn is_permission_word(word: u64) -> bool
     ensures { result ≡ is_permission_word word }
 {
     word % (1 << 63) < 128 && (!is_sentry(word) || word / 2 % 2 == 1)
-}
-
-/// The capability of an extent.
-pub fn bounded(e: Extent, perms: u16, otype: u32, address: u64) -> Cap
-    requires exact { is_encodable e ≡ true }
-    requires perms { perms < 4096 }
-    requires otype { otype < 2 ^ 18 }
-    ensures { result ≡ bounded e.0 (end_of e) perms otype address }
-{
-    let bounds = set_bounds(e.0, e.1);
-    Cap {
-        tag: true,
-        fields: Fields {
-            user: 0,
-            perms,
-            reserved: 0,
-            flag: false,
-            otype,
-            internal: bounds.internal,
-            t: bounds.t,
-            b: bounds.b,
-            address,
-        },
-    }
 }

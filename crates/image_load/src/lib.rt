@@ -2,7 +2,7 @@
 //!
 //! Promise: `load` gives exactly the image's state or the first refusal; a contained image is loaded to a contained
 //! state.
-//! Definitions (`specs/`): `Judging`, `State`, `Loading`, `Contained`.
+//! Definitions (`specs/`): `Extents` of `image_registers`; here `Judging`, `State`, `Loading`, `Contained`.
 //! Main lemmas (`proofs/`): `Judged`, `First`.
 #![tactic(auto)]
 

@@ -2,7 +2,7 @@
 ghost use Rattle.std.specs.Prelude.{All, ◌≡◌, ◌%◌, ◌≤◌, ◌<◌, ◌^◌, ℕ, true, Ok, OnOk, IfOk, List, length, nat_lt};
 ghost use Rattle.std.specs.List.{prefix_len};
 ghost use Rattle.cap_concentrate.specs.declared.fields.Fields.{Fields as FieldsOf};
-ghost use Rattle.image_load.specs.Judging.{end_of, segments_of, text_of, initial_of, judged, is_encodable};
+ghost use Rattle.image_load.specs.Judging.{segments_of, text_of, initial_of, judged, is_encodable};
 ghost use Rattle.image_load.specs.State.{with_region, regions_of, relocated, memory_of, of_extent, machine_of};
 ghost use Rattle.image_load.specs.State.{registers_of};
 ghost use Rattle.image_load.specs.Loading.{Loads};
@@ -10,21 +10,18 @@ ghost use Rattle.image_load.specs.Contained.{text_in, Contained};
 ghost use Rattle.cap_machine.specs.Containment.{IsContained, RunsContained};
 ghost use Rattle.cap_machine.specs.Rows.{memory_bits};
 
-use crate::extent::{Extent, bounded};
 use crate::judging::{
     capability_of, entry_of, heap_of, initial_of, judge, stack_of, table_of, text_of,
 };
 use crate::refusal::LoadRefusal;
 use cap_concentrate::{Fields, flip_null, pack};
 use cap_machine::Machine;
-use cap_ops::{Cap, UNSEALED, null};
+use cap_ops::{Cap, UNSEALED};
 use ck_base::NoMemory;
 use elf_file::View;
+use image_registers::{Extent, bounded, registers};
 use std::alloc::Global;
 use tag_mem::{Mem, Region};
-
-/// All permissions but Execute.
-const DATA: u16 = 125;
 
 /// Global and Execute.
 const TEXT: u16 = 3;
@@ -112,24 +109,12 @@ fn memory_of(alloc: Global, view: &View<'_>) -> Result<Mem, NoMemory>
     Ok(mem)
 }
 
-fn end(e: Extent) -> u64
-    requires { end_of e < 2 ^ 64 }
-    ensures { result ≡ end_of e }
-{
-    e.0 + e.1
-}
-
 /// The registers of an image that is not refused.
 fn registers_of(view: &View<'_>) -> [Cap; 32]
     requires { judged view.now ≡ Ok tt }
     ensures { result ≡ registers_of view.now }
 {
-    let stack = stack_of(view);
-    let table = table_of(view);
-    let mut regs = [null(0); 32];
-    regs[2] = bounded(stack, DATA, UNSEALED, end(stack));
-    regs[3] = bounded(table, DATA, UNSEALED, table.0);
-    regs
+    registers(stack_of(view), table_of(view))
 }
 
 /// The counter of an image that is not refused: the text, at the entry.
