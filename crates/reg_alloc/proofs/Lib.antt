@@ -1,5 +1,4 @@
 pub mod Checked
-pub mod NextCall
 pub mod Choice
 pub mod Numbered
 pub mod Steps

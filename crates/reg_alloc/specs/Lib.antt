@@ -1,4 +1,2 @@
 pub mod Placed
-pub mod Calls
-pub mod Ranks
 pub mod Scanned

@@ -1,7 +1,8 @@
 -- Homes that keep live intervals apart.
 use Rattle.std.specs.Prelude.{ℕ, ◌≡◌, ◌≢◌, ◌+◌, ◌<◌, ◌≤◌, ◌⊎◌, Bool, ◌&&◌, nat_le, List, length, slice_get, Some}
 use Rattle.std.specs.Prelude.{Contains, count_by}
-use Rattle.reg_alloc.specs.declared.places.Interval.{Interval}
+pub use Rattle.register_ranks.specs.declared.intervals.Interval.{Interval}
+pub use Rattle.register_ranks.specs.Crossing.{IsCrossed, IsPassed}
 use Rattle.reg_alloc.specs.declared.places.Home.{Home}
 use Rattle.reg_alloc.specs.declared.places.Home.TheVariants.{Register, Slot}
 
@@ -10,10 +11,6 @@ use Rattle.reg_alloc.specs.declared.places.Home.TheVariants.{Register, Slot}
 -- two intervals hold a common instruction
 abbrev pub Meet : Interval → Interval → Type 0
 Meet v w = (n : ℕ) × (v.first ≤ n) × (n ≤ v.last) × (w.first ≤ n) × (n ≤ w.last)
-
--- some call crosses an interval: it stands strictly between its ends
-abbrev pub IsCrossed : List ℕ → Interval → Type 0
-IsCrossed calls v = (c : ℕ) × Contains calls c × (v.first < c) × (c < v.last)
 
 -- ---- registers
 
@@ -66,11 +63,7 @@ pub record IsRelaxed (live : List Interval) (calls : List ℕ) : Type 0 where
   pub few : (n : ℕ) → count_by (holds n) live ≤ 10
   pub uncrossed : (i : ℕ) (v : Interval) → slice_get live i ≡ Some v → IsCrossed calls v → ⊥
 
--- an interval begins at the function's entry or ends at a call, where c10 to c17 have arguments
-abbrev pub IsPassed : List ℕ → Interval → Type 0
-IsPassed calls v = (v.first ≡ 0) ⊎ Contains calls v.last
-
--- interval i, if it is one of those, is in the register of an argument only as the parameter that arrives there and
+-- interval i, if it begins at the entry or ends at a call, is in the register of an argument only as the parameter that arrives there and
 -- does not end at a call
 abbrev pub StaysClear : List ℕ → ℕ → Interval → Home → Type 0
 StaysClear calls i v (Register r) =

@@ -1,14 +1,6 @@
-//! Live intervals and their homes.
+//! The homes of live intervals.
 
 use ck_base::Sequence;
-
-/// Where a temp is live, in numbers of instructions, which count from 1; 0 is the function's entry. It holds both ends.
-/// An interval whose first is above its last holds no instruction.
-#[derive(Clone, Copy, Debug, PartialEq, Eq)]
-pub struct Interval {
-    pub first: u32,
-    pub last: u32,
-}
 
 /// Where a value stands: in a register, by its number, or in a slot of the frame, counted from 0.
 #[derive(Clone, Copy, Debug, PartialEq, Eq)]

@@ -2,13 +2,12 @@
 ghost use Rattle.std.specs.Prelude.{◌≡◌, ◌+◌, ◌^◌, ◌<◌, ◌≤◌, ℕ, ◌↔◌, [], ◌∷◌, ◌++◌, All, IsTrue, IfOk, IfSome};
 ghost use Rattle.std.specs.Prelude.{IfNone, List, length, replicate, slice_index, slice_set};
 ghost use Rattle.reg_alloc.specs.Placed.{IsCrossed, IsPlaced, IsSlotBelow, IsRegister, IsRelaxed, StaysClearAt};
-ghost use Rattle.reg_alloc.specs.Ranks.{register_of};
+ghost use Rattle.register_ranks.specs.Ranks.{register_of};
 ghost use Rattle.reg_alloc.specs.Scanned.{entries_from, AreInOrder, IsNext, IsChoice, AreTaken, HasScanned};
 
-use crate::calls::Calls;
-use crate::places::{Home, Interval, Places};
-use crate::ranks::{RANKS, lowest_rank, own_rank, register_of};
+use crate::places::{Home, Places};
 use ck_base::{NoMemory, Sequence};
+use register_ranks::{Calls, Interval, RANKS, lowest_rank, own_rank, register_of, take};
 use std::alloc::{AllocError, Global};
 
 /// An interval and its place in the caller's list.
@@ -101,7 +100,7 @@ impl Scan {
         ensures free { self.new.free_from ≡ slice_set self.old.free_from rank (e.interval.last + 1) }
         ensures slots { self.new.slots ≡ self.old.slots }
     {
-        self.free_from[rank] = u64::from(e.interval.last) + 1;
+        take(&mut self.free_from, rank, e.interval);
         self.homes[e.index] = Home::Register(register_of(rank));
     }
 

@@ -1,9 +1,8 @@
 -- What homes keep of a function's temps, along the ways that control takes through its code.
 use Rattle.std.specs.Prelude.{◌≡◌, ◌⊎◌, ℕ, ◌+◌, ◌<◌, ◌≤◌, true, List, ◌∷◌, length, slice_get, Some}
-use Rattle.reg_alloc.specs.Placed.{IsKept, IsPlaced, IsUsable, StaysClearAt}
+use Rattle.reg_alloc.specs.Placed.{Interval, IsKept, IsPlaced, IsUsable, StaysClearAt}
 use Rattle.reg_alloc.specs.declared.places.Home.{Home}
 use Rattle.reg_alloc.specs.declared.places.Home.TheVariants.{Register}
-use Rattle.reg_alloc.specs.declared.places.Interval.{Interval}
 use Rattle.tac_ir.specs.Temps.{Awaits, IsIn, WritesFirst, behind, falls, goes_to, reads, writes}
 use Rattle.tac_ir.specs.declared.code.TacFun.{TacFun}
 use Rattle.tac_ir.specs.declared.code.TacInstr.{TacInstr}

@@ -3,10 +3,9 @@ use Rattle.std.specs.Prelude.{IfOk}
 use Rattle.std.specs.List.{All}
 use Rattle.std.proofs.lemmas.List.Elements.{All-weaker}
 use Rattle.reg_alloc.specs.Placed as alloc
-use Rattle.reg_alloc.specs.Placed.{IsPlaced, StaysClearAt}
+use Rattle.reg_alloc.specs.Placed.{Interval, IsPlaced, StaysClearAt}
 use Rattle.reg_alloc.specs.declared.places.Home.{Home}
 use Rattle.reg_alloc.specs.declared.places.Home.TheVariants.{Register, Slot}
-use Rattle.reg_alloc.specs.declared.places.Interval.{Interval}
 use Rattle.reg_alloc.specs.declared.places.Places.{Places}
 use Rattle.purecap_abi.specs.Saving.{IsSlotBelow}
 use Rattle.tac_ir.specs.declared.code.TacFun.{TacFun}

@@ -1,10 +1,10 @@
 //! The registers of the allocator, by rank: the order in which it tries them.
 ghost use Rattle.std.specs.Prelude.{◌≡◌, ◌<◌, ◌≤◌, IfSome};
-ghost use Rattle.reg_alloc.specs.Placed.{IsCrossed, IsPassed};
-ghost use Rattle.reg_alloc.specs.Ranks.{register_of, IsOwnRank};
+ghost use Rattle.register_ranks.specs.Crossing.{IsCrossed, IsPassed};
+ghost use Rattle.register_ranks.specs.Ranks.{register_of, IsOwnRank};
 
 use crate::calls::Calls;
-use crate::places::Interval;
+use crate::intervals::Interval;
 
 /// The number of registers that the allocator may use.
 pub const RANKS: usize = 23;

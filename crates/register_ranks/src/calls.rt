@@ -1,9 +1,9 @@
 //! The calls of a function, in order.
 ghost use Rattle.std.specs.Prelude.{ℕ, ◌↔◌, IsTrue, IfOk, Contains};
 ghost use Rattle.std.specs.List.Sorted.{IsPermutation, IsNonDecreasing};
-ghost use Rattle.reg_alloc.specs.Calls.{IsNextAbove};
+ghost use Rattle.register_ranks.specs.Calls.{IsNextAbove};
 
-use crate::places::Interval;
+use crate::intervals::Interval;
 use std::alloc::{AllocError, Global};
 
 /// The numbers of a function's calls, in ascending order.
@@ -14,7 +14,7 @@ pub struct Calls {
 }
 
 impl Calls {
-    ghost use Rattle.reg_alloc.specs.Placed.{IsCrossed};
+    ghost use Rattle.register_ranks.specs.Crossing.{IsCrossed};
 
     pub fn new(alloc: Global, calls: &[u32]) -> Result<Self, AllocError>
         ensures { IfOk result (λ c. IsPermutation calls.now c.numbers.items) }
