@@ -3,15 +3,12 @@
 //!
 //! Promise: `audit` says yes exactly where the image is contained, and else names the first word or relocation that
 //! breaks a rule.
-//! Definitions (`specs/`): `Audit`; `Contained` of `image_load`.
-//! Main lemmas (`proofs/`): `Audited`, `AuditedImage`.
+//! Definitions (`specs/`): `Audit`; `Contained` of `image_load`; `Rules` of `audit_rules`.
+//! Main lemmas (`proofs/`): `AuditedImage` of `audit_rules`.
 #![tactic(auto)]
 
 mod auditing;
-mod reached;
-mod rules;
 mod verdict;
-mod words;
 
 pub use auditing::audit;
 pub use verdict::Verdict;
