@@ -4,4 +4,4 @@ pub use Rattle.purecap_words.specs.Words
 pub use Rattle.purecap_words.specs.Numbers
 pub use Rattle.purecap_ends.specs.Saving
 pub use Rattle.purecap_ends.specs.Ends
-pub use Rattle.purecap_ends.specs.declared.ends.Way
+pub use Rattle.purecap_ends.specs.Way

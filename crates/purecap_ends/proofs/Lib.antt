@@ -1,2 +1,2 @@
-pub mod Counts
-pub mod EndLaws
+pub use Rattle.frame_words.proofs.Counts
+pub use Rattle.frame_words.proofs.EndLaws

@@ -2,7 +2,7 @@ use Rattle.std.proofs.Common.{List, length, ◌≤◌, subst, sym, rules}
 use Rattle.std.specs.List.{All}
 use Rattle.rv_instr.specs.declared.instr.Instr.{Instr}
 use Rattle.purecap_words.specs.Words.{IsPlainWord}
-use Rattle.purecap_ends.proofs.EndLaws.{prologue_most}
+use Rattle.frame_words.proofs.EndLaws.{prologue_most}
 use Rattle.purecap_ends.proofs.ends.prologue.Goals as goal
 
 pub returns-clause-code : goal.returns-clause-code

@@ -18,16 +18,16 @@ use Rattle.rv_instr.specs.declared.ops.CapGetOp.TheVariants.{Cmove}
 use Rattle.rv_instr.specs.Range.{InRange, FitsBits}
 use Rattle.reg_alloc.specs.declared.places.Home.{Home}
 use Rattle.obj_mem.specs.declared.map.Frame.{Frame}
-use Rattle.purecap_ends.specs.declared.ends.Way.{Way}
-use Rattle.purecap_ends.specs.declared.ends.Way.TheVariants.{ToFrame, FromFrame}
+use Rattle.frame_words.specs.declared.frames.Way.{Way}
+use Rattle.frame_words.specs.declared.frames.Way.TheVariants.{ToFrame, FromFrame}
 use Rattle.purecap_words.specs.Words.{IsPlainWord, wide_code, load_code, store_code, moved_code}
-use Rattle.purecap_ends.specs.Saving.{kept_homes, kept_registers, is_home, keeps_stack, registers_at, stack_at}
-use Rattle.purecap_ends.specs.Ends.{negative, take_plain, take_aligned, take_code, give_plain, give_code, stack_code}
-use Rattle.purecap_ends.specs.Ends.{keep, keep_from, keep_at, keep_code, before_store, link_store, prologue_code}
-use Rattle.purecap_ends.specs.Ends.{epilogue_code}
+use Rattle.frame_words.specs.Saving.{kept_homes, kept_registers, is_home, keeps_stack, registers_at, stack_at}
+use Rattle.frame_words.specs.Ends.{negative, take_plain, take_aligned, take_code, give_plain, give_code, stack_code}
+use Rattle.frame_words.specs.Ends.{keep, keep_from, keep_at, keep_code, before_store, link_store, prologue_code}
+use Rattle.frame_words.specs.Ends.{epilogue_code}
 use Rattle.purecap_words.proofs.Ranges.{all_none, all_cons, all_one, fits_pos, AreAtMost, AreFew, r_wide, r_clc, r_csc}
 use Rattle.purecap_words.proofs.Ranges.{r_move, r_register, load_few, store_few, moved_few}
-use Rattle.purecap_ends.proofs.Counts.{kept_most, length_filter}
+use Rattle.frame_words.proofs.Counts.{kept_most, length_filter}
 
 -- ---- lists of words
 

@@ -1,8 +1,8 @@
 use Rattle.std.proofs.Common.{arith}
 use Rattle.std.proofs.lemmas.Grind.{common_steps}
 use Rattle.std.proofs.lemmas.List.Filters.{length-filter_more}
-use Rattle.purecap_ends.specs.Saving.{is_home, kept_homes, kept_registers}
-use Rattle.purecap_ends.proofs.saving.registers_of.Goals as goal
+use Rattle.frame_words.specs.Saving.{is_home, kept_homes, kept_registers}
+use Rattle.frame_words.proofs.saving.registers_of.Goals as goal
 
 pub loop-register-preserved : goal.loop-register-preserved
 loop-register-preserved c = record {

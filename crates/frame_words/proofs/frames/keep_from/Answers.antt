@@ -1,7 +1,7 @@
 use Rattle.std.proofs.Common.{◌≡◌, ◌++◌, ◌∙◌, ap, arith, rules}
-use Rattle.purecap_ends.specs.Ends.{keep_from}
-use Rattle.purecap_ends.proofs.EndLaws.{kept_more, at_more_homes, few_homes, nothing_kept, whole_homes}
-use Rattle.purecap_ends.proofs.ends.keep_from.Goals as goal
+use Rattle.frame_words.specs.Ends.{keep_from}
+use Rattle.frame_words.proofs.EndLaws.{kept_more, at_more_homes, few_homes, nothing_kept, whole_homes}
+use Rattle.frame_words.proofs.frames.keep_from.Goals as goal
 
 pub loop-register-init : goal.loop-register-init
 loop-register-init c = record {

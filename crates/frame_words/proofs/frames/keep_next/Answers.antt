@@ -1,9 +1,9 @@
 use Rattle.std.proofs.Common.{[], ◌∷◌, ◌++◌, ◌∙◌, ap, sym}
 use Rattle.rv_instr.specs.declared.instr.Instr.{Instr}
-use Rattle.purecap_ends.specs.Saving.{is_home}
-use Rattle.purecap_ends.specs.Ends.{keep}
-use Rattle.purecap_ends.proofs.EndLaws.{none_kept, one_kept}
-use Rattle.purecap_ends.proofs.ends.keep_next.Goals as goal
+use Rattle.frame_words.specs.Saving.{is_home}
+use Rattle.frame_words.specs.Ends.{keep}
+use Rattle.frame_words.proofs.EndLaws.{none_kept, one_kept}
+use Rattle.frame_words.proofs.frames.keep_next.Goals as goal
 
 pub returns-in_ok-put-clause-code : goal.returns-in_ok-put-clause-code
 returns-in_ok-put-clause-code c =

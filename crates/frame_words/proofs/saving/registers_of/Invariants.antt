@@ -1,7 +1,7 @@
 use Rattle.std.proofs.Common.{◌≡◌, ◌≤◌, length, take}
 use Rattle.std.specs.List.{filter}
-use Rattle.purecap_ends.specs.Saving.{is_home}
-use Rattle.purecap_ends.proofs.saving.registers_of.Given as goal
+use Rattle.frame_words.specs.Saving.{is_home}
+use Rattle.frame_words.proofs.saving.registers_of.Given as goal
 
 abbrev pub invariant-loop-register : goal.invariant-loop-register
 invariant-loop-register l = record {

@@ -1,6 +1,6 @@
 use Rattle.std.proofs.Common.{◌≡◌, ◌≤◌, take}
-use Rattle.purecap_ends.specs.Saving.{slot_count}
-use Rattle.purecap_ends.proofs.saving.slots_of.Given as goal
+use Rattle.frame_words.specs.Saving.{slot_count}
+use Rattle.frame_words.proofs.saving.slots_of.Given as goal
 
 abbrev pub invariant-loop-home : goal.invariant-loop-home
 invariant-loop-home l = record {

@@ -1,10 +1,10 @@
 //! What stands in the saved bytes of a frame.
 
 ghost use Rattle.std.specs.Prelude.{◌≡◌, ◌+◌, ◌*◌, ◌<◌, ◌≤◌, length, None, Some, if◌then◌else◌};
-ghost use Rattle.purecap_ends.specs.Saving.{is_register, is_home, kept_homes, slots_to, slot_count, keeps_stack};
-ghost use Rattle.purecap_ends.specs.Saving.{stack_bytes, kept_bytes, IsFor, registers_at, stack_at, slots_at};
+ghost use Rattle.frame_words.specs.Saving.{is_register, is_home, kept_homes, slots_to, slot_count, keeps_stack};
+ghost use Rattle.frame_words.specs.Saving.{stack_bytes, kept_bytes, IsFor, registers_at, stack_at, slots_at};
 
-use crate::offsets::Saved;
+use frame_offsets::Saved;
 use obj_mem::Frame;
 use reg_alloc::{Home, Places};
 

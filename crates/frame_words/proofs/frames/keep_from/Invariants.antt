@@ -1,7 +1,7 @@
 use Rattle.std.proofs.Common.{◌≡◌, ◌+◌, ◌*◌, ◌++◌, length}
-use Rattle.purecap_ends.specs.Ends.{keep_from}
-use Rattle.purecap_ends.proofs.EndLaws.{first_homes}
-use Rattle.purecap_ends.proofs.ends.keep_from.Given as goal
+use Rattle.frame_words.specs.Ends.{keep_from}
+use Rattle.frame_words.proofs.EndLaws.{first_homes}
+use Rattle.frame_words.proofs.frames.keep_from.Given as goal
 
 abbrev pub invariant-loop-register : goal.invariant-loop-register
 invariant-loop-register l = record {

@@ -12,10 +12,10 @@ use Rattle.rv_instr.specs.declared.ops.CapRegOp.TheVariants.{Cincoffset, Csetadd
 use Rattle.rv_instr.specs.declared.ops.CapGetOp.TheVariants.{Cmove}
 use Rattle.reg_alloc.specs.declared.places.Home.{Home}
 use Rattle.obj_mem.specs.declared.map.Frame.{Frame}
-use Rattle.purecap_ends.specs.declared.ends.Way.{Way}
-use Rattle.purecap_ends.specs.declared.ends.Way.TheVariants.{ToFrame, FromFrame}
+use Rattle.frame_words.specs.declared.frames.Way.{Way}
+use Rattle.frame_words.specs.declared.frames.Way.TheVariants.{ToFrame, FromFrame}
 use Rattle.purecap_words.specs.Words.{wide_code, load_code, store_code, moved_code}
-use Rattle.purecap_ends.specs.Saving.{kept_homes, keeps_stack, registers_at, stack_at}
+use Rattle.frame_words.specs.Saving.{kept_homes, keeps_stack, registers_at, stack_at}
 
 -- ---- the frame
 

@@ -6,7 +6,7 @@ use Rattle.std.specs.List.{All, filter}
 use Rattle.std.proofs.lemmas.Option.{same_Some}
 use Rattle.reg_alloc.specs.declared.places.Home.{Home}
 use Rattle.reg_alloc.specs.declared.places.Home.TheVariants.{Register, Slot}
-use Rattle.purecap_ends.specs.Saving.{slots_to, slot_count, IsSlotBelow, is_home, kept_homes, kept_registers}
+use Rattle.frame_words.specs.Saving.{slots_to, slot_count, IsSlotBelow, is_home, kept_homes, kept_registers}
 
 pub slot_count_more : (hs : List Home) (i : ℕ) (d : Home) → i < length hs →
     slot_count (take (i + 1) hs) ≡ max (slot_count (take i hs)) (slots_to (get_or hs i d))

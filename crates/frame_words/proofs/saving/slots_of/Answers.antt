@@ -1,8 +1,8 @@
 use Rattle.std.proofs.Common.{arith}
 use Rattle.std.proofs.lemmas.Grind.{common_steps}
 use Rattle.reg_alloc.specs.declared.places.Home.TheVariants.{Register}
-use Rattle.purecap_ends.proofs.Counts.{slot_count_more}
-use Rattle.purecap_ends.proofs.saving.slots_of.Goals as goal
+use Rattle.frame_words.proofs.Counts.{slot_count_more}
+use Rattle.frame_words.proofs.saving.slots_of.Goals as goal
 
 pub loop-home-preserved : goal.loop-home-preserved
 loop-home-preserved c = record {
