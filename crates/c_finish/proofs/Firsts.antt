@@ -17,7 +17,7 @@ use Rattle.c_elaborator.specs.declared.work.Used.{Used}
 use Rattle.c_elaborator.specs.declared.work.Work.{Work}
 use Rattle.c_tree.specs.Scopes.{State}
 use Rattle.c_elaborator.specs.Work.{Shows, UseIsThere, first_place, is_object, is_function, definition_of}
-use Rattle.c_plain_rules.specs.declared.tables.Uses.{Uses}
+use Rattle.c_plain_rules.specs.Uses.{Uses}
 use Rattle.c_plain_rules.specs.Tables.{HasUses, item_at, LastDefinitions}
 use Rattle.c_plain_rules.proofs.Backwards.{drop_step, drop_past}
 use Rattle.c_plain_rules.proofs.Shown.{statics_count, routines_count}

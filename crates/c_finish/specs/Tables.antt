@@ -3,7 +3,7 @@ use Rattle.std.specs.Prelude.{◌≡◌, ℕ, ◌<◌, ◌==◌, if◌then◌els
 use Rattle.c_elaborator.specs.declared.work.Use.{Use}
 use Rattle.c_elaborator.specs.declared.work.Filling.{Filling}
 use Rattle.c_elaborator.specs.declared.work.Work.{Work}
-use Rattle.c_plain_rules.specs.declared.tables.Uses.{Uses}
+use Rattle.c_plain_rules.specs.Uses.{Uses}
 use Rattle.c_plain_rules.specs.Tables.{HasUses, item_at}
 
 abbrev pub IsBlank : {A : Type 0} → List (Option A) → Type 0

@@ -28,7 +28,7 @@ use Rattle.c_expressions.proofs.Keeping as keeping
 use Rattle.c_expressions.specs.Answers.{Given, Refuses}
 use Rattle.c_initializers.specs.declared.slots.Slot.{Slot}
 use Rattle.c_initializers.specs.declared.slots.Filled.{Filled}
-use Rattle.c_plain_rules.specs.declared.members.Place.{Place}
+use Rattle.c_plain_rules.specs.Place.{Place}
 use Rattle.c_initializers.specs.declared.covering.Extent.{Extent}
 use Rattle.c_initializers.specs.Covering.{covers_place}
 use Rattle.c_initializers.specs.Slots.{slot_in, slots_in, IsSlotThere, AreSlotsThere, HasSlots, AddsSlots, chosen}

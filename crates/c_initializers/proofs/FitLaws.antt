@@ -18,7 +18,7 @@ use Rattle.c_tree.specs.Initializers.{tag_places}
 use Rattle.c_expressions.specs.Nodes.{type_in, type_count}
 use Rattle.c_elaborator.specs.declared.work.Work.{Work}
 use Rattle.c_elaborator.specs.Work.{Shows}
-use Rattle.c_plain_rules.specs.declared.members.Place.{Place}
+use Rattle.c_plain_rules.specs.Place.{Place}
 use Rattle.c_initializers.specs.declared.scalars.Row.{Row}
 use Rattle.c_plain_rules.specs.Members.{place_in, members_of, IsPlaceThere, IsClose, IsTagCount, AreAllMembers}
 use Rattle.c_initializers.specs.Rows.{FitsAt, Fits, IsRowThere}

@@ -26,7 +26,7 @@ use Rattle.c_elaborator.specs.Answers.{Done, Keeps, freely}
 use Rattle.c_tree.specs.Scopes.{Aiming, size}
 use Rattle.c_expressions.specs.declared.nodes.Nodes.{Nodes}
 use Rattle.c_initializers.specs.declared.slots.Slot.{Slot}
-use Rattle.c_plain_rules.specs.declared.bytes.Placed.{Placed}
+use Rattle.c_plain_rules.specs.Placed.{Placed}
 use Rattle.c_initializers.specs.declared.starts.Value.TheVariants as values
 use Rattle.c_plain_rules.specs.Placing.{placed_of}
 use Rattle.c_initializers.specs.Starts.{start_of as value_start}

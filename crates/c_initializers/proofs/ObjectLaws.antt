@@ -30,7 +30,7 @@ use Rattle.c_elaborator.specs.declared.work.Work.{Work}
 use Rattle.c_elaborator.specs.declared.work.Filling.{Filling}
 use Rattle.c_elaborator.specs.declared.work.Name.{Name}
 use Rattle.c_elaborator.specs.declared.work.Start.{Start}
-use Rattle.c_plain_rules.specs.declared.bytes.Placed.{Placed}
+use Rattle.c_plain_rules.specs.Placed.{Placed}
 use Rattle.c_plain_rules.specs.Placing.{placed_of, pointers_end}
 use Rattle.c_elaborator.specs.Work.{Shows, IsClosed, aiming_of, filling_of, first_place, is_object, is_function}
 use Rattle.c_elaborator.specs.Work.{is_among}

@@ -19,8 +19,8 @@ use Rattle.c_node_facts.specs.declared.classes.Class.{Class}
 use Rattle.c_node_facts.specs.declared.classes.Class.TheVariants as classes
 use Rattle.c_expressions.specs.Classes.{class_type}
 use Rattle.c_elaborator.specs.declared.work.Work.{Work}
-use Rattle.c_plain_rules.specs.declared.members.Place.{Place}
-use Rattle.c_plain_rules.specs.declared.members.Record.{Record}
+use Rattle.c_plain_rules.specs.Place.{Place}
+use Rattle.c_plain_rules.specs.Record.{Record}
 use Rattle.c_initializers.specs.Places.{stripped, AreNear}
 use Rattle.c_plain_rules.specs.Members.{place_in, members_of, IsRecordOf, IsClose}
 use Rattle.c_plain_rules.proofs.MemberLaws.{slice_get-map}

@@ -16,7 +16,7 @@ use Rattle.c_node_facts.specs.declared.classes.Class.TheVariants as classes
 use Rattle.c_expressions.specs.Classes.{class_type}
 use Rattle.c_elaborator.specs.declared.work.Work.{Work}
 use Rattle.c_elaborator.specs.Work.{Shows}
-use Rattle.c_plain_rules.specs.declared.members.Place.{Place}
+use Rattle.c_plain_rules.specs.Place.{Place}
 use Rattle.c_initializers.specs.declared.scalars.Row.{Row}
 use Rattle.c_plain_rules.specs.Members.{place_in, IsPlaceThere, IsTagCount}
 use Rattle.c_initializers.specs.Rows.{IsRowThere, row_scalars, rows_scalars, row_steps, rows_steps, AddsRows, Walks}

@@ -8,7 +8,7 @@ use Rattle.c_tree.specs.Initializers.{item_place}
 use Rattle.c_expressions.specs.Nodes.{type_in, type_count}
 use Rattle.c_elaborator.specs.declared.work.Work.{Work}
 use Rattle.c_elaborator.specs.Work.{Shows}
-use Rattle.c_plain_rules.specs.declared.members.Place.{Place}
+use Rattle.c_plain_rules.specs.Place.{Place}
 pub use Rattle.c_plain_rules.specs.Members.{place_in, IsPlaceThere}
 use Rattle.c_initializers.specs.declared.places.Places.{Places}
 use Rattle.c_initializers.specs.declared.places.Places.TheVariants.{Elements, Members, Alone}

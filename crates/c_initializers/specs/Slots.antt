@@ -18,7 +18,7 @@ use Rattle.c_elaborator.specs.Work.{Shows}
 use Rattle.c_tree.specs.Scopes.{size}
 use Rattle.c_initializers.specs.declared.covering.Extent.{Extent}
 use Rattle.c_initializers.specs.Covering.{covers_place}
-use Rattle.c_plain_rules.specs.declared.members.Place.{Place}
+use Rattle.c_plain_rules.specs.Place.{Place}
 use Rattle.c_initializers.specs.declared.slots.Slot.{Slot}
 use Rattle.c_initializers.specs.declared.slots.Filled.{Filled}
 

@@ -1,10 +1,6 @@
-pub mod Alike
-pub mod ByteLaws
-pub mod MemberLaws
-pub mod RecordLaws
-pub mod Backwards
-pub mod Faulting
-pub mod MainFunction
-pub mod Shown
 pub mod Numbers
 pub mod Depth
+pub use Rattle.c_plain_parts.proofs.Backwards
+pub use Rattle.c_plain_parts.proofs.ByteLaws
+pub use Rattle.c_plain_parts.proofs.MemberLaws
+pub use Rattle.c_plain_parts.proofs.Shown

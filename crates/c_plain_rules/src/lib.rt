@@ -12,10 +12,9 @@
 //! at the end of the file the one that stands first in it is found, if any does, by its code and place; and `main` is
 //! found where the file defines it.
 //! Definitions (`specs/`): `Constants`, `Declarators`, `Statements`, `Initializers`, `Layout`, `Statics`, `Terms`,
-//! `Programs` of `c_tree`; here `Constants`, `Specifiers`, `Control`, `Members`, `Placing`, `Depths`, `Faults`,
-//! `MainFunction`, `Tables` (what counts of all that was said of each object and function).
-//! Main lemmas (`proofs/`): `Alike`, `MemberLaws`, `RecordLaws`, `ByteLaws`, `Depth`, `Faulting`, `MainFunction`,
-//! `Shown`.
+//! `Programs` of `c_tree`; `Members`, `Placing`, `Switches`, `Faults`, `MainFunction`, `Tables` of `c_plain_parts`; here
+//! `Constants`, `Specifiers`, `Control`, `Depths`.
+//! Main lemmas (`proofs/`): `Depth`; those of `c_plain_parts`.
 #![tactic(auto)]
 
 mod bodies;
@@ -24,24 +23,24 @@ mod constants;
 mod depths;
 mod enumerators;
 mod faults;
-mod found;
 mod loops;
 mod main_function;
 mod members;
 mod specifiers;
 mod switches;
-mod tables;
 
 pub use bodies::{context_of, numbers_below};
-pub use bytes::{Placed, initial_bytes};
+pub use bytes::initial_bytes;
+pub use c_plain_parts::{
+    Cases, Found, Place, Placed, Record, Uses, add_label, count, definition, definition_at, entry,
+    function_at, global_at, record_of, switch_kind, tag_count, with_items,
+};
 pub use constants::{Constant, array_length, constant_value};
 pub use depths::greatest_depth;
 pub use enumerators::{in_int, next_after};
 pub use faults::last_fault;
-pub use found::Found;
 pub use loops::{Head, for_kind, in_a_loop};
 pub use main_function::main_of;
-pub use members::{Place, Record, all_members, first_members, record_of, tag_count};
+pub use members::{all_members, first_members};
 pub use specifiers::{has_storage, is_lone, names_type, push_some};
-pub use switches::{Cases, add_label, in_a_switch, switch_kind, with_items};
-pub use tables::{Uses, count, definition, definition_at, entry, function_at, global_at};
+pub use switches::in_a_switch;

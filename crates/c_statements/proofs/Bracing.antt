@@ -9,7 +9,7 @@ use Rattle.c_elaborator.specs.Answers.{Done, freely}
 use Rattle.c_elaborator.proofs.Sequencing.{free_law, then_by, also_then, gave}
 use Rattle.c_elaborator.specs.Scoped.{Leaves}
 use Rattle.c_elaborator.proofs.Going.{items_kept, actions_there}
-use Rattle.c_plain_rules.specs.declared.switches.Cases.{Cases}
+use Rattle.c_plain_rules.specs.Cases.{Cases}
 use Rattle.c_plain_rules.specs.Control.{labels_in}
 use Rattle.c_statements.specs.Statements.{CasesThere, IsCases, cases_in}
 

@@ -22,7 +22,7 @@ use Rattle.c_elaborator.specs.Answers.{Keeps, Done, Answers, quietly}
 use Rattle.c_elaborator.specs.Parts.{IsPart, AreParts}
 use Rattle.c_elaborator.proofs.Parting.{cut, no_parts}
 use Rattle.c_elaborator.proofs.Sequencing.{quiet_law, answers_at, then, gave}
-use Rattle.c_plain_rules.specs.declared.members.Place.{Place}
+use Rattle.c_plain_rules.specs.Place.{Place}
 use Rattle.c_initializers.specs.declared.places.Places.{Places}
 use Rattle.c_initializers.specs.declared.places.Places.TheVariants.{Elements, Members, Alone}
 use Rattle.c_initializers.specs.Places.{AreNear, ArePlaces, ArePlacesThere, IsPlaceThere, place_at, place_in}

@@ -40,7 +40,7 @@ use Rattle.c_elaborator.proofs.Sequencing.{answers_at}
 use Rattle.c_elaborator.proofs.Sequencing.{keeps_then, still_same, need_true}
 use Rattle.c_elaborator.specs.declared.items.Items.{Items}
 use Rattle.c_plain_rules.specs.declared.loops.Head.{Head}
-use Rattle.c_plain_rules.specs.declared.switches.Cases.{Cases}
+use Rattle.c_plain_rules.specs.Cases.{Cases}
 use Rattle.c_statements.specs.declared.labels.Controlling.{Controlling}
 use Rattle.c_elaborator.specs.Items.{ValuesThere, ActionThere, ActionsThere, IsOnlyAction, ItemsThere, OnlyThere}
 use Rattle.c_elaborator.specs.Items.{IsItems}

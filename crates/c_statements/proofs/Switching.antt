@@ -23,7 +23,7 @@ use Rattle.c_elaborator.specs.declared.work.Work.{Work}
 use Rattle.c_elaborator.specs.Answers.{Done, Answers, quietly, freely, action_in}
 use Rattle.c_elaborator.specs.Parts.{IsPart, AreParts}
 use Rattle.c_elaborator.proofs.Sequencing.{free_law, freed, then, failed, gave, answers_at, need_true, need_false}
-use Rattle.c_plain_rules.specs.declared.switches.Cases.{Cases}
+use Rattle.c_plain_rules.specs.Cases.{Cases}
 use Rattle.c_elaborator.specs.declared.items.Items.{Items}
 use Rattle.c_elaborator.specs.Items.{ActionsThere, ItemsThere, IsItems, items_in}
 use Rattle.c_plain_rules.specs.Control.{AddsLabel, labels_in}

@@ -16,7 +16,7 @@ use Rattle.c_elaborator.specs.declared.work.Work.{Work}
 use Rattle.c_elaborator.specs.Work.{Shows}
 use Rattle.c_elaborator.specs.Answers.{Done, quietly}
 use Rattle.c_elaborator.specs.Parts.{AreParts}
-use Rattle.c_plain_rules.specs.declared.members.Place.{Place}
+use Rattle.c_plain_rules.specs.Place.{Place}
 use Rattle.c_initializers.specs.declared.places.Places.{Places}
 use Rattle.c_initializers.specs.declared.slots.Slot.{Slot as Kept}
 use Rattle.c_initializers.specs.Places.{place_at}

@@ -26,7 +26,7 @@ use Rattle.c_expressions.specs.declared.nodes.Nodes.{Nodes}
 use Rattle.c_expressions.specs.Nodes as nodes
 use Rattle.c_expressions.specs.Nodes.{type_in, term_in, type_count, term_count}
 use Rattle.c_elaborator.specs.declared.work.Work.{Work}
-use Rattle.c_plain_rules.specs.declared.switches.Cases.{Cases}
+use Rattle.c_plain_rules.specs.Cases.{Cases}
 use Rattle.c_plain_rules.specs.declared.loops.Head.{Head}
 use Rattle.c_plain_rules.specs.Control.{labels_in}
 use Rattle.c_statements.specs.declared.labels.Controlling.{Controlling}

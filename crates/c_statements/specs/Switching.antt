@@ -10,7 +10,7 @@ use Rattle.c_tree.specs.Programs.{readings}
 use Rattle.c_elaborator.specs.declared.work.Work.{Work}
 use Rattle.c_elaborator.specs.Answers.{Done, freely}
 use Rattle.c_elaborator.specs.Parts.{AreParts}
-use Rattle.c_plain_rules.specs.declared.switches.Cases.{Cases}
+use Rattle.c_plain_rules.specs.Cases.{Cases}
 use Rattle.c_statements.specs.Statements.{CasesThere, IsCases}
 
 -- what is left, and the step that has given what was found

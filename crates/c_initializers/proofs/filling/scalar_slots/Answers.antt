@@ -2,7 +2,7 @@ use Rattle.std.proofs.Common.{◌≡◌, ◌++◌, List, get_or, map, sym, ap, s
 use Rattle.std.specs.Prelude.{position}
 use Rattle.c_tree.specs.Readings as meant
 use Rattle.c_tree.specs.Initializers.{scalar_slot}
-use Rattle.c_plain_rules.specs.declared.members.Place.{Place}
+use Rattle.c_plain_rules.specs.Place.{Place}
 use Rattle.c_expressions.proofs.Keeping.{keeps_same, keeps_then}
 use Rattle.c_initializers.specs.Covering.{covers_place}
 use Rattle.c_initializers.specs.Slots.{AddsSlots, slots_in, place_of, scalars_given, chosen}

@@ -1,6 +1,6 @@
 use Rattle.std.proofs.Common.{sym, ap, ◌∙◌}
 use Rattle.std.specs.Prelude.{option_map, slice_get}
-use Rattle.c_plain_rules.specs.declared.members.Place.{Place}
+use Rattle.c_plain_rules.specs.Place.{Place}
 use Rattle.c_expressions.specs.Nodes.{type_in}
 use Rattle.c_initializers.proofs.PlaceLaws.{member-offset, offset-known}
 use Rattle.c_initializers.proofs.known.member_offset.Goals as goal

@@ -6,7 +6,7 @@ use Rattle.std.proofs.lemmas.List.Elements.{All-push}
 use Rattle.c_tree.specs.Initializers.{all_scalars, scalars_of, tag_scalars}
 use Rattle.c_tree.specs.Types.{Tagged}
 use Rattle.c_expressions.specs.Nodes.{type_in}
-use Rattle.c_plain_rules.specs.declared.members.Place.{Place}
+use Rattle.c_plain_rules.specs.Place.{Place}
 use Rattle.c_initializers.specs.declared.scalars.Row.{Row}
 use Rattle.c_plain_rules.specs.Members.{place_in, IsClose}
 use Rattle.c_initializers.specs.Rows.{IsRowThere, rows_scalars, row_steps, rows_steps}

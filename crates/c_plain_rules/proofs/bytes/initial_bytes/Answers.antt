@@ -1,8 +1,8 @@
 use Rattle.std.proofs.Common.{◌≡◌, ◌∙◌, ap, max, length, get_or, arith}
 use Rattle.std.specs.Prelude.{replicate}
 use Rattle.std.proofs.lemmas.Grind.{common_steps}
-use Rattle.c_plain_rules.specs.Placing.{greatest_end, written_at}
-use Rattle.c_plain_rules.proofs.ByteLaws.{bytes_of_all, front-all, zeros}
+use Rattle.c_plain_parts.specs.Placing.{greatest_end, written_at}
+use Rattle.c_plain_parts.proofs.ByteLaws.{bytes_of_all, front-all, zeros}
 use Rattle.c_plain_rules.proofs.bytes.initial_bytes.Goals as goal
 
 pub returns : goal.returns

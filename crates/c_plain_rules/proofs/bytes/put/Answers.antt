@@ -1,5 +1,5 @@
 use Rattle.std.proofs.Common.{◌≡◌, ◌-◌, ◌∙◌, min, length, get_or, arith}
-use Rattle.c_plain_rules.proofs.ByteLaws.{next-byte, put-more, put-done}
+use Rattle.c_plain_parts.proofs.ByteLaws.{next-byte, put-more, put-done}
 use Rattle.c_plain_rules.proofs.bytes.put.Goals as goal
 
 pub loop-j-preserved : goal.loop-j-preserved

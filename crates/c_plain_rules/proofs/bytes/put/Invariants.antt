@@ -1,6 +1,6 @@
 use Rattle.std.proofs.Common.{◌≡◌, ℕ, ◌/◌, ◌^◌, get_or}
 use Rattle.c_tree.specs.Statics.{byte_in}
-use Rattle.c_plain_rules.proofs.ByteLaws.{cut}
+use Rattle.c_plain_parts.proofs.ByteLaws.{cut}
 use Rattle.c_plain_rules.proofs.bytes.put.Given as goal
 
 abbrev pub invariant-loop-j : goal.invariant-loop-j

@@ -1,5 +1,5 @@
 use Rattle.std.proofs.Common.{◌≡◌, ℕ, ◌<◌, length, take, get_or}
-use Rattle.c_plain_rules.specs.Placing.{written_at}
+use Rattle.c_plain_parts.specs.Placing.{written_at}
 use Rattle.c_plain_rules.proofs.bytes.put_all.Given as goal
 
 abbrev pub invariant-loop-x : goal.invariant-loop-x

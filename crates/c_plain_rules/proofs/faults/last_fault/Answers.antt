@@ -1,4 +1,4 @@
-use Rattle.c_plain_rules.proofs.Faulting.{last_is}
+use Rattle.c_plain_parts.proofs.Faulting.{last_is}
 use Rattle.std.proofs.lemmas.Result.{IfOk-weaker}
 use Rattle.c_plain_rules.proofs.faults.last_fault.Goals as goal
 

@@ -1,7 +1,7 @@
 use Rattle.std.proofs.Common.{◌≡◌, ◌-◌, ◌<◌, length, sym, ap, ◌∙◌}
 use Rattle.std.specs.Prelude.{slice_get}
 use Rattle.c_tree.specs.Programs.{pending_faults}
-use Rattle.c_plain_rules.proofs.Faulting.{begun, turn_back, over}
+use Rattle.c_plain_parts.proofs.Faulting.{begun, turn_back, over}
 use Rattle.std.proofs.lemmas.Option.{slice_get-map}
 use Rattle.std.proofs.Common.{Some}
 use Rattle.std.specs.Prelude.{option_map}

@@ -3,8 +3,8 @@ use Rattle.std.specs.Prelude.{bytes_eq, codes}
 use Rattle.c_tree.specs.Types.{Function, int, no_types, same}
 use Rattle.c_tree.specs.Programs.{is_there}
 use Rattle.c_tree.specs.Views.{types_of, type_at}
-use Rattle.c_plain_rules.proofs.MainFunction.{no_body_no_main, main_parts}
-use Rattle.c_plain_rules.proofs.Shown.{function_is, body_there}
+use Rattle.c_plain_parts.proofs.MainFunction.{no_body_no_main, main_parts}
+use Rattle.c_plain_parts.proofs.Shown.{function_is, body_there}
 use Rattle.c_plain_rules.proofs.main_function.is_main.Goals as goal
 
 pub returns-in-None : goal.returns-in-None

@@ -1,7 +1,7 @@
 use Rattle.std.proofs.Common.{◌≡◌, ◌-◌, ◌<◌, length, ap, ◌∙◌, arith}
-use Rattle.c_plain_rules.proofs.Backwards.{at_some}
-use Rattle.c_plain_rules.proofs.Shown.{routines_count}
-use Rattle.c_plain_rules.proofs.MainFunction.{no_main_yet, main_turn, main_is}
+use Rattle.c_plain_parts.proofs.Backwards.{at_some}
+use Rattle.c_plain_parts.proofs.Shown.{routines_count}
+use Rattle.c_plain_parts.proofs.MainFunction.{no_main_yet, main_turn, main_is}
 use Rattle.c_plain_rules.proofs.main_function.main_of.Goals as goal
 
 pub loop-i-init : goal.loop-i-init

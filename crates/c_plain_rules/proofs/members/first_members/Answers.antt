@@ -1,4 +1,4 @@
-use Rattle.c_plain_rules.proofs.MemberLaws.{first-members}
+use Rattle.c_plain_parts.proofs.MemberLaws.{first-members}
 use Rattle.c_plain_rules.proofs.members.first_members.Goals as goal
 
 pub returns-in-Some-clause-are : goal.returns-in-Some-clause-are
