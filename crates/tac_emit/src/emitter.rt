@@ -3,39 +3,26 @@
 ghost use Rattle.std.specs.Prelude.{◌≡◌, ℕ, ◌+◌, ◌^◌, ◌<◌, ◌≤◌, ◌==◌, [], ◌∷◌, length, true, false, IfOk, IfSome, Some};
 ghost use Rattle.std.specs.Prelude.{None};
 ghost use Rattle.std.specs.Prelude.{if◌then◌else◌};
-ghost use Rattle.cap_concentrate.specs.Rounding.{owned};
-ghost use Rattle.c_tree.specs.Layout.{size_limit};
 ghost use Rattle.tac_ir.specs.declared.code.TacKind.TheVariants as kinds;
 ghost use Rattle.tac_ir.specs.declared.code.TacInstr.TheVariants as instr;
 ghost use Rattle.tac_ir.specs.WellFormed.{constant_fits, units_fit, is_unit};
 ghost use Rattle.cheri_c_sem.specs.Types.{is_shift};
 ghost use Rattle.ck_int.specs.declared.kinds.IntKind.TheVariants as int;
 ghost use Rattle.tac_ir.specs.Costs.{cost, outgoing_by, number_cost};
-ghost use Rattle.tac_emit.specs.Spent.{Takes, Spent, Enters, is_number};
+ghost use Rattle.tac_emit.specs.Spent.{Takes, Spent, is_number};
 ghost use Rattle.tac_ir.specs.Temps.{locals, zeros};
 ghost use Rattle.tac_ir.specs.Within.{copied_parts};
 ghost use Rattle.c_tree.specs.Counts.{parts};
 ghost use Rattle.tac_emit.specs.Emitted.{HasKind, HasInt, HasCapability, IsTemp, SameKind, AmountFits, CountFits};
 ghost use Rattle.tac_emit.specs.Emitted.{SameCapability, WorkFits, IsOpen, Stands, Grown, Made, Labelled, Forked};
-ghost use Rattle.tac_emit.specs.Emitted.{Turned, Pushed, Entered, Filled, HasLeft, Adds, HasRoom};
-ghost use Rattle.tac_emit.specs.Adding.{Emits, NarrowsTo, none, one};
+ghost use Rattle.tac_emit.specs.Emitted.{Turned, Pushed, HasLeft, Adds, HasRoom};
+ghost use Rattle.tac_emit.specs.Adding.{Emits, none, one};
 ghost use Rattle.lower_runs.specs.Operating.{transfer, give};
 
-use cap_layout::owned;
 use ck_base::{NoMemory, Pos, Sequence};
 use ck_int::{CmpOp, IntKind, IntOp};
 use std::alloc::Global;
 use tac_ir::{Amount, CapWork, LibOp, TacInstr, TacKind};
-
-/// The greatest size of an object.
-const LIMIT: u64 = 67_108_864;
-
-/// What a member of so many bytes owns.
-fn owned_length(size: u64) -> u64
-    ensures { size ≤ size_limit → result ≡ owned size }
-{
-    owned(size.min(LIMIT)).length
-}
 
 /// The labels of a choice: where its second way begins, and where both ways end.
 #[derive(Clone, Copy)]
@@ -84,15 +71,6 @@ impl Emitter {
         ensures pushed { IfOk result (λ _. Pushed self.old self.new i) }
         ensures adds { IfOk result (λ _. Adds self.old self.new 0 0) }
         ensures spent { IfOk result (λ _. Takes self.old self.new (outgoing_by i) (cost i) (copied_parts i)) }
-    {
-        self.code.push(i)?;
-        Ok(())
-    }
-
-    /// An instruction that may name a local.
-    fn add(&mut self, i: TacInstr) -> Result<(), NoMemory>
-        ensures pushed { IfOk result (λ _. Pushed self.old self.new i) }
-        ensures adds { IfOk result (λ _. Adds self.old self.new 0 0) }
     {
         self.code.push(i)?;
         Ok(())
@@ -358,18 +336,6 @@ impl Emitter {
         })
     }
 
-    /// The pointer to a member of so many bytes gets the bounds of what the member owns.
-    #[tactic(auto, using(crate::proofs::Emitting::narrows_to))]
-    pub fn narrow_to_member(&mut self, to: u32, size: u64) -> Result<(), NoMemory>
-        requires same { SameCapability self.old to to }
-        ensures grown { IfOk result (λ _. Grown self.old self.new) }
-        ensures adds { IfOk result (λ _. Adds self.old self.new 0 0) }
-        ensures spent { IfOk result (λ _. Spent self.old self.new 0 15) }
-        ensures narrows { IfOk result (λ _. NarrowsTo self.old self.new to size) }
-    {
-        self.narrow(to, to, Amount::Number(owned_length(size)), true)
-    }
-
     pub fn load(&mut self, to: u32, from: u32, kind: TacKind, pos: Pos) -> Result<(), NoMemory>
         requires to { HasKind self.old to kind }
         requires from { HasCapability self.old from }
@@ -400,36 +366,6 @@ impl Emitter {
             kind,
             pos,
         })
-    }
-
-    /// The block of an object is entered: its bytes become zero, and the pointer to it is made.
-    pub fn enter_object(&mut self, to: u32, var: u32) -> Result<(), NoMemory>
-        ensures entered { IfOk result (λ _. Entered self.old self.new to var) }
-        ensures spent { IfOk result (λ _. Enters self.old self.new 0 19 0 (λ v. if var == v then 1 else 0)) }
-        ensures adds { IfOk result (λ _. Adds self.old self.new 0 0) }
-    {
-        self.add(TacInstr::Zero { var })?;
-        self.add(TacInstr::Local { to, var })
-    }
-
-    /// The block of an object is entered, and a value is stored there.
-    pub fn enter_with(
-        &mut self,
-        at: u32,
-        var: u32,
-        value: u32,
-        kind: TacKind,
-        pos: Pos,
-    ) -> Result<(), NoMemory>
-        requires at { HasCapability self.old at }
-        requires value { HasKind self.old value kind }
-        ensures filled { IfOk result (λ _. Filled self.old self.new at var) }
-        ensures spent { IfOk result (λ _. Enters self.old self.new 0 26 0 (λ v. if var == v then 1 else 0)) }
-        ensures emits { IfOk result (λ _. Emits self.old self.new 0
-            (λ r. instr.Zero var ∷ instr.Local at var ∷ instr.Store at value kind pos ∷ r)) }
-    {
-        self.enter_object(at, var)?;
-        self.store(at, value, kind, pos)
     }
 
     pub fn global(&mut self, to: u32, number: u32, literal: bool) -> Result<(), NoMemory>

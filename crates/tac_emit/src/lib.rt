@@ -2,7 +2,6 @@
 //!
 //! Promise: what is added keeps the code well formed, each temp of its kind and each label once; it is these very
 //! instructions (`Emits`), and it takes so many temps, labels, places of the frame and words of machine code at most.
-//! No object becomes zero but where its block is entered, directly before its pointer is made.
 //! Definitions (`specs/`): `Emitted`, `Adding`, `Spent`, `Lone`.
 //! Main lemmas (`proofs/`): `Wells`, `Instructions`, `Labels`, `Emitting`, `Spending`.
 #![tactic(auto)]

@@ -37,6 +37,7 @@ use ck_base::{NoMemory, Sequence};
 use std::alloc::Global;
 use tac_emit::Emitter;
 use tac_ir::{TacFun, TacKind};
+use tac_objects::enter_with;
 
 /// The program, and what is known of it.
 #[derive(Clone, Copy)]
@@ -233,7 +234,7 @@ fn take_object(
         (kept_parameter cx.entry.p.now d.now x) d.now.pos)) }
 {
     let kind = cx.kind_of_type(type_of_variable(d, x));
-    out.enter_with(at, n, t, kind, d.pos)
+    enter_with(out, at, n, t, kind, d.pos)
 }
 
 /// A parameter that is an object gets its argument, the value of temp `t`.

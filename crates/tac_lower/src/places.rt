@@ -34,6 +34,7 @@ use c_tree::ExprKind;
 use ck_base::{NoMemory, Pos};
 use tac_emit::{Copied, Emitter};
 use tac_ir::Amount;
+use tac_objects::narrow_to_member;
 
 /// Where a struct or union is copied to.
 #[derive(Clone, Copy)]
@@ -350,7 +351,7 @@ pub fn address(cx: Context, k: u32, a: u32, to: u32, out: &mut Emitter) -> Resul
     place(cx, a, to, out)?;
     match cx.member_size(a) {
         None => Ok(()),
-        Some(size) => out.narrow_to_member(to, size),
+        Some(size) => narrow_to_member(out, to, size),
     }
 }
 

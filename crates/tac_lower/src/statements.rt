@@ -34,6 +34,7 @@ use crate::writes::Written;
 use c_tree::{StmtKind, SwitchLabel};
 use ck_base::{NoMemory, Pos};
 use tac_emit::Emitter;
+use tac_objects::enter_object;
 
 /// Where `break` and `continue` lead, if there are such places.
 #[derive(Clone, Copy)]
@@ -58,7 +59,7 @@ fn enter_variable(cx: Context, x: u32, out: &mut Emitter) -> Result<(), NoMemory
     match cx.home(x) {
         None => Ok(()),
         Some(Home::Temp(t, kind)) => out.constant(t, kind, 0),
-        Some(Home::Object(n, t)) => out.enter_object(t, n),
+        Some(Home::Object(n, t)) => enter_object(out, t, n),
     }
 }
 

@@ -1,5 +1,5 @@
 use Rattle.std.proofs.lemmas.Result.{IfOk-from_err as fails}
-use Rattle.tac_emit.proofs.emitter.Emitter.add.Goals as goal
+use Rattle.tac_objects.proofs.objects.add.Goals as goal
 
 pub returns-in_err-push : goal.returns-in_err-push
 returns-in_err-push c =

@@ -3,7 +3,7 @@ use Rattle.std.proofs.lemmas.Result.{IfOk-weaker, IfOk-from_err as fails}
 use Rattle.tac_emit.proofs.Emitting.{emits_then, entered_emits}
 use Rattle.tac_emit.proofs.Spending.{enters_then, enters_within, taken_enters}
 use Rattle.tac_emit.proofs.Wells.{entered_has, filled_by}
-use Rattle.tac_emit.proofs.emitter.Emitter.enter_with.Goals as goal
+use Rattle.tac_objects.proofs.objects.enter_with.Goals as goal
 
 pub store-requires-clause-at : goal.store-requires-clause-at
 store-requires-clause-at c =
