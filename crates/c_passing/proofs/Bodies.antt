@@ -18,8 +18,8 @@ use Rattle.c_copy.specs.Copying.{Extends, actions_in, terms_in}
 use Rattle.c_copy.proofs.Copies.{forest_front, longer, extends_then, extends_push}
 use Rattle.c_copy.proofs.Order.{at_end}
 use Rattle.c_copy.proofs.Items.{get-push}
-use Rattle.passing_steps.specs.declared.nodes.Source.{Source}
-use Rattle.passing_steps.specs.declared.nodes.Made.{Made}
+use Rattle.passing_steps.specs.Source.{Source}
+use Rattle.passing_steps.specs.Made.{Made}
 use Rattle.c_passing.specs.declared.functions.Whole.{Whole}
 use Rattle.c_passing.specs.declared.functions.Standing.{Standing}
 use Rattle.c_passing.specs.Lists.{hidden_of_each, passed_each_action, copies_of}

@@ -14,8 +14,8 @@ use Rattle.c_tree.specs.Passed.{Names, Passing, by_pointer, hidden_in, hidden_of
 use Rattle.c_tree.specs.Passed.{passed_action, given_back}
 use Rattle.c_copy.specs.Copying.{Extends, stmt_form}
 use Rattle.c_copy.proofs.Copies.{action_same, extends_same, extends_then, extends_push}
-use Rattle.passing_steps.specs.declared.nodes.Source.{Source}
-use Rattle.passing_steps.specs.declared.nodes.Made.{Made}
+use Rattle.passing_steps.specs.Source.{Source}
+use Rattle.passing_steps.specs.Made.{Made}
 use Rattle.c_passing.specs.Lists.{hidden_in_each, hidden_of_each, passed_each, passed_each_action}
 use Rattle.c_passing.specs.Passes.{written_term, written_action, written_before, AddsTerms, IsPassed, ArePassed}
 use Rattle.c_passing.specs.Passes.{AddsActions, IsGivenValue, IsReturned, IsPassedAction, ArePassedActions}

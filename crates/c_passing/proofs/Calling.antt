@@ -12,9 +12,9 @@ use Rattle.c_tree.specs.Passed.{Passing}
 use Rattle.c_tree.proofs.Forest.{forest_reads}
 use Rattle.c_copy.specs.Copying.{terms_in}
 use Rattle.c_copy.proofs.Copies.{kind_is}
-use Rattle.passing_steps.specs.declared.nodes.Source.{Source}
-use Rattle.passing_steps.specs.declared.nodes.Made.{Made}
-use Rattle.passing_steps.specs.declared.types.Types.{Types}
+use Rattle.passing_steps.specs.Source.{Source}
+use Rattle.passing_steps.specs.Made.{Made}
+use Rattle.passing_steps.specs.Types.{Types}
 use Rattle.c_passing.specs.Passes.{written_term}
 use Rattle.passing_steps.specs.Ordered.{Takes}
 use Rattle.passing_steps.specs.Steps.{written_type, Fits, HasTerm, HasTerms}

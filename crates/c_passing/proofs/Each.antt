@@ -11,8 +11,8 @@ use Rattle.c_tree.specs.Passed.{Names, Passing, by_pointer, hidden_in, hidden_of
 use Rattle.c_tree.specs.Passed.{passed_action}
 use Rattle.c_copy.specs.Copying.{Extends}
 use Rattle.c_copy.proofs.Copies.{extends_same, extends_then}
-use Rattle.passing_steps.specs.declared.nodes.Source.{Source}
-use Rattle.passing_steps.specs.declared.nodes.Made.{Made}
+use Rattle.passing_steps.specs.Source.{Source}
+use Rattle.passing_steps.specs.Made.{Made}
 use Rattle.c_passing.specs.Lists.{hidden_in_each, hidden_of_each, hidden_for_each, passed_each, passed_each_action}
 use Rattle.c_passing.specs.Lists.{passed_argument, passed_each_argument}
 use Rattle.c_passing.specs.Passes.{written_term, IsPassed, ArePassed, AddsTerms, AreCounted}

@@ -15,7 +15,7 @@ use Rattle.c_tree.specs.declared.syntax.NodeKind.TheVariants as Kinds
 use Rattle.c_tree.specs.declared.syntax.Tree.{Tree}
 use Rattle.c_tree.specs.Syntax.{Syn, Syns, node, nil, more, joined, StandsAt, StandAt, stands, none, next}
 use Rattle.c_tree.specs.Passed.{same_place, calls_in, all_calls_in, call_name}
-use Rattle.passing_steps.specs.declared.names.Names.{Names}
+use Rattle.passing_steps.specs.Names.{Names}
 use Rattle.c_passing.specs.Named.{first_at, Knows, AddsName, own_calls, AddsCall, Gathers}
 use Rattle.passing_steps.specs.Named.{same_pair, known_at, name_or, name_in}
 

@@ -18,7 +18,7 @@ use Rattle.c_copy.proofs.Copies.{grow-append}
 use Rattle.c_copy.specs.Copying.{AllBelow}
 use Rattle.c_copy.proofs.Items.{get-push}
 use Rattle.c_copy.proofs.Order.{below_push}
-use Rattle.passing_steps.specs.declared.types.Types.{Types}
+use Rattle.passing_steps.specs.Types.{Types}
 use Rattle.c_passing.specs.Numbered.{gives_of, IsGivenIn, IsNumber, IsPointer, StartsVoid, IsKept, IsBehind, Follows}
 use Rattle.c_passing.specs.Numbered.{AddsType, Keeps, passed_parameter, AreParameters, AreRenumbered, IsWithMembers}
 use Rattle.c_passing.specs.Numbered.{AreListed}

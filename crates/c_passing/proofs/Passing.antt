@@ -19,8 +19,8 @@ use Rattle.c_tree.specs.Programs.{shape_with}
 use Rattle.c_tree.specs.Programs as programs
 use Rattle.c_copy.specs.Copying.{Extends, AllBelow, expr_shape, terms_in, IsPlainWith}
 use Rattle.c_copy.proofs.Copies.{kind_is, map_seen, term_same, extends_then, extends_push}
-use Rattle.passing_steps.specs.declared.nodes.Source.{Source}
-use Rattle.passing_steps.specs.declared.nodes.Made.{Made}
+use Rattle.passing_steps.specs.Source.{Source}
+use Rattle.passing_steps.specs.Made.{Made}
 use Rattle.c_passing.specs.Lists.{hidden_in_each, hidden_for_each, passed_each, passed_each_argument}
 use Rattle.c_passing.specs.Passes.{written_term, written_call, AddsTerms, IsKindPassed, IsPassed, ArePassed}
 use Rattle.c_passing.specs.Passes.{ArePassedArguments, IsByResult, IsPlainCall, IsCallByResult}

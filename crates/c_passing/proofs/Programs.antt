@@ -25,9 +25,9 @@ use Rattle.c_tree.specs.Passed.{call_name, calls_in}
 use Rattle.c_copy.specs.Copying.{actions_in}
 use Rattle.c_copy.proofs.Copies.{length-grow}
 use Rattle.c_copy.proofs.Items.{get-push}
-use Rattle.passing_steps.specs.declared.types.Types.{Types}
-use Rattle.passing_steps.specs.declared.names.Names as known
-use Rattle.passing_steps.specs.declared.nodes.Made.{Made}
+use Rattle.passing_steps.specs.Types.{Types}
+use Rattle.passing_steps.specs.Names as known
+use Rattle.passing_steps.specs.Made.{Made}
 use Rattle.c_passing.specs.declared.functions.Whole.{Whole}
 use Rattle.c_passing.specs.Named.{Knows}
 use Rattle.c_passing.specs.Numbered.{IsKept, IsBehind, Follows, AreRenumbered, IsWithMembers, AreListed}

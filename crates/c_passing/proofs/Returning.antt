@@ -12,8 +12,8 @@ use Rattle.c_tree.specs.Terms.{step, Action, Variable}
 use Rattle.c_tree.specs.Passed.{by_pointer, behind, copied_param, param_copy}
 use Rattle.c_copy.specs.Copying.{Extends}
 use Rattle.c_copy.proofs.Copies.{extends_same, extends_then, extends_push}
-use Rattle.passing_steps.specs.declared.nodes.Source.{Source}
-use Rattle.passing_steps.specs.declared.nodes.Made.{Made}
+use Rattle.passing_steps.specs.Source.{Source}
+use Rattle.passing_steps.specs.Made.{Made}
 use Rattle.c_passing.specs.Lists.{copies_of}
 use Rattle.c_passing.specs.Routines.{source_variable, IsParamCopy, AreParamCopies}
 use Rattle.passing_steps.specs.Numbered.{IsBare}

@@ -14,7 +14,7 @@ use Rattle.c_tree.specs.Passed.{given_back, one_term}
 use Rattle.c_copy.specs.Copying.{stmt_form}
 use Rattle.c_copy.proofs.Copies.{action_is}
 use Rattle.c_copy.proofs.Standing.{made_of_front}
-use Rattle.passing_steps.specs.declared.nodes.Source.{Source}
+use Rattle.passing_steps.specs.Source.{Source}
 use Rattle.c_passing.specs.Lists.{hidden_in_each, hidden_of_each, passed_each, passed_each_action}
 use Rattle.c_passing.specs.Passes.{written_term, written_action, written_before}
 use Rattle.c_passing.proofs.Hiding.{hidden_terms, first_hidden, last_hidden, passed_list, passed_actions_list}

@@ -12,7 +12,7 @@ use Rattle.c_tree.specs.Views.{operands, values, parts}
 use Rattle.c_copy.specs.Copying.{AllBelow, expr_shape, stmt_form}
 use Rattle.c_copy.specs.Standing.{ActionStandsIn}
 use Rattle.c_copy.proofs.Standing.{term_there, shape_stands, operand_stands, form_stands, value_stands, part_stands}
-use Rattle.passing_steps.specs.declared.nodes.Source.{Source}
+use Rattle.passing_steps.specs.Source.{Source}
 use Rattle.c_passing.specs.Passes.{VarWithin, KindWithin, FormWithin, TermWithin, TermsWithin, ActionWithin}
 use Rattle.c_passing.specs.Passes.{ActionsWithin}
 use Rattle.c_passing.specs.Routines.{HasBody}

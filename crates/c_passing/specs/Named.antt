@@ -9,7 +9,7 @@ use Rattle.c_tree.specs.declared.syntax.NodeKind.TheVariants as Kinds
 use Rattle.c_tree.specs.declared.syntax.Tree.{Tree}
 use Rattle.c_tree.specs.Syntax.{Syn, Syns, node, nil, more, StandsAt}
 use Rattle.c_tree.specs.Passed.{same_place, calls_in}
-use Rattle.passing_steps.specs.declared.names.Names.{Names}
+use Rattle.passing_steps.specs.Names.{Names}
 use Rattle.passing_steps.specs.Named.{known_at}
 
 -- the first of some calls that stands at a place

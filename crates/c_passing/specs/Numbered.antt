@@ -8,7 +8,7 @@ use Rattle.c_tree.specs.Types.{Ty, Void, Pointer, bare}
 use Rattle.c_tree.specs.Views.{type_at, types_of, member_of}
 use Rattle.c_tree.specs.Passed.{by_pointer, passed, passed_member, result_types}
 use Rattle.c_copy.specs.Copying.{AllBelow}
-use Rattle.passing_steps.specs.declared.types.Types.{Types}
+use Rattle.passing_steps.specs.Types.{Types}
 use Rattle.passing_steps.specs.Ordered.{AreThere}
 use Rattle.passing_steps.specs.Numbered.{type_in}
 

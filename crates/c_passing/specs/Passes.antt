@@ -15,8 +15,8 @@ use Rattle.c_tree.specs.Passed.{Names, Passing, by_pointer, passed_shape, passed
 use Rattle.c_tree.specs.Passed.{passed_action, by_result}
 use Rattle.c_copy.specs.Copying.{expr_shape, stmt_form, AllBelow, Extends}
 use Rattle.c_copy.specs.Standing.{StandsIn, ActionStandsIn}
-use Rattle.passing_steps.specs.declared.nodes.Source.{Source}
-use Rattle.passing_steps.specs.declared.nodes.Made.{Made}
+use Rattle.passing_steps.specs.Source.{Source}
+use Rattle.passing_steps.specs.Made.{Made}
 use Rattle.c_passing.specs.Lists.{hidden_for_each, passed_each, passed_each_argument, passed_each_action}
 use Rattle.passing_steps.specs.Ordered.{Takes}
 use Rattle.passing_steps.specs.Steps.{written_type, Fits, HasTerm, HasTerms, HasAction, HasActions, Hides}

@@ -20,8 +20,8 @@ use Rattle.c_tree.specs.Passed.{named_variables, variable_number, passing, param
 use Rattle.c_tree.specs.Passed.{passed, passed_object, passed_program, call_name, calls_in}
 use Rattle.c_copy.specs.Copying.{actions_in, Extends}
 use Rattle.c_copy.specs.Standing.{ActionStandsIn}
-use Rattle.passing_steps.specs.declared.nodes.Source.{Source}
-use Rattle.passing_steps.specs.declared.nodes.Made.{Made}
+use Rattle.passing_steps.specs.Source.{Source}
+use Rattle.passing_steps.specs.Made.{Made}
 use Rattle.c_passing.specs.declared.functions.Whole.{Whole}
 use Rattle.c_passing.specs.declared.functions.Standing.{Standing}
 use Rattle.c_passing.specs.Lists.{copies_of}

@@ -3,10 +3,10 @@
 ghost use Rattle.std.specs.Prelude.{◌≡◌, ◌-◌, ◌++◌, IfOk, OnOk, length};
 ghost use Rattle.c_tree.specs.Terms.{numbers_from};
 ghost use Rattle.c_copy.specs.Copying.{AllBelow};
-ghost use Rattle.passing_steps.specs.Steps.{AreVariables, AreBlockVars};
+ghost use Rattle.passing_nodes.specs.Steps.{AreVariables, AreBlockVars};
 
-use crate::nodes::Source;
 use ck_base::NoMemory;
+use passing_nodes::Source;
 
 /// The new numbers of variables.
 pub fn variables(source: &Source<'_>, ks: &[u32]) -> Result<Vec<u32>, NoMemory>

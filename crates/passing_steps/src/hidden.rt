@@ -3,12 +3,11 @@
 ghost use Rattle.std.specs.Prelude.{◌≡◌, true, IfOk, OnOk};
 ghost use Rattle.c_tree.specs.Types.{is_tagged};
 ghost use Rattle.c_tree.specs.Passed.{hidden_for};
-ghost use Rattle.passing_steps.specs.Steps.{written_type, IsHidden, Hides, IsByAddress};
+ghost use Rattle.passing_nodes.specs.Steps.{written_type, IsHidden, Hides, IsByAddress};
 
-use crate::nodes::{Made, Source};
-use crate::types::{bare, by_pointer};
 use c_tree::{ExprKind, VarDef};
 use ck_base::{NoMemory, Pos};
+use passing_nodes::{Made, Source, bare, by_pointer};
 
 /// The type of a hidden local for a value of a type, if it needs one.
 pub fn hidden_type(source: &Source<'_>, of: u32) -> Option<u32>

@@ -2,11 +2,11 @@
 
 ghost use Rattle.std.specs.Prelude.{◌≡◌, true, IfOk};
 ghost use Rattle.c_tree.specs.Types.{is_tagged};
-ghost use Rattle.passing_steps.specs.Steps.{written_type, IsGivenBack};
+ghost use Rattle.passing_nodes.specs.Steps.{written_type, IsGivenBack};
 
-use crate::nodes::{Made, Source};
 use c_tree::{ExprKind, StmtKind};
 use ck_base::{NoMemory, Pos, Sequence};
+use passing_nodes::{Made, Source};
 
 /// The number of a `return` of a struct or union: it is put where the first parameter points to.
 pub fn give_back(

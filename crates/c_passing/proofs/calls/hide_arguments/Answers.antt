@@ -1,6 +1,6 @@
 use Rattle.std.proofs.Common.{get_or, map, refl, ap, subst, ◌∙◌}
 use Rattle.std.proofs.lemmas.List.{take_all}
-use Rattle.passing_steps.specs.declared.nodes.Made.{Made}
+use Rattle.passing_steps.specs.Made.{Made}
 use Rattle.c_passing.specs.Lists.{hidden_for_each}
 use Rattle.c_passing.specs.Passes.{written_term}
 use Rattle.c_passing.proofs.Each.{hides_argument}

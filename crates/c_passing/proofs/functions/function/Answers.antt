@@ -1,8 +1,8 @@
 use Rattle.std.proofs.Common.{◌+◌, length, refl, ap, ◌∙◌}
 use Rattle.c_tree.specs.Terms.{numbers_from}
 use Rattle.c_tree.specs.declared.typed.FunDef.{FunDef}
-use Rattle.passing_steps.specs.declared.nodes.Source.{Source}
-use Rattle.passing_steps.specs.declared.nodes.Made.{Made}
+use Rattle.passing_steps.specs.Source.{Source}
+use Rattle.passing_steps.specs.Made.{Made}
 use Rattle.c_passing.specs.Routines.{written_routine, IsFunction}
 use Rattle.c_passing.proofs.Bodies.{function_made}
 use Rattle.c_passing.proofs.functions.function.Goals as goal

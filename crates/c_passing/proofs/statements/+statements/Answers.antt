@@ -7,7 +7,7 @@ use Rattle.c_tree.specs.Views.{values, parts}
 use Rattle.c_tree.specs.Passed.{hidden_of, ahead, passed_form}
 use Rattle.c_copy.specs.Copying.{stmt_form}
 use Rattle.c_copy.proofs.Copies.{pushed}
-use Rattle.passing_steps.specs.declared.nodes.Source.{Source}
+use Rattle.passing_steps.specs.Source.{Source}
 use Rattle.c_passing.specs.Lists.{hidden_in_each, hidden_of_each}
 use Rattle.c_passing.specs.Passes.{written_term, written_before, FormWithin, ActionWithin}
 use Rattle.c_passing.specs.Passes.{ActionsWithin, AddsTerms, AddsActions, IsReturned, ArePassed, IsPassedAction}

@@ -1,7 +1,7 @@
 use Rattle.std.proofs.Common.{◌∷◌, [], ◌++◌, ap, ◌∙◌, subst}
 use Rattle.std.proofs.lemmas.List.{take_all}
 use Rattle.c_tree.specs.declared.typed.CType.TheVariants as ctypes
-use Rattle.passing_steps.specs.declared.types.Types.{Types}
+use Rattle.passing_steps.specs.Types.{Types}
 use Rattle.c_passing.specs.Numbered.{Follows}
 use Rattle.c_passing.proofs.Numbering.{starts, types_turn}
 use Rattle.c_passing.proofs.types.types_of.Goals as goal

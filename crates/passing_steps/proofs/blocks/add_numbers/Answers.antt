@@ -3,7 +3,7 @@ use Rattle.std.proofs.Common.{append-nil, [], ◌∷◌}
 use Rattle.std.proofs.lemmas.Bool.{cases_lt}
 use Rattle.c_tree.specs.Terms.{numbers_from}
 use Rattle.passing_steps.proofs.blocks.add_numbers.Goals as goal
-use Rattle.passing_steps.proofs.Counting.{numbers_more}
+use Rattle.passing_nodes.proofs.Counting.{numbers_more}
 
 pub loop-k-init : goal.loop-k-init
 loop-k-init c =

@@ -1,8 +1,8 @@
 use Rattle.std.proofs.Common.{[], ◌∷◌, ◌++◌, get_or, take, map, refl, sym, ap, subst, ◌∙◌}
 use Rattle.std.proofs.lemmas.List.{take_all}
 use Rattle.passing_steps.proofs.blocks.variables.Goals as goal
-use Rattle.passing_steps.specs.Steps.{AreVariables}
-use Rattle.passing_steps.proofs.Counting.{map_turn, at_index}
+use Rattle.passing_nodes.specs.Steps.{AreVariables}
+use Rattle.passing_nodes.proofs.Counting.{map_turn, at_index}
 
 pub variable-v-requires : goal.variable-v-requires
 variable-v-requires c =

@@ -1,9 +1,9 @@
 use Rattle.std.proofs.Common.{refl}
 use Rattle.c_copy.proofs.Copies.{pushed, extends_same, extends_then, extends_push}
 use Rattle.passing_steps.proofs.hidden.by_address.Goals as goal
-use Rattle.passing_steps.proofs.Calling.{address_passed, address_ordered}
-use Rattle.passing_steps.proofs.Ordering.{rest_then}
-use Rattle.passing_steps.proofs.Results.{on_both}
+use Rattle.passing_nodes.proofs.Calling.{address_passed, address_ordered}
+use Rattle.passing_nodes.proofs.Ordering.{rest_then}
+use Rattle.passing_nodes.proofs.Results.{on_both}
 
 pub returns : goal.returns
 returns c =

@@ -1,7 +1,7 @@
 use Rattle.std.proofs.Common.{refl}
 use Rattle.passing_steps.proofs.hidden.hide.Goals as goal
-use Rattle.passing_steps.proofs.Calling.{hides_plainly, hides_one}
-use Rattle.passing_steps.proofs.Results.{on_ok}
+use Rattle.passing_nodes.proofs.Calling.{hides_plainly, hides_one}
+use Rattle.passing_nodes.proofs.Results.{on_ok}
 
 pub returns-in-Some-clause-hides : goal.returns-in-Some-clause-hides
 returns-in-Some-clause-hides c =

@@ -2,8 +2,8 @@ use Rattle.std.proofs.Common.{◌≡◌, [], ◌∷◌, ◌++◌, refl, ap, ◌�
 use Rattle.c_tree.specs.declared.typed.StmtKind.TheVariants as stmts
 use Rattle.c_copy.proofs.Copies.{pushed}
 use Rattle.passing_steps.proofs.returns.give_back.Goals as goal
-use Rattle.passing_steps.proofs.Results.{on_both}
-use Rattle.passing_steps.proofs.Returning.{given_back_made}
+use Rattle.passing_nodes.proofs.Results.{on_both}
+use Rattle.passing_nodes.proofs.Returning.{given_back_made}
 
 pub returns : goal.returns
 returns c =

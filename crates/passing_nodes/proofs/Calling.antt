@@ -12,15 +12,15 @@ use Rattle.c_tree.specs.Terms.{Variable, Term, terms, term, leaf, step, join}
 use Rattle.c_tree.specs.Views.{type_at, term_at, variable_of, operands}
 use Rattle.c_tree.specs.Passed.{Names, Passing, by_pointer, hidden, hidden_for, by_address}
 use Rattle.c_copy.specs.Copying.{Extends, expr_shape, terms_in}
-use Rattle.passing_steps.specs.declared.nodes.Source.{Source}
-use Rattle.passing_steps.specs.declared.nodes.Made.{Made}
-use Rattle.passing_steps.specs.declared.types.Types.{Types}
-use Rattle.passing_steps.specs.Named.{name_in}
-use Rattle.passing_steps.specs.Ordered.{VarsThere, TakesIn, Takes}
-use Rattle.passing_steps.specs.Steps.{written_type, Fits, HasTerm, Hides, IsHidden}
-use Rattle.passing_steps.proofs.Tagging.{tagged_goes, tagged_same, tagged_bare}
-use Rattle.passing_steps.proofs.Ordering.{expr_first, vars_push, in_push}
-use Rattle.passing_steps.proofs.Trees.{term_more, term_end}
+use Rattle.passing_nodes.specs.declared.nodes.Source.{Source}
+use Rattle.passing_nodes.specs.declared.nodes.Made.{Made}
+use Rattle.passing_nodes.specs.declared.types.Types.{Types}
+use Rattle.passing_nodes.specs.Named.{name_in}
+use Rattle.passing_nodes.specs.Ordered.{VarsThere, TakesIn, Takes}
+use Rattle.passing_nodes.specs.Steps.{written_type, Fits, HasTerm, Hides, IsHidden}
+use Rattle.passing_nodes.proofs.Tagging.{tagged_goes, tagged_same, tagged_bare}
+use Rattle.passing_nodes.proofs.Ordering.{expr_first, vars_push, in_push}
+use Rattle.passing_nodes.proofs.Trees.{term_more, term_end}
 
 pub hides_none : (s : Source) (a b : Made) → b.vars ≡ a.vars → Hides s a b (λ names. [])
 hides_none s a b q = record {

@@ -1,6 +1,6 @@
 use Rattle.std.proofs.Common.{◌∙◌}
-use Rattle.passing_steps.proofs.types.is_tagged.Goals as goal
-use Rattle.passing_steps.proofs.Tagging.{tagged_there, tagged_past}
+use Rattle.passing_nodes.proofs.types.is_tagged.Goals as goal
+use Rattle.passing_nodes.proofs.Tagging.{tagged_there, tagged_past}
 
 pub returns-in-None : goal.returns-in-None
 returns-in-None c = tagged_past c.args.types.now c.args.k c.in-None.ensures.past

@@ -5,7 +5,7 @@ use Rattle.c_tree.specs.declared.typed.CType.TheVariants as ctypes
 use Rattle.c_tree.specs.Types.{Ty, Void, Pointer, bare, is_tagged}
 use Rattle.c_tree.specs.Views.{type_at, types_of}
 use Rattle.c_tree.specs.Passed.{by_pointer, passed}
-use Rattle.passing_steps.specs.declared.types.Types.{Types}
+use Rattle.passing_nodes.specs.declared.types.Types.{Types}
 
 -- the type that a number names in a list
 abbrev pub type_in : List CType → ℕ → Ty

@@ -10,7 +10,7 @@ use Rattle.c_tree.specs.Types.{Ty, Void, Int, Cap, Pointer, Array, Tagged, Funct
 use Rattle.c_tree.specs.Views.{type_from, types_of}
 use Rattle.c_tree.specs.Passed.{by_pointer, passed}
 use Rattle.c_copy.proofs.Copies.{at_seam, forest_front, length-grow}
-use Rattle.passing_steps.specs.Numbered.{type_in, is_record, const_of, IsBare}
+use Rattle.passing_nodes.specs.Numbered.{type_in, is_record, const_of, IsBare}
 
 -- the type at a seam
 pub type_seam : (cs : List CType) (c : CType) (more : List CType) →

@@ -12,7 +12,7 @@ use Rattle.c_tree.specs.Views.{values, parts}
 use Rattle.c_copy.specs.Copying.{AllBelow, Extends, expr_shape, stmt_form, terms_in, actions_in}
 use Rattle.c_copy.proofs.Copies.{at_seam, forest_front, map_seen, kind_is, action_is, longer}
 use Rattle.c_copy.proofs.Items.{get-push}
-use Rattle.passing_steps.specs.Steps.{HasTerm, HasTerms, HasAction, HasActions}
+use Rattle.passing_nodes.specs.Steps.{HasTerm, HasTerms, HasAction, HasActions}
 
 -- ---- expressions
 

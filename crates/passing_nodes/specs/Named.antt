@@ -3,7 +3,7 @@ use Rattle.std.specs.Prelude.{ℕ, Bool, ◌&&◌, ◌==◌, Option, Some, None}
 use Rattle.std.specs.Map.{lookup}
 use Rattle.ck_base.specs.declared.positions.Pos.{Pos}
 use Rattle.ck_base.specs.declared.positions.Span.{Span}
-use Rattle.passing_steps.specs.declared.names.Names.{Names}
+use Rattle.passing_nodes.specs.declared.names.Names.{Names}
 
 abbrev pub same_pair : ℕ × ℕ → ℕ × ℕ → Bool
 same_pair p q = p.0 == q.0 && p.1 == q.1

@@ -1,7 +1,7 @@
 //! The names of calls.
 
 ghost use Rattle.std.specs.Prelude.{◌≡◌};
-ghost use Rattle.passing_steps.specs.Named.{name_in};
+ghost use Rattle.passing_nodes.specs.Named.{name_in};
 
 use ck_base::{Pos, Span};
 use indexmap::IndexMap;

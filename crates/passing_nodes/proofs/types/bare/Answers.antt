@@ -1,5 +1,5 @@
-use Rattle.passing_steps.proofs.types.bare.Goals as goal
-use Rattle.passing_steps.proofs.Tagging.{bare_past}
+use Rattle.passing_nodes.proofs.types.bare.Goals as goal
+use Rattle.passing_nodes.proofs.Tagging.{bare_past}
 
 pub returns-in-None : goal.returns-in-None
 returns-in-None c = bare_past c.args.types.now c.args.k c.in-None.ensures.past

@@ -5,11 +5,11 @@ use Rattle.c_tree.specs.Terms as tree
 use Rattle.c_tree.specs.Terms.{leaf}
 use Rattle.c_tree.specs.Views.{type_at}
 use Rattle.c_copy.proofs.Copies.{pushed, extends_same, extends_push}
-use Rattle.passing_steps.specs.declared.nodes.Made.{Made}
-use Rattle.passing_steps.proofs.nodes.Made.address.Goals as goal
-use Rattle.passing_steps.proofs.Calling.{var_made, step_made}
-use Rattle.passing_steps.proofs.Ordering.{rest_then, in_push, in_then}
-use Rattle.passing_steps.proofs.Results.{on_both}
+use Rattle.passing_nodes.specs.declared.nodes.Made.{Made}
+use Rattle.passing_nodes.proofs.nodes.Made.address.Goals as goal
+use Rattle.passing_nodes.proofs.Calling.{var_made, step_made}
+use Rattle.passing_nodes.proofs.Ordering.{rest_then, in_push, in_then}
+use Rattle.passing_nodes.proofs.Results.{on_both}
 
 pub returns : goal.returns
 returns c =

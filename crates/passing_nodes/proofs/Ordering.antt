@@ -14,8 +14,8 @@ use Rattle.c_tree.specs.Views.{operands, values, parts, times_in}
 use Rattle.c_copy.specs.Copying.{AllBelow}
 use Rattle.c_copy.proofs.Items.{get-push}
 use Rattle.c_copy.proofs.Order.{parts_push}
-use Rattle.passing_steps.specs.declared.nodes.Made.{Made}
-use Rattle.passing_steps.specs.Ordered.{operand_uses, value_uses, part_uses, Ordered, TakesIn, VarsThere}
+use Rattle.passing_nodes.specs.declared.nodes.Made.{Made}
+use Rattle.passing_nodes.specs.Ordered.{operand_uses, value_uses, part_uses, Ordered, TakesIn, VarsThere}
 
 -- ---- how often a number is named
 

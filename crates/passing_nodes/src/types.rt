@@ -4,7 +4,7 @@ ghost use Rattle.std.specs.Prelude.{◌≡◌, ◌≤◌, List, Some, IfSome, If
 ghost use Rattle.c_tree.specs.declared.typed.CType.{CType as Written};
 ghost use Rattle.c_tree.specs.Types.{is_tagged};
 ghost use Rattle.c_tree.specs.Passed.{by_pointer};
-ghost use Rattle.passing_steps.specs.Numbered.{type_in, is_record, const_of, IsBare};
+ghost use Rattle.passing_nodes.specs.Numbered.{type_in, is_record, const_of, IsBare};
 
 use c_tree::CType;
 

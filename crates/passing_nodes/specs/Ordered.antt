@@ -6,8 +6,8 @@ use Rattle.c_tree.specs.declared.typed.VarDef.{VarDef}
 use Rattle.c_tree.specs.Views.{operands, values, parts, times_in}
 use Rattle.c_copy.specs.Copying.{AllBelow}
 use Rattle.c_copy.specs.Order.{PartsBefore}
-use Rattle.passing_steps.specs.declared.types.Types.{Types}
-use Rattle.passing_steps.specs.declared.nodes.Made.{Made}
+use Rattle.passing_nodes.specs.declared.types.Types.{Types}
+use Rattle.passing_nodes.specs.declared.nodes.Made.{Made}
 
 abbrev pub operand_uses : List Expr → ℕ → ℕ
 operand_uses es k = times_in k (flat_map (λ (e : Expr). operands e.kind) es)

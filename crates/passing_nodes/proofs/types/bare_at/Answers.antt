@@ -1,6 +1,6 @@
 use Rattle.std.proofs.Common.{◌∙◌, sym}
-use Rattle.passing_steps.proofs.types.bare_at.Goals as goal
-use Rattle.passing_steps.proofs.Tagging.{bare_plain, bare_const, bare_loose}
+use Rattle.passing_nodes.proofs.types.bare_at.Goals as goal
+use Rattle.passing_nodes.proofs.Tagging.{bare_plain, bare_const, bare_loose}
 
 pub returns-in-None : goal.returns-in-None
 returns-in-None c = λ types e. bare_plain types c.args.k c.args.c.now e (sym c.const_of.ensures ∙ c.in-None.is)

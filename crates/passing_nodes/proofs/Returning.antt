@@ -13,14 +13,14 @@ use Rattle.c_tree.specs.Views.{type_at}
 use Rattle.c_tree.specs.Passed.{Passing, behind}
 use Rattle.c_copy.specs.Copying.{Extends}
 use Rattle.c_copy.proofs.Copies.{extends_push}
-use Rattle.passing_steps.specs.declared.nodes.Source.{Source}
-use Rattle.passing_steps.specs.declared.nodes.Made.{Made}
-use Rattle.passing_steps.specs.Steps.{written_type, Fits, HasTerm, HasTerms, HasAction, HasActions, Makes}
-use Rattle.passing_steps.specs.Steps.{IsGivenBack}
-use Rattle.passing_steps.proofs.Calling.{number_same, pointer_same, join_made}
-use Rattle.passing_steps.proofs.Ordering.{stmt_first, in_push, in_stmt}
-use Rattle.passing_steps.proofs.Trees.{term_more, no_terms_have, terms_push, action_more, action_made}
-use Rattle.passing_steps.proofs.Trees.{no_actions_have, actions_push}
+use Rattle.passing_nodes.specs.declared.nodes.Source.{Source}
+use Rattle.passing_nodes.specs.declared.nodes.Made.{Made}
+use Rattle.passing_nodes.specs.Steps.{written_type, Fits, HasTerm, HasTerms, HasAction, HasActions, Makes}
+use Rattle.passing_nodes.specs.Steps.{IsGivenBack}
+use Rattle.passing_nodes.proofs.Calling.{number_same, pointer_same, join_made}
+use Rattle.passing_nodes.proofs.Ordering.{stmt_first, in_push, in_stmt}
+use Rattle.passing_nodes.proofs.Trees.{term_more, no_terms_have, terms_push, action_more, action_made}
+use Rattle.passing_nodes.proofs.Trees.{no_actions_have, actions_push}
 
 -- what a variable points to, that has the type of the pointer to a struct or union
 abbrev pub pointed : (k pointer of : ℕ) → Pos → List Ty → Term

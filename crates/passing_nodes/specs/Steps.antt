@@ -9,11 +9,11 @@ use Rattle.c_tree.specs.Terms.{Term, Action, Variable, numbers_from}
 use Rattle.c_tree.specs.Views.{term_at, action_at, variable_of}
 use Rattle.c_tree.specs.Passed.{Names, Passing, by_pointer, by_address, given_back}
 use Rattle.c_copy.specs.Copying.{terms_in, actions_in, AllBelow, Extends}
-use Rattle.passing_steps.specs.declared.nodes.Source.{Source}
-use Rattle.passing_steps.specs.declared.nodes.Made.{Made}
-use Rattle.passing_steps.specs.Numbered.{type_in, TypesFit}
-use Rattle.passing_steps.specs.Named.{name_in}
-use Rattle.passing_steps.specs.Ordered.{TakesIn, Takes, VarsTyped}
+use Rattle.passing_nodes.specs.declared.nodes.Source.{Source}
+use Rattle.passing_nodes.specs.declared.nodes.Made.{Made}
+use Rattle.passing_nodes.specs.Numbered.{type_in, TypesFit}
+use Rattle.passing_nodes.specs.Named.{name_in}
+use Rattle.passing_nodes.specs.Ordered.{TakesIn, Takes, VarsTyped}
 
 abbrev pub written_type : Source → ℕ → Ty
 written_type s k = type_in s.program.now.types k

@@ -5,7 +5,7 @@ ghost use Rattle.c_tree.specs.Terms.{leaf, step};
 ghost use Rattle.c_tree.specs.Terms as tree;
 ghost use Rattle.c_tree.specs.Views.{type_at};
 ghost use Rattle.c_tree.specs.Passed.{behind};
-ghost use Rattle.passing_steps.specs.Steps.{Makes};
+ghost use Rattle.passing_nodes.specs.Steps.{Makes};
 
 use crate::names::Names;
 use crate::types::Types;

@@ -1,0 +1,7 @@
+pub mod Calling
+pub mod Counting
+pub mod Ordering
+pub mod Results
+pub mod Returning
+pub mod Tagging
+pub mod Trees

@@ -1,0 +1,4 @@
+pub mod Named
+pub mod Numbered
+pub mod Ordered
+pub mod Steps
