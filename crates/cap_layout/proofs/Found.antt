@@ -4,8 +4,7 @@ use Rattle.std.specs.Prelude.{slice_get, IfSome}
 use Rattle.c_tree.specs.declared.typed.CType.{CType}
 use Rattle.c_tree.specs.Layout.{Extent, extent, extent_of, extent_within}
 use Rattle.c_tree.proofs.Depth.{depth_enough}
-use Rattle.cap_layout.specs.declared.answers.Layout.{Layout}
-use Rattle.cap_layout.specs.Answers.{Fits, extent_is}
+use Rattle.cap_layout.specs.Answers.{Layout, Fits, extent_is}
 
 fits_at : (o p : Option Extent) (l : Layout) → o ≡ p → Fits p l → Fits o l
 fits_at o p l e h = subst (λ q. Fits q l) (sym e) h

@@ -13,12 +13,11 @@ use Rattle.c_tree.specs.Layout.{Extent, size_limit, with_extent, member_offset, 
 use Rattle.c_tree.specs.Layout.{extent_of, extent_within, extent, bare_of, bare_within, bare, struct_offset}
 use Rattle.c_tree.specs.Layout.{union_offset, member_at, members_of}
 use Rattle.c_tree.proofs.Depth.{members-more, depth_enough}
-use Rattle.cap_layout.specs.declared.answers.Layout.{Layout}
 use Rattle.cap_layout.specs.declared.answers.LayoutFault.{LayoutFault}
 use Rattle.cap_layout.specs.declared.answers.LayoutFault.TheVariants.{TooLarge, Incomplete}
 use Rattle.cap_layout.specs.declared.records.Record.{Record}
 use Rattle.cap_layout.specs.declared.records.Record.TheVariants.{Other}
-use Rattle.cap_layout.specs.Answers.{Fits, IsLayout, IsOffset, extent_is}
+use Rattle.cap_layout.specs.Answers.{Layout, Fits, IsLayout, IsOffset, extent_is}
 use Rattle.cap_layout.specs.Walks.{placing, Shows, HasExtent, IsOneLevel, IsRecord, IsPlace}
 use Rattle.cap_layout.proofs.Lengths.{rounded_up_bounds}
 use Rattle.cap_layout.proofs.Steps.{larger, members_align}

@@ -6,10 +6,9 @@ use Rattle.std.proofs.Math.Nat.{mul_assoc, mul_comm, mul-le-mul_left}
 use Rattle.std.proofs.lemmas.Bool.{cases_lt}
 use Rattle.c_tree.specs.declared.typed.CType.{CType}
 use Rattle.c_tree.specs.Layout.{Extent, size_limit, with_extent, times, extent_of, extent_within}
-use Rattle.cap_layout.specs.declared.answers.Layout.{Layout}
 use Rattle.cap_layout.specs.declared.answers.LayoutFault.{LayoutFault}
 use Rattle.cap_layout.specs.declared.answers.LayoutFault.TheVariants.{TooLarge, Incomplete}
-use Rattle.cap_layout.specs.Answers.{Fits, Exceeds, IsLayout, extent_is, greatest_align}
+use Rattle.cap_layout.specs.Answers.{Layout, Fits, Exceeds, IsLayout, extent_is, greatest_align}
 use Rattle.cap_layout.specs.Walks.{capped, IsRow}
 
 pub extent_step : (types : List CType) (d t : ℕ) → 0 < d →

@@ -10,10 +10,9 @@ use Rattle.cap_concentrate.proofs.Owned.{owned_ge, alignment_pos}
 use Rattle.cap_layout.proofs.Lengths.{rounded_up_bounds}
 use Rattle.c_tree.specs.declared.typed.Member.{Member}
 use Rattle.c_tree.specs.Layout.{Extent, size_limit, with_extent, member_align, no_members, members, whole}
-use Rattle.cap_layout.specs.declared.answers.Layout.{Layout}
 use Rattle.cap_layout.specs.declared.answers.LayoutFault.{LayoutFault}
 use Rattle.cap_layout.specs.declared.answers.LayoutFault.TheVariants.{TooLarge, Incomplete}
-use Rattle.cap_layout.specs.Answers.{Fits, Exceeds, IsLayout, extent_is, greatest_align}
+use Rattle.cap_layout.specs.Answers.{Layout, Fits, Exceeds, IsLayout, extent_is, greatest_align}
 use Rattle.cap_layout.specs.Walks.{placing, Walk}
 
 -- the end with a member is past the end before it and past the member's size

@@ -1,16 +1,11 @@
 -- What an answer says of the extent of a type.
 use Rattle.std.specs.Prelude.{◌≡◌, ℕ, ◌<◌, ◌≤◌, Option, Some, None, Result, Ok, Err}
 use Rattle.c_tree.specs.Layout.{Extent, size_limit}
-use Rattle.cap_layout.specs.declared.answers.Layout.{Layout}
+pub use Rattle.cap_members.specs.declared.answers.Layout.{Layout}
+pub use Rattle.cap_members.specs.declared.answers.Owned.{Owned}
+pub use Rattle.cap_members.specs.Extents.{extent_is, greatest_align}
 use Rattle.cap_layout.specs.declared.answers.LayoutFault.{LayoutFault}
 use Rattle.cap_layout.specs.declared.answers.LayoutFault.TheVariants as faults
-
-abbrev pub extent_is : Layout → Extent
-extent_is l = record { size = l.size; align = l.align }
-
--- no type within the limit has a greater alignment
-abbrev pub greatest_align : ℕ
-greatest_align = 131072
 
 -- a layout within the limits is the extent
 pub record Fits (o : Option Extent) (l : Layout) : Type 0 where

@@ -1,13 +1,13 @@
 -- How far the code has come in a type.
 use Rattle.std.specs.Prelude.{◌≡◌, ℕ, ◌+◌, ◌<◌, ◌≤◌, min, List, [], Option, Some, None, Result, Ok, Err, Bool, true}
 use Rattle.std.specs.Prelude.{false, not, slice_get}
-use Rattle.c_tree.specs.Layout.{Extent, size_limit, scalar, with_extent, behind, beside, no_members, members, whole}
+use Rattle.c_tree.specs.Layout.{Extent, size_limit, scalar, with_extent, behind, no_members, members, whole}
 use Rattle.c_tree.specs.Layout.{times, extent_of, extent_within, bare_of, members_of, struct_offset, union_offset}
 use Rattle.c_tree.specs.Layout.{offset_of_member}
 use Rattle.c_tree.specs.Counts.{is_record}
 use Rattle.c_tree.specs.declared.typed.CType.{CType}
 use Rattle.c_tree.specs.declared.typed.Member.{Member}
-use Rattle.cap_layout.specs.declared.answers.Layout.{Layout}
+pub use Rattle.cap_members.specs.Extents.{placing}
 use Rattle.cap_layout.specs.declared.answers.LayoutFault.{LayoutFault}
 use Rattle.cap_layout.specs.declared.shapes.Base.{Base}
 use Rattle.cap_layout.specs.declared.shapes.Base.TheVariants.{Scalar, Members}
@@ -16,12 +16,7 @@ use Rattle.cap_layout.specs.declared.shapes.Shape.TheVariants.{Missing, Whole, P
 use Rattle.cap_layout.specs.declared.shapes.Core.{Core}
 use Rattle.cap_layout.specs.declared.records.Record.{Record}
 use Rattle.cap_layout.specs.declared.records.Record.TheVariants.{Other, Struct, Union}
-use Rattle.cap_layout.specs.Answers.{extent_is, greatest_align}
-
--- members of a union share their bytes
-abbrev pub placing : Bool → Extent → Extent → Extent
-placing false = behind
-placing true = beside
+use Rattle.cap_layout.specs.Answers.{Layout, extent_is, greatest_align}
 
 -- the extent of a type that is no array and not const, over those of its members' types
 abbrev pub base_extent : Base → (ℕ → Option Extent) → Option Extent

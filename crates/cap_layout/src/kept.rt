@@ -2,16 +2,15 @@
 
 ghost use Rattle.std.specs.Prelude.{◌≡◌, ◌<◌, ◌≤◌, List, Option, IfSome, IfOk};
 ghost use Rattle.c_tree.specs.Layout.{size_limit, times, whole, with_extent, members, no_members, extent};
-ghost use Rattle.cap_layout.specs.declared.answers.Layout.{Layout};
-ghost use Rattle.cap_layout.specs.Answers.{Fits, IsLayout, extent_is, greatest_align};
+ghost use Rattle.cap_layout.specs.Answers.{Layout, Fits, IsLayout, extent_is, greatest_align};
 ghost use Rattle.cap_layout.specs.Kept.{AreLayoutsOf};
 ghost use Rattle.cap_layout.specs.Walks.{placing, shape_extent, IsSmallShape};
 
-use crate::answers::{Layout, LayoutFault};
-use crate::members::placed;
+use crate::answers::LayoutFault;
 use crate::shapes::{Base, LIMIT, Shape, shape_at, shape_of};
 use crate::sizes::{finished, layout, repeated};
 use c_tree::{CType, Member, Typed};
+use cap_members::{Layout, placed};
 use std::alloc::{AllocError, Global};
 use std::marker::Model;
 
