@@ -1,2 +1,1 @@
-mod NamedFiles
 pub mod Fronts

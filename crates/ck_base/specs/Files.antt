@@ -1,13 +1,10 @@
 -- What the calls of files by name do.
 use Rattle.std.specs.Prelude.{◌≡◌, ◌≢◌, ℕ, ◌<◌, ◌≤◌, List, length, Option, Some, None, Result, Ok, Err, Vec, ⊤}
 use Rattle.std.specs.declared.alloc.Global.{Global}
+pub use Rattle.file_table.specs.Named.{FileMap}
 use Rattle.ck_base.specs.Outside.{Rises}
 use Rattle.ck_base.specs.declared.outside.FileError.{FileError}
 use Rattle.ck_base.specs.declared.outside.FileError.TheVariants.{Failed, Missing, TooLong, NoMemory}
-
--- the bytes of each name that is there
-abbrev pub FileMap : Type 0
-FileMap = List ℕ → Option (List ℕ)
 
 -- What `get` answers. Where no map is told, neither `Missing` nor `TooLong` ever comes. Where one is told, memory can
 -- lack for a file alone that is there and not too long.

@@ -1,103 +1,28 @@
 //! Files in memory.
-ghost use Rattle.std.specs.Prelude.{◌≡◌, ◌<◌, ◌↔◌, [], ◌∷◌, ◌++◌, Some, length, position, bytes_eq, slice_set};
-ghost use Rattle.std.specs.Prelude.{option_map, string_bytes, Contains, IsTrue, OnOk, OnErr, IsErrOf, vec_len};
+ghost use Rattle.std.specs.Prelude.{◌≡◌, ◌↔◌, Some, option_map, Contains, IsTrue, OnOk, OnErr, IsErrOf, vec_len};
 ghost use Rattle.ck_base.specs.Files.{Gets, HasFile, SameOthers, FileCounted};
-ghost use Rattle.ck_base.specs.Memory.{NamedBytes, FilesInMemory, PutsFile, named_bytes, place_of, file_named};
-ghost use Rattle.ck_base.specs.Memory.{one_more};
+ghost use Rattle.ck_base.specs.Memory.{NamedBytes, FilesInMemory, named_bytes, file_named, one_more};
 
 use crate::adapters::LONGEST_FILE;
 use crate::outside::{FileError, Files, PutError};
-use std::alloc::{AllocError, Global};
+use file_table::Table;
+use std::alloc::Global;
 use std::marker::Model;
 
-/// Names, and at the same places the bytes that stand under them.
-#[derive(Drop)]
-struct Table {
-    names: Vec<String>,
-    contents: Vec<Vec<u8>>,
-}
-
-impl Model for Table {
-    ghost Value = { NamedBytes };
-
-    ghost view = { λ s. named_bytes s.names.items s.contents.items };
-
-    ghost invariant = { λ s. vec_len s.names ≡ vec_len s.contents };
-}
-
-/// The place of the first of these names that is equal.
-fn position_of(names: &[String], name: &str) -> Option<usize>
-    ensures { result ≡ position (λ other. bytes_eq (string_bytes other) name.now) names.now }
+/// A copy of the bytes under a name.
+fn copy_of(files: &Table, alloc: Global, name: &str) -> Result<Vec<u8>, FileError>
+    ensures gives { Gets (Some (file_named files.now)) name.now result }
+    ensures never_fails { IsErrOf result FileError.Failed → ⊥ }
 {
-    names.iter().position(|other| other.as_str() == name)
-}
-
-impl Table {
-    /// The place of the first name that is equal.
-    fn place(&self, name: &str) -> Option<usize>
-        ensures first { result ≡ place_of self.now.names name.now }
-        ensures same_length { length self.now.names ≡ length self.now.contents }
-    {
-        position_of(&self.names, name)
+    let Some(bytes) = files.find(name) else {
+        return Err(FileError::Missing);
+    };
+    if bytes.len() > LONGEST_FILE {
+        return Err(FileError::TooLong);
     }
-
-    /// The bytes under a name.
-    fn find(&self, name: &str) -> Option<&[u8]>
-        ensures { option_map (λ bytes. bytes.now) result ≡ file_named self.now name.now }
-    {
-        let place = self.place(name)?;
-        Some(self.contents[place].as_slice())
-    }
-
-    /// A copy of the bytes under a name.
-    fn get(&self, alloc: Global, name: &str) -> Result<Vec<u8>, FileError>
-        ensures gives { Gets (Some (file_named self.now)) name.now result }
-        ensures never_fails { IsErrOf result FileError.Failed → ⊥ }
-    {
-        let Some(bytes) = self.find(name) else {
-            return Err(FileError::Missing);
-        };
-        if bytes.len() > LONGEST_FILE {
-            return Err(FileError::TooLong);
-        }
-        match Vec::from_slice(alloc, bytes) {
-            Ok(copy) => Ok(copy),
-            Err(_) => Err(FileError::NoMemory),
-        }
-    }
-
-    /// Puts the bytes under a name, in place of those that stood there.
-    fn put(&mut self, alloc: Global, name: &str, bytes: &[u8]) -> Result<(), AllocError>
-        ensures puts { OnOk result (PutsFile self.old self.new name.now bytes.now) }
-        ensures kept { OnErr result (self.new ≡ self.old) }
-    {
-        let bytes = Vec::from_slice(alloc, bytes)?;
-        match self.place(name) {
-            Some(place) => self.replace(place, bytes),
-            None => self.add(String::from_str(alloc, name)?, bytes)?,
-        }
-        Ok(())
-    }
-
-    fn replace(&mut self, place: usize, bytes: Vec<u8>)
-        requires { place < length self.old.contents }
-        ensures { self.new ≡ record self.old { contents = slice_set self.old.contents place bytes.items } }
-    {
-        self.contents[place] = bytes;
-    }
-
-    fn add(&mut self, name: String, bytes: Vec<u8>) -> Result<(), AllocError>
-        ensures added { OnOk result (self.new ≡ record {
-          names = self.old.names ++ string_bytes name ∷ [];
-          contents = self.old.contents ++ bytes.items ∷ [];
-        }) }
-        ensures kept { OnErr result (self.new ≡ self.old) }
-    {
-        self.names.reserve(1)?;
-        self.contents.reserve(1)?;
-        self.names.push_reserved(name);
-        self.contents.push_reserved(bytes);
-        Ok(())
+    match Vec::from_slice(alloc, bytes) {
+        Ok(copy) => Ok(copy),
+        Err(_) => Err(FileError::NoMemory),
     }
 }
 
@@ -129,7 +54,7 @@ impl MemFiles {
         } }
     {
         MemFiles {
-            files: Table { names, contents },
+            files: Table::new(names, contents),
             fails,
             calls: 0,
             faults: 0,
@@ -175,7 +100,7 @@ impl Files for MemFiles {
         if self.is_failing() {
             return Err(FileError::Failed);
         }
-        self.files.get(alloc, name)
+        copy_of(&self.files, alloc, name)
     }
 
     /// Fails in the calls that were named; it then leaves every file as it was.
@@ -219,7 +144,7 @@ impl SureFiles {
         ensures { result ≡ named_bytes names.items contents.items }
     {
         SureFiles {
-            files: Table { names, contents },
+            files: Table::new(names, contents),
         }
     }
 }
@@ -230,7 +155,7 @@ impl Files for SureFiles {
     ghost faults = { λ _. 0 };
 
     fn get(&mut self, alloc: Global, name: &str) -> Result<Vec<u8>, FileError> {
-        self.files.get(alloc, name)
+        copy_of(&self.files, alloc, name)
     }
 
     fn put(&mut self, alloc: Global, name: &str, bytes: &[u8]) -> Result<(), PutError> {

@@ -3,8 +3,9 @@
 //!
 //! Promise: a source, sink or file in memory fails exactly in the calls that are named; a count of faults never
 //! falls.
-//! Definitions (`specs/`): `World`, `Runs`, `Calls`, `Agreement`, `Outside`, `Files`, `Lexes`.
-//! Main lemmas (`proofs/`): `NamedFiles`.
+//! Definitions (`specs/`): `Named` of `file_table`; here `World`, `Runs`, `Calls`, `Agreement`, `Outside`, `Files`,
+//! `Lexes`.
+//! Main lemmas (`proofs/`): `Fronts`.
 #![tactic(auto)]
 
 mod adapters;
