@@ -108,8 +108,8 @@ fn behind(m: Layout, end: Layout) -> Layout
     }
 }
 
-/// The next member of a struct behind the end of those before it; none where its type is not complete, or one of them is
-/// over the limit.
+/// The next member of a struct behind the end of those before it; none where its type is not complete, or one of them
+/// is over the limit.
 pub fn next_of(work: &Work, of: u32, end: Layout) -> Option<Next>
     requires { of < type_count work.now.nodes }
     ensures is { IsNext work.now of end result }

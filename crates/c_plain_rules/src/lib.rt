@@ -12,8 +12,8 @@
 //! at the end of the file the one that stands first in it is found, if any does, by its code and place; and `main` is
 //! found where the file defines it.
 //! Definitions (`specs/`): `Constants`, `Declarators`, `Statements`, `Initializers`, `Layout`, `Statics`, `Terms`,
-//! `Programs` of `c_tree`; `Members`, `Placing`, `Switches`, `Faults`, `MainFunction`, `Tables` of `c_plain_parts`; here
-//! `Constants`, `Specifiers`, `Control`, `Depths`.
+//! `Programs` of `c_tree`; `Members`, `Placing`, `Switches`, `Faults`, `MainFunction`, `Tables` of `c_plain_parts`;
+//! here `Constants`, `Specifiers`, `Control`, `Depths`.
 //! Main lemmas (`proofs/`): `Depth`; those of `c_plain_parts`.
 #![tactic(auto)]
 

@@ -1,5 +1,5 @@
-//! What the steps by which structs and unions are passed are made of: the types by their new numbers, the names of calls,
-//! and the expressions, statements and variables that are made.
+//! What the steps by which structs and unions are passed are made of: the types by their new numbers, the names of
+//! calls, and the expressions, statements and variables that are made.
 //!
 //! Promise: what is made stands behind what was made before, and means what the passed program has in its place. Where
 //! memory or the numbers of 32 bits end it is `NoMemory`.

@@ -63,8 +63,8 @@ pub record IsRelaxed (live : List Interval) (calls : List ℕ) : Type 0 where
   pub few : (n : ℕ) → count_by (holds n) live ≤ 10
   pub uncrossed : (i : ℕ) (v : Interval) → slice_get live i ≡ Some v → IsCrossed calls v → ⊥
 
--- interval i, if it begins at the entry or ends at a call, is in the register of an argument only as the parameter that arrives there and
--- does not end at a call
+-- interval i, if it begins at the entry or ends at a call, is in the register of an argument only as the parameter
+-- that arrives there and does not end at a call
 abbrev pub StaysClear : List ℕ → ℕ → Interval → Home → Type 0
 StaysClear calls i v (Register r) =
     IsPassed calls v → 10 ≤ r → r ≤ 17 → (r ≡ 10 + i) × (v.first ≡ 0) × (Contains calls v.last → ⊥)
