@@ -107,7 +107,7 @@ fn is_unchanged(alloc: Global, p: &Typed) -> Result<bool, NoMemory>
 
 /// The program that is run in the place of one that is typed as it is written. Structs and unions go to functions and
 /// come back by pointers, through hidden locals, which have the names of the calls in the file's tree. Where none goes
-/// by value, it is the program itself.
+/// by value and all numbers are in order, it is the program itself.
 pub fn pass(alloc: Global, p: Typed, tree: &Tree) -> Result<Typed, NoMemory>
     requires syntax { HasSyntax tree.now }
     requires bodies { HaveBodies p }
