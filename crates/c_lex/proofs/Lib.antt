@@ -11,3 +11,4 @@ pub mod Runs
 pub mod Stands
 pub mod Strings
 pub mod Tables
+pub mod Going

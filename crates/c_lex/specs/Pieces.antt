@@ -2,7 +2,10 @@
 use Rattle.std.specs.Prelude.{◌≡◌, ℕ, ◌≤◌, not, ◌&&◌, ◌||◌, Bool, List, [], length, take, drop, codes, IsTrue, IsFalse}
 use Rattle.ck_base.specs.declared.tokens.TokenKind.{TokenKind}
 use Rattle.ck_base.specs.Tokens.{is_among, left_out}
+use Rattle.std.specs.Prelude.{false, ◌∷◌}
+use Rattle.std.specs.List.{list_all}
 use Rattle.ck_base.specs.Lexes.{position_after, begins_line, begins_with, NeverCloses, BeginsWithComment}
+use Rattle.ck_base.specs.Lexes.{is_space, is_line_feed}
 use Rattle.ck_base.specs.Lexes.{starts_comment, is_marker, is_pragma, is_pack, begins_skipped, begins_pack, Separates}
 use Rattle.ck_base.specs.Lexes.{IsAccepted, BeginsWithToken, is_literal, Breaks}
 use Rattle.c_lex.specs.declared.separators.Comment.{Comment}
@@ -36,6 +39,11 @@ DescribesDirective bytes directive.Missing = IsFalse (begins_skipped bytes || be
 -- the place behind some bytes
 unfoldable pub place_behind : List ℕ → Place
 place_behind bytes = record { at = length bytes; pos = position_after bytes; begins_line = begins_line bytes }
+
+-- no line ends in the text, and its first byte is no space or tab
+unfoldable pub goes_on : List ℕ → Bool
+goes_on [] = false
+goes_on (b ∷ bs) = not (is_space b) && list_all (λ c. not (is_line_feed c)) (b ∷ bs)
 
 -- the place is one of the file
 pub record IsPlaceOf (file : List ℕ) (place : Place) : Type 0 where

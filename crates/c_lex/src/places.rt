@@ -1,7 +1,8 @@
 //! Places in a file.
 
 ghost use Rattle.std.specs.Prelude.{◌≡◌, ℕ, ◌+◌, ◌-◌, ◌^◌, ◌<◌, ◌≤◌, ◌++◌, ◌∷◌, [], List, length};
-ghost use Rattle.c_lex.specs.Pieces.{place_behind};
+ghost use Rattle.std.specs.Prelude.{IsTrue};
+ghost use Rattle.c_lex.specs.Pieces.{place_behind, goes_on};
 
 use crate::separators::is_space;
 use ck_base::Pos;
@@ -51,4 +52,20 @@ pub fn behind(mut place: Place, bytes: &[u8]) -> Place
         place = behind_byte(place, *b);
     }
     place
+}
+
+// The place behind so many bytes, in which no line ends and of which the first is no space.
+pub fn behind_token(place: Place, n: usize) -> Place
+    requires { (front : List ℕ) × (place ≡ place_behind front) × (length front + n ≤ 4_194_304) }
+    ensures { (front text : List ℕ) → place ≡ place_behind front → length text ≡ n → IsTrue (goes_on text) →
+        result ≡ place_behind (front ++ text) }
+{
+    Place {
+        at: place.at + n,
+        pos: Pos {
+            line: place.pos.line,
+            col: place.pos.col + n as u32,
+        },
+        begins_line: false,
+    }
 }

@@ -1,7 +1,7 @@
 //! The reader of tokens.
 
 use crate::pieces::{Found, find};
-use crate::places::{Place, behind};
+use crate::places::{Place, behind_token};
 use ck_base::{Pos, Span, TokenKind};
 use std::marker::Model;
 
@@ -90,7 +90,7 @@ impl<'a> Tokens<'a> {
             Found::Refused(code) => Some(Err((code, place.pos))),
             Found::Token(kind, n) => {
                 let text = &file[place.at..place.at + n];
-                let end = behind(place, text);
+                let end = behind_token(place, n);
                 self.place = end;
                 Some(Ok(Token {
                     kind,

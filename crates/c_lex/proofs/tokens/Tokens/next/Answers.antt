@@ -1,14 +1,15 @@
-use Rattle.std.proofs.Common.{◌≡◌, ℕ, ◌+◌, ◌-◌, [], length, drop, length-drop, refl, ap, arith}
+use Rattle.std.proofs.Common.{◌≡◌, ℕ, ◌+◌, ◌-◌, [], length, take, drop, length-drop, length-take-le, refl, ap, arith}
 use Rattle.ck_base.specs.Lexes.{BeginsWithToken}
 use Rattle.c_lex.specs.Pieces.{IsPlaceOf}
 use Rattle.c_lex.proofs.Longest.{longest_some}
 use Rattle.c_lex.proofs.Stands.{gap_forward}
 use Rattle.c_lex.proofs.Positions.{place_pos, place_moved, place_part}
+use Rattle.c_lex.proofs.Going.{token_goes_on}
 use Rattle.c_lex.proofs.tokens.Tokens.next.Goals as goal
-use Rattle.c_lex.proofs.tokens.Tokens.next.Goals.{After-behind-end}
+use Rattle.c_lex.proofs.tokens.Tokens.next.Goals.{After-behind_token-end}
 
 -- the token that was found
-begins : (c : After-behind-end) →
+begins : (c : After-behind_token-end) →
     BeginsWithToken (drop c.find-found.result.0.at c.self.inside.file.now) c.in-Token.kind c.in-Token.n
 begins c = rw c.in-Token.is at c.find-found.ensures.found
 
@@ -16,13 +17,17 @@ part : (i n : ℕ) → i + n - i ≡ n
 part i n = omega arith
 
 -- the place behind it
-behind : (c : After-behind-end) →
-    (c.behind-end.result.at ≡ c.find-found.result.0.at + c.in-Token.n) ×
-    IsPlaceOf c.self.inside.file.now c.behind-end.result
+behind : (c : After-behind_token-end) →
+    (c.behind_token-end.result.at ≡ c.find-found.result.0.at + c.in-Token.n) ×
+    IsPlaceOf c.self.inside.file.now c.behind_token-end.result
 behind c =
-    place_moved c.self.inside.file.now c.find-found.result.0 c.behind-end.result c.in-Token.n
-    c.find-found.ensures.of_file (begins c).longest.within
-    (rw (part c.find-found.result.0.at c.in-Token.n) at c.behind-end.ensures)
+    let file = c.self.inside.file.now in
+    let place = c.find-found.result.0 in
+    let within = (begins c).longest.within in
+    place_moved file place c.behind_token-end.result c.in-Token.n c.find-found.ensures.of_file within
+    (λ front is. c.behind_token-end.ensures front (take c.in-Token.n (drop place.at file)) is
+    (length-take-le c.in-Token.n (drop place.at file) within)
+    (token_goes_on c.in-Token.kind (take c.in-Token.n (drop place.at file)) (begins c).longest.form))
 
 pub overflow_add-text : goal.overflow_add-text
 overflow_add-text c =
@@ -36,32 +41,34 @@ slice_bounds-text-end c =
     let long = length-drop c.find-found.result.0.at c.self.inside.file.now in
     omega (arith, begins.longest.within, long, c.find-found.ensures.of_file.within)
 
-pub behind-end-requires : goal.behind-end-requires
-behind-end-requires c =
+pub behind_token-end-requires : goal.behind_token-end-requires
+behind_token-end-requires c =
     let begins = rw c.in-Token.is at c.find-found.ensures.found in
-    rw (part c.find-found.result.0.at c.in-Token.n)
-    (place_part c.self.inside.file.now c.find-found.result.0 c.in-Token.n c.self.invariant.small
-    c.find-found.ensures.of_file begins.longest.within)
+    let part = place_part c.self.inside.file.now c.find-found.result.0 c.in-Token.n c.self.invariant.small
+    c.find-found.ensures.of_file begins.longest.within in
+    let long = length-take-le c.in-Token.n (drop c.find-found.result.0.at c.self.inside.file.now)
+    begins.longest.within in
+    (part.0, part.1, rw long at part.2)
 
 pub returns-in-Token-clause-accepted : goal.returns-in-Token-clause-accepted
 returns-in-Token-clause-accepted c =
     rw (part c.find-found.result.0.at c.in-Token.n)
-    (begins (goal.at.returns-in-Token-clause-accepted c).After-behind-end).accepted
+    (begins (goal.at.returns-in-Token-clause-accepted c).After-behind_token-end).accepted
 
 pub overflow_cast-result-in-Token : goal.overflow_cast-result-in-Token
 overflow_cast-result-in-Token c =
-    let place = (behind (goal.at.overflow_cast-result-in-Token c).After-behind-end).1 in
+    let place = (behind (goal.at.overflow_cast-result-in-Token c).After-behind_token-end).1 in
     omega (arith, place.within, c.self.invariant.small)
 
 pub invariant_of-self : goal.invariant_of-self
 invariant_of-self c = record {
   small = c.self.invariant.small;
-  of_file = (behind (goal.at.invariant_of-self c).After-behind-end).1;
+  of_file = (behind (goal.at.invariant_of-self c).After-behind_token-end).1;
 }
 
 pub returns-in-Token-clause-token : goal.returns-in-Token-clause-token
 returns-in-Token-clause-token c =
-    let here = (goal.at.returns-in-Token-clause-token c).After-behind-end in
+    let here = (goal.at.returns-in-Token-clause-token c).After-behind_token-end in
     let long = (behind here).0 in
     rw (← c.self.view_is) (
       c.find-found.ensures.passed,
@@ -96,7 +103,7 @@ returns-in-End-clause-end c =
 
 pub returns-in-Token-clause-forward : goal.returns-in-Token-clause-forward
 returns-in-Token-clause-forward c =
-    let here = (goal.at.returns-in-Token-clause-forward c).After-behind-end in
+    let here = (goal.at.returns-in-Token-clause-forward c).After-behind_token-end in
     let place = behind here in
     let some = longest_some _ c.in-Token.kind c.in-Token.n (begins here).longest.form in
     let forward = gap_forward c.find-found.ensures.passed in
