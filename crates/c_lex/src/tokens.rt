@@ -37,7 +37,7 @@ impl<'a> Model for Tokens<'a> {
 }
 
 impl<'a> Tokens<'a> {
-    ghost use Rattle.std.specs.Prelude.{◌≡◌, ◌<◌, ◌≤◌, length, IfNone, IfSome, IfOk, IfErr};
+    ghost use Rattle.std.specs.Prelude.{◌≡◌, ◌+◌, ◌<◌, ◌≤◌, length, IfNone, IfSome, IfOk, IfErr};
     ghost use Rattle.ck_base.specs.Lexes.{IsAccepted, NextToken, NextRefusal, NextEnd};
     ghost use Rattle.c_lex.specs.Lexemes.{lexeme_of};
 
@@ -79,6 +79,8 @@ impl<'a> Tokens<'a> {
         ensures taken { IfSome result (λ r. IfOk r (λ token. self.new ≡ record self.old { at = token.span.end })) }
         ensures forward { IfSome result (λ r. IfOk r (λ token.
             (self.old.at < token.span.end) × (token.span.end ≤ length self.old.file))) }
+        ensures long { IfSome result (λ r. IfOk r (λ token.
+            token.span.end ≡ token.span.start + length token.text.now)) }
         ensures accepted { IfSome result (λ r. IfOk r (λ token. IsAccepted token.kind token.text.now)) }
         ensures refusal { IfSome result (λ r. IfErr r (λ e. NextRefusal self.old.file self.old.at e.0 e.1)) }
         ensures refused { IfSome result (λ r. IfErr r (λ _. self.new ≡ self.old)) }

@@ -108,3 +108,10 @@ returns-in-Token-clause-forward c =
     let some = longest_some _ c.in-Token.kind c.in-Token.n (begins here).longest.form in
     let forward = gap_forward c.find-found.ensures.passed in
     rw (← c.self.view_is) (omega arith, place.1.within)
+
+pub returns-in-Token-clause-long : goal.returns-in-Token-clause-long
+returns-in-Token-clause-long c =
+    let here = (goal.at.returns-in-Token-clause-long c).After-behind_token-end in
+    let place = c.find-found.result.0.at in
+    let long = length-take-le c.in-Token.n (drop place c.self.inside.file.now) (begins here).longest.within in
+    rw (part place c.in-Token.n) (omega (arith, (behind here).0, long))
