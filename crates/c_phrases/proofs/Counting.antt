@@ -1,6 +1,7 @@
 -- How often a text stands in a list that changes.
 use Rattle.std.proofs.Common.{◌≡◌, ℕ, ◌+◌, ◌-◌, Bool, true, false, cond, List, [], ◌∷◌, ◌++◌, reverse, take, drop}
-use Rattle.std.proofs.Common.{Option, Some, Bor, refl, sym, ap, ◌∙◌, arith, zero-add}
+use Rattle.std.proofs.Common.{◌<◌, Option, Some, Bor, map, refl, sym, ap, ◌∙◌, inl, inr, arith}
+use Rattle.std.proofs.Common.{zero-add, eq-zero-or-pos}
 use Rattle.std.specs.Prelude.{◌||◌, nat_lt, count_by, sum_by, bytes_eq}
 use Rattle.std.specs.List.{list_any}
 use Rattle.std.specs.Map.{update}
@@ -10,7 +11,9 @@ use Rattle.std.proofs.lemmas.List.Sums.{sum_by-cons, sum_by-append}
 use Rattle.std.proofs.lemmas.List.Sorted.{IsPermutation-reverse, sum_by-IsPermutation}
 use Rattle.std.proofs.lemmas.Slice.Eq.{bytes_eq-Decides}
 use Rattle.c_phrases.specs.declared.counts.Counts.{Counts}
-use Rattle.c_phrases.specs.Counted.{Counted}
+use Rattle.ck_base.specs.Tokens.{is_among}
+use Rattle.c_phrases.specs.Counted.{count_of, Counted}
+use Rattle.c_phrases.proofs.Force.{reversed_any}
 
 -- Counts of texts, one of which changes
 
@@ -59,3 +62,13 @@ counted_turn xs n c h = record { each = λ t. h.each t ∙ turned_sum (λ name. 
 
 pub counted_along : (xs ys : List (Bor (List ℕ))) (c : Counts) → ys ≡ xs → Counted c xs → Counted c ys
 counted_along xs ys c e h = record { each = λ t. h.each t ∙ ap (count_by (λ name. bytes_eq name.now t)) (sym e) }
+
+-- what was not counted is none of the names
+pub none_counted : (c : Counts) (names : List (Bor (List ℕ))) (text : List ℕ) → Counted c names →
+    (0 < count_of c text → ⊥) → is_among (reverse (map (λ name. name.now) names)) text ≡ false
+none_counted c names text counted none =
+    let nothing : count_of c text ≡ 0 =
+    elim (eq-zero-or-pos (count_of c text)) [ inl e ↦ e | inr some ↦ absurd (none some) ] in
+    reversed_any (λ name. bytes_eq name text) (λ name. name.now) names
+    ∙ sym (positive_any (λ name. bytes_eq name.now text) names)
+    ∙ ap (nat_lt 0) (sym (counted.each text) ∙ nothing)

@@ -1,6 +1,7 @@
 pub mod Begins
 pub mod Climbing
 pub mod Counted
+pub mod Items
 pub mod Gathering
 pub mod Got
 pub mod Reading

@@ -3,7 +3,7 @@
 use crate::tables::symbol_of;
 use c_lex::Token;
 use c_tree::Symbol;
-use ck_base::{Pos, Span};
+use ck_base::{Pos, Span, TokenKind};
 use std::marker::Model;
 
 /// Where a token stands.
@@ -16,7 +16,11 @@ pub struct Place {
 /// A token and what it is to the grammar. Contracts see the token.
 #[derive(Drop)]
 pub struct Item<'a> {
-    token: Token<'a>,
+    text: &'a [u8],
+    pos: Pos,
+    /// How many bytes of the file stand before it.
+    start: u32,
+    kind: TokenKind,
     symbol: Symbol,
 }
 
@@ -25,26 +29,34 @@ impl<'a> Model for Item<'a> {
 
     ghost Value = { Lexeme };
 
-    ghost use Rattle.std.specs.Prelude.{◌≡◌};
-    ghost use Rattle.c_lex.specs.Lexemes.{lexeme_of};
-    ghost use Rattle.c_tree.specs.Symbols.{symbol_of};
+    ghost use Rattle.std.specs.Prelude.{◌+◌, length};
+    ghost use Rattle.c_phrases.specs.Items.{IsItem};
 
-    ghost view = { λ s. lexeme_of s.token };
+    ghost view = { λ s. record {
+      kind = s.kind;
+      text = s.text.now;
+      span = record { start = s.start; end = s.start + length s.text.now };
+      pos = s.pos;
+    } };
 
-    ghost invariant = { λ s. s.symbol ≡ symbol_of s.token.kind s.token.text.now };
+    ghost invariant = { λ s. IsItem s.kind s.symbol s.start s.text.now };
 }
 
 impl<'a> Item<'a> {
-    ghost use Rattle.std.specs.Prelude.{◌≡◌};
+    ghost use Rattle.std.specs.Prelude.{◌≡◌, ◌+◌, length};
     ghost use Rattle.c_lex.specs.Lexemes.{lexeme_of};
     ghost use Rattle.c_tree.specs.Symbols.{symbol as symbol_of_lexeme};
     ghost use Rattle.c_phrases.specs.Got.{IsPlaceOf};
 
     pub fn new(token: Token<'a>) -> Item<'a>
+        requires { token.span.end ≡ token.span.start + length token.text.now }
         ensures { result ≡ lexeme_of token.entry }
     {
         Item {
-            token,
+            text: token.text,
+            pos: token.pos,
+            start: token.span.start,
+            kind: token.kind,
             symbol: symbol_of(token.kind, token.text),
         }
     }
@@ -54,7 +66,10 @@ impl<'a> Item<'a> {
         ensures { result ≡ self.now }
     {
         Item {
-            token: self.token,
+            text: self.text,
+            pos: self.pos,
+            start: self.start,
+            kind: self.kind,
             symbol: self.symbol,
         }
     }
@@ -68,15 +83,18 @@ impl<'a> Item<'a> {
     pub(crate) fn text(&self) -> &'a [u8]
         ensures { result.now ≡ self.now.text }
     {
-        self.token.text
+        self.text
     }
 
     pub fn place(&self) -> Place
         ensures { IsPlaceOf result self.now }
     {
         Place {
-            pos: self.token.pos,
-            text: self.token.span,
+            pos: self.pos,
+            text: Span {
+                start: self.start,
+                end: self.start + self.text.len() as u32,
+            },
         }
     }
 }

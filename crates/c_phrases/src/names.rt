@@ -1,6 +1,6 @@
 //! The names of types that are in force.
 
-ghost use Rattle.std.specs.Prelude.{◌≡◌, ℕ, ◌≤◌, List, [], ◌∷◌, ◌++◌, length, reverse, drop, IfOk};
+ghost use Rattle.std.specs.Prelude.{◌≡◌, ℕ, ◌≤◌, false, List, [], ◌∷◌, ◌++◌, length, reverse, drop, IfOk};
 ghost use Rattle.ck_base.specs.Tokens.{is_among};
 ghost use Rattle.c_tree.specs.Grammar.{is_typedef_name, is_word as is_word_of, may_be_nameless as may_be_nameless_of};
 ghost use Rattle.c_tree.specs.Grammar.{is_declared_by as is_declared_by_of};
@@ -40,17 +40,21 @@ pub struct TypeNames<'a> {
     names: Vec<&'a [u8]>,
     /// How often each stands among them.
     counts: Counts<'a>,
+    /// The least length that one of them had.
+    shortest: usize,
+    /// The greatest length that one of them had.
+    longest: usize,
 }
 
 impl<'a> Model for TypeNames<'a> {
     ghost use Rattle.std.specs.Prelude.{List, ℕ, map, reverse};
-    ghost use Rattle.c_phrases.specs.Counted.{Counted};
+    ghost use Rattle.c_phrases.specs.Counted.{IsCounted};
 
     ghost Value = { List (List ℕ) };
 
     ghost view = { λ types. reverse (map (λ name. name.now) types.names.items) };
 
-    ghost invariant = { λ types. Counted types.counts types.names.items };
+    ghost invariant = { λ types. IsCounted types.counts types.shortest types.longest types.names.items };
 }
 
 #[tactic(auto, unfolding(crate::specs::Got::in_force), using(crate::proofs::Force::reversed_push, crate::proofs::Force::reversed_length, crate::proofs::Force::reversed_any))]
@@ -61,13 +65,23 @@ impl<'a> TypeNames<'a> {
         TypeNames {
             names: Vec::new(alloc),
             counts: Counts::new(alloc),
+            shortest: usize::MAX,
+            longest: 0,
         }
+    }
+
+    // Whether a text is as long as a name among them may be.
+    fn may_have(&self, text: &[u8]) -> bool
+        ensures { result ≡ false → is_among (in_force self.now) text.now ≡ false }
+    {
+        let count = text.len();
+        self.shortest <= count && count <= self.longest
     }
 
     pub fn contains(&self, text: &[u8]) -> bool
         ensures { result ≡ is_among (in_force self.now) text.now }
     {
-        self.counts.count(text) > 0
+        self.may_have(text) && self.counts.count(text) > 0
     }
 
     pub fn push(&mut self, name: &'a [u8]) -> Result<(), AllocError>
@@ -76,6 +90,8 @@ impl<'a> TypeNames<'a> {
         self.counts.reserve()?;
         self.names.push(name)?;
         self.counts.add(name)?;
+        self.shortest = self.shortest.min(name.len());
+        self.longest = self.longest.max(name.len());
         Ok(())
     }
 

@@ -13,8 +13,11 @@ invariant_of-self c =
     let whole = turned_length xs c.args.count in
     let long = ap length same in
     let held = c.self.inside.names.ok.0 in
-    counted_along _ _ c.self.inside.counts (with_items_is c.self.inside.names _ (omega arith) ∙ same)
-    (counted_turn xs c.args.count c.self.inside.counts c.self.invariant)
+    record {
+      counted = counted_along _ _ c.self.inside.counts (with_items_is c.self.inside.names _ (omega arith) ∙ same)
+          (counted_turn xs c.args.count c.self.inside.counts c.self.invariant.counted);
+      lengths = c.self.invariant.lengths;
+    }
 
 pub returns : goal.returns
 unfolding Got.in_force
