@@ -139,7 +139,7 @@ MembersThere w ms = All (λ (m : Member). m.of < type_count w.nodes) ms
 
 -- whether members so far have one with a name
 abbrev pub has_name : Members → List ℕ → Bool
-has_name v text = is_some (lookup (λ k. bytes_eq text k.now) v.names.entries)
+has_name v text = is_some (lookup (λ k. bytes_eq text k.bytes.now) v.names.entries)
 
 -- the same of the members so far: their names are those that stand in the file
 pub record AllMembersThere (w : Work) (v : Members) : Type 0 where

@@ -24,13 +24,14 @@ use c_types::either;
 use ck_base::{DECLARED_TWICE, NO_TREE, NoMemory, Refusal, Span};
 use indexmap::IndexMap;
 use std::alloc::Global;
+use text_keys::TextKey;
 
 /// The members of a struct or union so far, and their names.
 #[derive(Drop)]
 pub struct Members<'a> {
     /// In the order of the file.
     pub all: Vec<Member>,
-    pub(crate) names: IndexMap<&'a [u8], ()>,
+    pub(crate) names: IndexMap<TextKey<'a>, ()>,
 }
 
 impl<'a> Members<'a> {
@@ -49,7 +50,7 @@ impl<'a> Members<'a> {
     fn has(&self, text: &[u8]) -> bool
         ensures { result ≡ has_name self.now text.now }
     {
-        self.names.contains_key(text)
+        self.names.contains_key(&TextKey { bytes: text })
     }
 
     // These members and one more behind them, with its name.
@@ -59,7 +60,7 @@ impl<'a> Members<'a> {
             has_name v other ≡ (bytes_eq text.entry.now other || has_name self.entry other)) }
     {
         let mut longer = self;
-        longer.names.insert(text, ())?;
+        longer.names.insert(TextKey { bytes: text }, ())?;
         longer.all.push(member)?;
         Ok(longer)
     }

@@ -1,6 +1,6 @@
 -- A name is bound in a map.
 use Rattle.std.proofs.Common.{◌≡◌, ℕ, zero, suc, ◌-◌, ◌++◌, length, set, take, get_or, arith, Bool, true, false}
-use Rattle.std.proofs.Common.{cond, List, [], ◌∷◌, Option, Some, None, Bor, refl, sym, ap, subst, ◌∙◌}
+use Rattle.std.proofs.Common.{cond, List, [], ◌∷◌, Option, Some, None, refl, sym, ap, subst, ◌∙◌}
 use Rattle.std.specs.Prelude.{bytes_eq}
 use Rattle.std.specs.Map.{lookup}
 use Rattle.std.proofs.lemmas.Slice.Eq.{bytes_eq-Decides}
@@ -9,6 +9,7 @@ use Rattle.std.specs.Prelude.{◌<◌, option_map, reverse}
 use Rattle.std.proofs.lemmas.List.{reverse-append}
 use Rattle.std.proofs.lemmas.Option.{same_Some}
 use Rattle.indexmap.specs.IndexMap.{insert_entry}
+use Rattle.text_keys.specs.declared.TextKey.{TextKey}
 use Rattle.c_tree.specs.Types.{Ty}
 use Rattle.c_tree.specs.Scopes as meant
 use Rattle.c_tree.specs.Scopes.{State, find_in, in_innermost, innermost, bind_name, bind_tag}
@@ -44,24 +45,25 @@ bytes_sym xs ys = both (bytes_eq xs ys) (bytes_eq ys xs) refl refl
     both false true e f = absurd (false≢true (sym e ∙ ap (λ zs. bytes_eq xs zs) (bytes_same ys xs f) ∙ bytes_refl xs))
     both false false e f = e ∙ sym f
 
-pub lookup_insert : {X : Type 0} (es : List (Bor (List ℕ) × X)) (k : Bor (List ℕ)) (v : X) (n : List ℕ) →
-    lookup (λ x. bytes_eq n x.now) (insert_entry (λ x y. bytes_eq x.now y.now) es k v)
-    ≡ cond (bytes_eq k.now n) (Some v) (lookup (λ x. bytes_eq n x.now) es)
-lookup_insert {X = X} [] k v n = ap (λ b. cond {A = Option X} b (Some v) None) (bytes_sym n k.now)
+pub lookup_insert : {X : Type 0} (es : List (TextKey × X)) (k : TextKey) (v : X) (n : List ℕ) →
+    lookup (λ x. bytes_eq n x.bytes.now) (insert_entry (λ x y. bytes_eq x.bytes.now y.bytes.now) es k v)
+    ≡ cond (bytes_eq k.bytes.now n) (Some v) (lookup (λ x. bytes_eq n x.bytes.now) es)
+lookup_insert {X = X} [] k v n = ap (λ b. cond {A = Option X} b (Some v) None) (bytes_sym n k.bytes.now)
 lookup_insert {X = X} (e ∷ es) k v n =
-    by_key (bytes_eq k.now e.0.now) (bytes_eq n e.0.now) refl refl (lookup_insert es k v n)
+    by_key (bytes_eq k.bytes.now e.0.bytes.now) (bytes_eq n e.0.bytes.now) refl refl (lookup_insert es k v n)
   where
-    found : List (Bor (List ℕ) × X) → Option X
-    found = lookup (λ x. bytes_eq n x.now)
+    found : List (TextKey × X) → Option X
+    found = lookup (λ x. bytes_eq n x.bytes.now)
 
-    by_key : (a b : Bool) → bytes_eq k.now e.0.now ≡ a → bytes_eq n e.0.now ≡ b →
-        found (insert_entry (λ x y. bytes_eq x.now y.now) es k v) ≡ cond (bytes_eq k.now n) (Some v) (found es) →
-        found (cond a ((e.0, v) ∷ es) (e ∷ insert_entry (λ x y. bytes_eq x.now y.now) es k v))
-        ≡ cond (bytes_eq k.now n) (Some v) (found (e ∷ es))
+    by_key : (a b : Bool) → bytes_eq k.bytes.now e.0.bytes.now ≡ a → bytes_eq n e.0.bytes.now ≡ b →
+        found (insert_entry (λ x y. bytes_eq x.bytes.now y.bytes.now) es k v)
+        ≡ cond (bytes_eq k.bytes.now n) (Some v) (found es) →
+        found (cond a ((e.0, v) ∷ es) (e ∷ insert_entry (λ x y. bytes_eq x.bytes.now y.bytes.now) es k v))
+        ≡ cond (bytes_eq k.bytes.now n) (Some v) (found (e ∷ es))
     by_key true b p q r =
-        let same : bytes_eq n e.0.now ≡ bytes_eq k.now n =
-        bytes_sym n e.0.now ∙ ap (λ zs. bytes_eq zs n) (sym (bytes_same k.now e.0.now p)) in
-        at_once (bytes_eq n e.0.now) (bytes_eq k.now n) same
+        let same : bytes_eq n e.0.bytes.now ≡ bytes_eq k.bytes.now n =
+        bytes_sym n e.0.bytes.now ∙ ap (λ zs. bytes_eq zs n) (sym (bytes_same k.bytes.now e.0.bytes.now p)) in
+        at_once (bytes_eq n e.0.bytes.now) (bytes_eq k.bytes.now n) same
       where
         at_once : (c d : Bool) → c ≡ d → cond c (Some v) (found es) ≡ cond d (Some v) (cond c (Some e.1) (found es))
         at_once true true s = refl
@@ -69,7 +71,8 @@ lookup_insert {X = X} (e ∷ es) k v n =
         at_once true false s = absurd (false≢true (sym s))
         at_once false true s = absurd (false≢true s)
     by_key false true p q r =
-        let apart : bytes_eq k.now n ≡ false = ap (λ zs. bytes_eq k.now zs) (bytes_same n e.0.now q) ∙ p in
+        let apart : bytes_eq k.bytes.now n ≡ false =
+        ap (λ zs. bytes_eq k.bytes.now zs) (bytes_same n e.0.bytes.now q) ∙ p in
         rw (q, apart) refl
     by_key false false p q r = rw q r
 

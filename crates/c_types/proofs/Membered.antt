@@ -1,6 +1,6 @@
 -- Members that are found by their names.
 use Rattle.std.proofs.Common.{◌≡◌, ℕ, suc, ◌+◌, ◌<◌, List, length, drop, drop-cons, get_or, map, cond, Option, Some}
-use Rattle.std.proofs.Common.{Bor}
+use Rattle.text_keys.specs.declared.TextKey.{TextKey}
 use Rattle.std.proofs.Common.{ap, ◌∙◌, sym, arith}
 use Rattle.std.specs.Prelude.{bytes_eq}
 use Rattle.std.specs.Map.{lookup}
@@ -14,14 +14,15 @@ abbrev pub named_from : List ℕ → List Member → ℕ → List ℕ → Option
 named_from file ms k name = first_named file k (map (λ m. m.name) (drop k ms)) name
 
 -- the name of the member before them is noted
-pub named_turn : (file : List ℕ) (ms : List Member) (k j : ℕ) (d : Member) (es : List (Bor (List ℕ) × ℕ))
-    (t : Bor (List ℕ)) → k ≡ suc j → j < length ms → t.now ≡ text_at file (get_or ms j d).name →
-    ((name : List ℕ) → lookup (λ x. bytes_eq name x.now) es ≡ named_from file ms k name) → (name : List ℕ) →
-    lookup (λ x. bytes_eq name x.now) (insert_entry (λ x y. bytes_eq x.now y.now) es t j) ≡ named_from file ms j name
+pub named_turn : (file : List ℕ) (ms : List Member) (k j : ℕ) (d : Member) (es : List (TextKey × ℕ))
+    (t : TextKey) → k ≡ suc j → j < length ms → t.bytes.now ≡ text_at file (get_or ms j d).name →
+    ((name : List ℕ) → lookup (λ x. bytes_eq name x.bytes.now) es ≡ named_from file ms k name) → (name : List ℕ) →
+    lookup (λ x. bytes_eq name x.bytes.now) (insert_entry (λ x y. bytes_eq x.bytes.now y.bytes.now) es t j)
+    ≡ named_from file ms j name
 named_turn file ms k j d es t e lt f h name =
     let more : k ≡ j + 1 = omega (arith, e) in
     lookup_insert es t j name
-    ∙ ap (λ b. cond (bytes_eq b name) (Some j) (lookup (λ x. bytes_eq name x.now) es)) f
+    ∙ ap (λ b. cond (bytes_eq b name) (Some j) (lookup (λ x. bytes_eq name x.bytes.now) es)) f
     ∙ ap (λ o. cond (bytes_eq (text_at file (get_or ms j d).name) name) (Some j) o)
     (h name ∙ ap (λ x. first_named file x (map (λ m. m.name) (drop k ms)) name) more
     ∙ ap (λ x. first_named file (j + 1) (map (λ m. m.name) (drop x ms)) name) e)

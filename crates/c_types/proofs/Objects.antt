@@ -89,7 +89,7 @@ linked_same sc sd p s h same g =
       routines = h.routines;
       locals = h.locals;
       int = h.int;
-      linked = λ n. ap (lookup (λ k. bytes_eq n k.now)) g ∙ h.linked n;
+      linked = λ n. ap (lookup (λ k. bytes_eq n k.bytes.now)) g ∙ h.linked n;
     } in
     subst (λ z. Stands z p s) (sym same) r
 
@@ -99,9 +99,9 @@ pushed xs ys x y d f = cc
 object_added : (sb sd : Scopes) (p : Typed) (gs : List GlobalDef) (s : State) (x : GlobalDef) (y : StaticState) →
     Stands sb p s → sd ≡ record sb { objects = sd.objects; linked = sd.linked } →
     sd.objects.items ≡ sb.objects.items ++ object_of y ∷ [] →
-    ((n : List ℕ) → lookup (λ k. bytes_eq n k.now) sd.linked.entries
+    ((n : List ℕ) → lookup (λ k. bytes_eq n k.bytes.now) sd.linked.entries
     ≡ cond (y.linked && bytes_eq y.name.text n) (Some (length s.statics))
-    (lookup (λ k. bytes_eq n k.now) sb.linked.entries)) → (y.linked ≡ true → linked s y.name.text ≡ None) →
+    (lookup (λ k. bytes_eq n k.bytes.now) sb.linked.entries)) → (y.linked ≡ true → linked s y.name.text ≡ None) →
     gs ≡ p.globals ++ x ∷ [] → global_kept sb.file.now (types_of p.types) x ≡ static_seen y →
     Stands sd (record p { globals = gs }) (record s { statics = s.statics ++ y ∷ [] })
 object_added sb sd p gs s x y h same g m u e w =
@@ -135,9 +135,9 @@ pub object_given : (sc sb sd : Scopes) (p : Typed) (gs : List GlobalDef) (s : St
     Stands sb p (bind_name (text_at sc.file.now d.name) (meant.Static k) s) → sb.file.now ≡ sc.file.now →
     sd ≡ record sb { objects = sd.objects; linked = sd.linked } →
     sd.objects.items ≡ sb.objects.items ++ record { linked = linkage; defined = defined; given = false } ∷ [] →
-    ((n : List ℕ) → lookup (λ j. bytes_eq n j.now) sd.linked.entries
+    ((n : List ℕ) → lookup (λ j. bytes_eq n j.bytes.now) sd.linked.entries
     ≡ cond (linkage && bytes_eq (text_at sc.file.now d.name) n) (Some k)
-    (lookup (λ j. bytes_eq n j.now) sb.linked.entries)) → gs ≡ p.globals ++ x ∷ [] →
+    (lookup (λ j. bytes_eq n j.bytes.now) sb.linked.entries)) → gs ≡ p.globals ++ x ∷ [] →
     ((file : List ℕ) (ts : List Ty) → global_kept file ts x ≡ declared_at file ts d.name d.pos d.of) →
     (linkage ≡ true → linked s (text_at sc.file.now d.name) ≡ None) →
     Given sd (record p { globals = gs }) (new_static (name_of sc.file.now d) (type_named p d.of) linkage defined s)

@@ -74,10 +74,10 @@ tagging_of Enumerated = meant.Enumerated
 
 -- what a scope keeps of a name, and of a tag
 abbrev pub name_in : Scope → List ℕ → Option Entity
-name_in c n = lookup (λ k. bytes_eq n k.now) c.names.entries
+name_in c n = lookup (λ k. bytes_eq n k.bytes.now) c.names.entries
 
 abbrev pub tag_in : Scope → List ℕ → Option Tagging
-tag_in c n = lookup (λ k. bytes_eq n k.now) c.tags.entries
+tag_in c n = lookup (λ k. bytes_eq n k.bytes.now) c.tags.entries
 
 -- A scope has the names of a scope of the typing, where there are so many structs and unions
 pub record ShowsScope (ts : List Ty) (count : ℕ) (c : Scope) (m : meant.Scope) : Type 0 where
@@ -156,7 +156,7 @@ first_part file (Some ms) name = first_named file 0 (map (λ m. m.name.span) ms)
 -- what a table has of a name
 abbrev pub number_among : Option MemberTable → List ℕ → Option ℕ
 number_among None name = None
-number_among (Some t) name = lookup (λ k. bytes_eq name k.now) t.numbers.entries
+number_among (Some t) name = lookup (λ k. bytes_eq name k.bytes.now) t.numbers.entries
 
 abbrev pub offset_among : Option MemberTable → ℕ → Option ℕ
 offset_among None k = None
@@ -231,4 +231,4 @@ pub record Stands (sc : Scopes) (p : Typed) (s : State) : Type 0 where
   pub routines : map (fun_kept sc.file.now (types_of p.types)) p.funs ≡ map routine_seen s.routines
   pub locals : map (var_kept sc.file.now (types_of p.types)) sc.locals.items ≡ map local_seen s.locals
   pub int : named (types_of p.types) sc.int ≡ Some int
-  pub linked : (n : List ℕ) → lookup (λ k. bytes_eq n k.now) sc.linked.entries ≡ linked s n
+  pub linked : (n : List ℕ) → lookup (λ k. bytes_eq n k.bytes.now) sc.linked.entries ≡ linked s n

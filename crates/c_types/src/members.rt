@@ -10,6 +10,7 @@ ghost use Rattle.c_types.specs.Members.{now, parts_of, is_defined};
 
 use crate::scopes::{MemberTable, ObjectInfo, Scopes};
 use c_tree::{CType, Member, RecordKind, Typed};
+use text_keys::TextKey;
 
 // The members of a complete struct or union.
 fn members_of(c: &CType) -> Option<&[Member]>
@@ -58,7 +59,7 @@ impl<'a> Scopes<'a> {
     {
         match self.named.get(&tag) {
             None => None,
-            Some(table) => table.numbers.get(name).copied(),
+            Some(table) => table.numbers.get(&TextKey { bytes: name }).copied(),
         }
     }
 

@@ -18,12 +18,13 @@ use c_type_sizes::Room;
 use ck_base::NoMemory;
 use indexmap::IndexMap;
 use std::alloc::Global;
+use text_keys::TextKey;
 
 /// A scope: the ordinary names and the tags that are declared in it (C11 6.2.3).
 #[derive(Drop)]
 pub struct Scope<'a> {
-    pub(crate) names: IndexMap<&'a [u8], Entity>,
-    pub(crate) tags: IndexMap<&'a [u8], Tagging>,
+    pub(crate) names: IndexMap<TextKey<'a>, Entity>,
+    pub(crate) tags: IndexMap<TextKey<'a>, Tagging>,
 }
 
 /// A struct or union.
@@ -42,7 +43,7 @@ pub(crate) struct TagInfo {
 #[derive(Drop)]
 pub(crate) struct MemberTable<'a> {
     /// The number of the first of each name.
-    pub(crate) numbers: IndexMap<&'a [u8], u32>,
+    pub(crate) numbers: IndexMap<TextKey<'a>, u32>,
     /// Where the first ones begin in a struct, as far as that is known.
     pub(crate) offsets: Vec<u64>,
 }
@@ -72,7 +73,7 @@ pub struct Scopes<'a> {
     /// Of each function, whether its definition was begun.
     pub(crate) begun: Vec<bool>,
     /// The objects with linkage, by their names.
-    pub(crate) linked: IndexMap<&'a [u8], u32>,
+    pub(crate) linked: IndexMap<TextKey<'a>, u32>,
     /// The parameters and the other locals of the function at work.
     pub(crate) locals: Vec<VarDef>,
     pub(crate) numbers: Numbers,
@@ -100,7 +101,7 @@ impl<'a> Scope<'a> {
         ensures err { OnErr result ((n : List ℕ) → name_in self.new n ≡ name_in self.old n) }
         ensures succeeds { 0 < spare self.old.names → IsOk result }
     {
-        self.names.insert(name, entity)?;
+        self.names.insert(TextKey { bytes: name }, entity)?;
         Ok(())
     }
 
@@ -112,7 +113,7 @@ impl<'a> Scope<'a> {
         ensures err { OnErr result ((n : List ℕ) → tag_in self.new n ≡ tag_in self.old n) }
         ensures succeeds { 0 < spare self.old.tags → IsOk result }
     {
-        self.tags.insert(name, tagging)?;
+        self.tags.insert(TextKey { bytes: name }, tagging)?;
         Ok(())
     }
 
@@ -139,13 +140,13 @@ impl<'a> Scope<'a> {
     pub(crate) fn name(&self, name: &[u8]) -> Option<Entity>
         ensures { result ≡ name_in self.now name.now }
     {
-        self.names.get(name).copied()
+        self.names.get(&TextKey { bytes: name }).copied()
     }
 
     pub(crate) fn tag(&self, name: &[u8]) -> Option<Tagging>
         ensures { result ≡ tag_in self.now name.now }
     {
-        self.tags.get(name).copied()
+        self.tags.get(&TextKey { bytes: name }).copied()
     }
 }
 

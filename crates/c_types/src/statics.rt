@@ -27,6 +27,7 @@ use c_interner::{Lengths, append, next_number};
 use c_tree::{GlobalDef, Typed};
 use ck_base::{NoMemory, Refusal, Sequence};
 use std::alloc::Global;
+use text_keys::TextKey;
 
 fn object(k: u32) -> Entity
     ensures { result ≡ Entity.Static k }
@@ -138,24 +139,24 @@ impl<'a> Scopes<'a> {
 
     // The number of the object with linkage that has a name.
     pub(crate) fn look_linked(&self, name: &[u8]) -> Option<u32>
-        ensures is { result ≡ lookup (λ k. bytes_eq name.now k.now) self.now.linked.entries }
+        ensures is { result ≡ lookup (λ k. bytes_eq name.now k.bytes.now) self.now.linked.entries }
         ensures seen { (p : Typed) (s : State) → Stands self.now p s → result ≡ linked s name.now }
     {
-        self.linked.get(name).copied()
+        self.linked.get(&TextKey { bytes: name }).copied()
     }
 
     // A name is that of an object with linkage from here on, if the object has linkage.
     fn note_linked(&mut self, name: &'a [u8], k: u32, linkage: bool) -> Result<(), NoMemory>
         ensures ok { OnOk result ((n : List ℕ) →
-            lookup (λ k. bytes_eq n k.now) self.new.linked.entries
+            lookup (λ k. bytes_eq n k.bytes.now) self.new.linked.entries
             ≡ (if linkage && bytes_eq name.entry.now n then Some k
-            else lookup (λ k. bytes_eq n k.now) self.old.linked.entries)) }
+            else lookup (λ k. bytes_eq n k.bytes.now) self.old.linked.entries)) }
         ensures others { self.new ≡ record self.old { linked = self.new.linked } }
         ensures succeeds { 0 < spare self.old.linked → IsOk result }
         ensures file { self.new.file.now ≡ self.old.file.now }
     {
         if linkage {
-            self.linked.insert(name, k)?;
+            self.linked.insert(TextKey { bytes: name }, k)?;
         }
         Ok(())
     }

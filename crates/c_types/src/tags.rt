@@ -20,6 +20,7 @@ use c_type_sizes::{Room, whole_room};
 use cap_layout::LayoutFault;
 use ck_base::{DECLARED_TWICE, NoMemory, Pos, Refusal, Sequence, TYPE_TOO_LARGE};
 use indexmap::IndexMap;
+use text_keys::TextKey;
 
 fn is_union(kind: RecordKind) -> bool
     ensures { result ≡ is_union kind }
@@ -81,9 +82,9 @@ fn is_stale(stale: bool, before: Option<Room>) -> bool
 fn names_of<'a>(
     scopes: &Scopes<'a>,
     members: &[Member],
-) -> Result<IndexMap<&'a [u8], u32>, NoMemory>
+) -> Result<IndexMap<TextKey<'a>, u32>, NoMemory>
     ensures { IfOk result (λ t. (name : List ℕ) →
-        lookup (λ k. bytes_eq name k.now) t.entries
+        lookup (λ k. bytes_eq name k.bytes.now) t.entries
         ≡ first_named scopes.now.file.now 0 (map (λ m. m.name) members.now) name) }
 {
     let mut numbers = IndexMap::new(scopes.alloc);
@@ -91,7 +92,7 @@ fn names_of<'a>(
     while left > 0 {
         left -= 1;
         let name = scopes.text(members[left as usize].name);
-        numbers.insert(name, left)?;
+        numbers.insert(TextKey { bytes: name }, left)?;
     }
     Ok(numbers)
 }

@@ -19,7 +19,7 @@ loop-left-preserved c = record {
   within = omega (arith, c.loop-left.invariant.within);
   numbers = λ name. rw c.in_ok-insert.ensures.entries
       (named_turn c.args.scopes.now.file.now c.args.members.now c.loop-left.left (c.loop-left.left - 1) _
-      c.loop-left.numbers.entries c.text-name.result
+      c.loop-left.numbers.entries (record { bytes = c.text-name.result })
       (omega (arith, c.loop-left-test.true)) (omega (arith, c.loop-left.invariant.within, c.loop-left-test.true))
       c.text-name.ensures c.loop-left.invariant.numbers name);
 }

@@ -7,6 +7,7 @@ use Rattle.c_declarators.proofs.members.Members.with.Goals as goal
 
 pub returns-clause-names : goal.returns-clause-names
 returns-clause-names c other =
-    rw c.in_ok-insert.ensures.entries (ap is_some (lookup_insert c.args.self.names.entries c.args.text _ other)
+    rw c.in_ok-insert.ensures.entries
+    (ap is_some (lookup_insert c.args.self.names.entries (record { bytes = c.args.text }) _ other)
     ∙ found_first (bytes_eq c.args.text.now other) _
-    (lookup (λ k. bytes_eq other k.now) c.args.self.names.entries))
+    (lookup (λ k. bytes_eq other k.bytes.now) c.args.self.names.entries))

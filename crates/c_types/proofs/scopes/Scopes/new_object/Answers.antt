@@ -37,7 +37,7 @@ returns-clause-ok c s h lt u =
       given = false;
     } ∷ []) c.note_linked.ensures.others)
     (λ m. c.in_ok-note_linked.ensures.ok m
-    ∙ ap (λ x. cond (c.args.linkage && bytes_eq x m) (Some k) (lookup (λ j. bytes_eq m j.now) sb.linked.entries))
+    ∙ ap (λ x. cond (c.args.linkage && bytes_eq x m) (Some k) (lookup (λ j. bytes_eq m j.bytes.now) sb.linked.entries))
     name)
     c.in_ok-append.ensures.ok c.zeros.ensures u
 
