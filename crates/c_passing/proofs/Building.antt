@@ -21,6 +21,7 @@ use Rattle.c_passing.specs.Passes.{written_term, written_action, written_before,
 use Rattle.c_passing.specs.Passes.{AddsActions, IsGivenValue, IsReturned, IsPassedAction, ArePassedActions}
 use Rattle.c_passing.proofs.Stating.{written_action_is, hidden_action, GivesPlainly, action_passed_is}
 use Rattle.c_passing.proofs.Stating.{return_by_pointer}
+use Rattle.c_passing.proofs.Each.{one_term, no_statements_add}
 use Rattle.passing_steps.specs.Steps.{written_type, Fits, HasTerms, HasAction, HasActions, Hides, IsGivenBack}
 use Rattle.passing_steps.proofs.Calling.{hides_none, hides_then, hides_vars, hides_count}
 use Rattle.passing_steps.proofs.Ordering.{in_then, in_stmt}
@@ -158,6 +159,34 @@ statement_made s old a b c new k j d r vs js ls h = record {
   hides = statement_hides s old a b c new k j d r vs js ls h;
   is = statement_passed s old a b c new k j d r vs js ls h;
 }
+
+-- an expression that is a statement
+pub expression_made : (s : Source) (old mid new : Made) (k a v j : ℕ) (d : Stmt) →
+    slice_get s.program.now.stmts k ≡ Some d → d.kind ≡ stmts.Expr a →
+    AddsTerms s old mid (λ names. hidden_in names (written_term s a)) (IsPassed s old mid (written_term s a) v) →
+    new.stmts.items ≡ mid.stmts.items ++ record { kind = stmts.Expr v; pos = d.pos } ∷ [] →
+    new ≡ record mid { stmts = new.stmts } → j ≡ length mid.stmts.items →
+    AddsActions s old new (λ names. hidden_of names (written_action s k))
+    (IsPassedAction s old new (written_action s k) j)
+expression_made s old mid new k a v j d there is h items rest number =
+    let shown : Stmt = record { kind = stmts.Expr a; pos = d.pos } in
+    let same : d ≡ shown = λ i. record { kind = is i; pos = d.pos } in
+    let made : Stmt = record { kind = stmts.Expr v; pos = d.pos } in
+    let built : Built s old old mid mid new k j shown made (v ∷ []) [] [] = record {
+      there = there ∙ ap Some same;
+      plainly = λ b e. cc;
+      front = no_statements_add s old [];
+      mid = one_term s old mid a v h;
+      back = no_statements_add s mid [];
+      values_are = refl;
+      parts_are = refl;
+      form = λ ts e fits. refl;
+      place = refl;
+      pushed = items;
+      number = number;
+      rest = rest;
+    } in
+    statement_made s old old mid mid new k j shown made (v ∷ []) [] [] built
 
 -- ---- and one that does
 

@@ -108,6 +108,14 @@ no_terms_add s a = record {
   is = none_passed s a;
 }
 
+-- one expression
+pub one_term : (s : Source) (a b : Made) (k j : ℕ) →
+    AddsTerms s a b (λ names. hidden_in names (written_term s k)) (IsPassed s a b (written_term s k) j) →
+    AddsTerms s a b (λ names. hidden_in_each names (map (written_term s) (k ∷ [])))
+    (ArePassed s a b (map (written_term s) (k ∷ [])) (j ∷ []))
+one_term s a b k j h =
+    terms_turn s a a b (k ∷ []) 0 k [] (j ∷ []) j (omega arith) refl (no_terms_add s a) h refl
+
 -- ---- arguments
 
 pub none_counted : (s : Source) (n : ℕ) (p : Pos) → AreCounted s n p [] n

@@ -152,10 +152,15 @@ pub(crate) fn expression(source: &Source<'_>, k: u32, out: &mut Made) -> Result<
         (IsPassed source.now out.old out.new (written_term source.now k) j)) }
 {
     let e = source.expr(k);
-    let ks = operands(source.alloc, &e.kind)?;
     match &e.kind {
         ExprKind::Call(f, xs) => call(source, e, *f, xs.as_slice(), out),
+        ExprKind::Load(a) => {
+            let place = expression(source, *a, out)?;
+            let of = source.types.number(e.of);
+            out.push_expr(ExprKind::Load(place), of, e.pos)
+        }
         _ => {
+            let ks = operands(source.alloc, &e.kind)?;
             let js = expressions(source, ks.as_slice(), out)?;
             let kind = kind_with(source, &e.kind, js.as_slice())?;
             let of = source.types.number(e.of);

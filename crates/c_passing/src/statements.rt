@@ -124,6 +124,10 @@ pub(crate) fn statement(source: &Source<'_>, k: u32, out: &mut Made) -> Result<u
         (IsPassedAction source.now out.old out.new (written_action source.now k) j)) }
 {
     let s = source.stmt(k);
+    if let StmtKind::Expr(a) = &s.kind {
+        let value = expression(source, *a, out)?;
+        return out.push_stmt(StmtKind::Expr(value), s.pos);
+    }
     match returned(source, &s.kind) {
         Some((a, t)) => {
             let value = expression(source, a, out)?;

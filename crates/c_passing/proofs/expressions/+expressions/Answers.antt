@@ -1,19 +1,20 @@
-use Rattle.std.proofs.Common.{◌≡◌, suc, ◌+◌, ◌<◌, ◌≤◌, ◌∷◌, [], ◌++◌, length, get_or, map, refl, sym, ap, subst, ◌∙◌}
+use Rattle.std.proofs.Common.{◌≡◌, false, suc, ◌+◌, ◌<◌, ◌≤◌, ◌∷◌, [], ◌++◌, length, get_or, map, refl, sym, ap, subst, ◌∙◌}
 use Rattle.std.proofs.Common.{arith}
 use Rattle.std.proofs.lemmas.List.{length-map, take_all}
 use Rattle.c_tree.specs.declared.typed.Expr.{Expr}
+use Rattle.c_tree.specs.declared.typed.ExprKind.TheVariants as exprs
 use Rattle.c_tree.specs.Views.{types_of, operands}
 use Rattle.c_tree.specs.Passed.{hidden_in}
-use Rattle.c_copy.specs.Copying.{AllBelow}
+use Rattle.c_copy.specs.Copying.{AllBelow, expr_shape}
 use Rattle.c_copy.proofs.Copies.{pushed}
 use Rattle.c_passing.specs.Lists.{hidden_in_each}
 use Rattle.c_passing.specs.Passes.{written_term, AddsTerms, IsKindPassed, IsPassed, ArePassed, ArePassedArguments}
 use Rattle.c_passing.specs.Passes.{IsPlainCall, IsCallByResult}
-use Rattle.c_passing.proofs.Each.{terms_turn, no_terms_add, none_counted, no_arguments_add, Arguments, arguments_at}
+use Rattle.c_passing.proofs.Each.{terms_turn, no_terms_add, one_term, none_counted, no_arguments_add, Arguments, arguments_at}
 use Rattle.c_passing.proofs.Each.{arguments_plainly, arguments_by_address}
 use Rattle.c_passing.proofs.Least.{least_above, least_is, item_below}
 use Rattle.c_passing.proofs.Numbering.{if_ok}
-use Rattle.c_passing.proofs.Passing.{shape_calls, expression_passed, plain_call_passed, result_call_passed}
+use Rattle.c_passing.proofs.Passing.{calls, shape_calls, load_kept, expression_passed, plain_call_passed, result_call_passed}
 use Rattle.c_passing.proofs.Passing.{written_call_is, plain_call_made, result_call_made}
 use Rattle.c_passing.proofs.Within.{term_within, operands_within, operands_below, kind_within}
 use Rattle.c_passing.proofs.expressions.+expressions.Goals as goal
@@ -159,8 +160,8 @@ expression-returns-in-Call t c =
     (IsPassed s c.args.out.now c.call.new.out x j)) (sym is) h)
     c.call.ensures
 
-pub expression-returns : goal.expression-returns
-expression-returns t c =
+pub expression-returns-in_ok-kind-in_default : goal.expression-returns-in_ok-kind-in_default
+expression-returns-in_ok-kind-in_default t c =
     let s = c.args.source.now in
     let e = c.expr-e.result.now in
     let k = c.args.k in
@@ -168,21 +169,57 @@ expression-returns t c =
     let mid = c.expressions.new.out in
     let js = c.in_ok-js-in_default.js.items in
     let too : c.as_slice-in_default.result.now ≡ operands e.kind =
-    c.as_slice-in_default.ensures.value ∙ c.in_ok-ks.ensures in
+    c.as_slice-in_default.ensures.value ∙ c.in_ok-ks-in_default.ensures in
     let below = operands_below s k e c.requires c.expr-e.ensures in
     let calls = shape_calls (types_of s.program.now.types) e.kind c.in_default.not-Call in
     let passed : AddsTerms s old mid (λ names. hidden_in_each names (map (written_term s) (operands e.kind)))
     (ArePassed s old mid (map (written_term s) (operands e.kind)) js) =
     subst (λ zs. AddsTerms s old mid (λ names. hidden_in_each names (map (written_term s) zs))
     (ArePassed s old mid (map (written_term s) zs) js)) too c.in_ok-js-in_default.ensures in
-    let d : Expr = record { kind = c.in_ok-kind-in_default.kind; of = c.number-of.result; pos = e.pos } in
+    let d : Expr = record { kind = c.in_ok-kind-in_default.kind; of = c.number-of-in_default.result; pos = e.pos } in
     let kind : IsKindPassed s e.kind js d.kind =
     subst (λ zs. IsKindPassed s e.kind zs d.kind) c.as_slice-in_default-2.ensures.value
     c.in_ok-kind-in_default.ensures in
+    pushed c.push_expr-in_default.result _ _ _
+    (on_both c.push_expr-in_default.result _ _ c.push_expr-in_default.ensures.exprs c.push_expr-in_default.ensures.rest) c.push_expr-in_default.ensures.number
+    (λ x. expression_passed s old mid c.push_expr-in_default.new.self k e d js _ c.expr-e.ensures below calls passed kind
+    c.number-of-in_default.ensures refl x.0 x.1 refl)
+
+pub expression-returns-in_ok-place-in-Load : goal.expression-returns-in_ok-place-in-Load
+expression-returns-in_ok-place-in-Load t c =
+    let s = c.args.source.now in
+    let e = c.expr-e.result.now in
+    let k = c.args.k in
+    let a = c.in-Load.a in
+    let old = c.args.out.now in
+    let mid = c.expression.new.out in
+    let place = c.in_ok-place-in-Load.place in
+    let are : a ∷ [] ≡ operands e.kind = rw c.in-Load.is refl in
+    let below = operands_below s k e c.requires c.expr-e.ensures in
+    let other : calls (expr_shape (types_of s.program.now.types) e.kind) ≡ false = rw c.in-Load.is refl in
+    let passed : AddsTerms s old mid (λ names. hidden_in_each names (map (written_term s) (operands e.kind)))
+    (ArePassed s old mid (map (written_term s) (operands e.kind)) (place ∷ [])) =
+    subst (λ zs. AddsTerms s old mid (λ names. hidden_in_each names (map (written_term s) zs))
+    (ArePassed s old mid (map (written_term s) zs) (place ∷ []))) are
+    (one_term s old mid a place c.in_ok-place-in-Load.ensures) in
+    let d : Expr = record { kind = exprs.Load place; of = c.number-of.result; pos = e.pos } in
+    let kind : IsKindPassed s e.kind (place ∷ []) d.kind = rw c.in-Load.is (load_kept s a place) in
     pushed c.push_expr.result _ _ _
     (on_both c.push_expr.result _ _ c.push_expr.ensures.exprs c.push_expr.ensures.rest) c.push_expr.ensures.number
-    (λ x. expression_passed s old mid c.push_expr.new.self k e d js _ c.expr-e.ensures below calls passed kind
-    c.number-of.ensures refl x.0 x.1 refl)
+    (λ x. expression_passed s old mid c.push_expr.new.self k e d (place ∷ []) _ c.expr-e.ensures below other passed
+    kind c.number-of.ensures refl x.0 x.1 refl)
+
+pub expression-expression-requires : goal.expression-expression-requires
+expression-expression-requires t c =
+    let s = c.args.source.now in
+    let k = c.args.k in
+    let e = c.expr-e.result.now in
+    let a = c.in-Load.a in
+    let are : a ∷ [] ≡ operands e.kind = rw c.in-Load.is refl in
+    let h : least_above (a ∷ []) ≤ k =
+    least_is k (a ∷ []) (subst (AllBelow k) (sym are) (operands_below s k e c.requires c.expr-e.ensures)) in
+    let i : a < least_above (a ∷ []) = item_below (a ∷ []) 0 (omega arith) in
+    (omega (arith, h, i), operands_within s k e (a ∷ []) c.requires c.expr-e.ensures are 0 a refl)
 
 pub expressions-loop-k-init : goal.expressions-loop-k-init
 expressions-loop-k-init t c = rw (c.new-js.ensures.items) (no_terms_add c.args.source.now c.args.out.now)
@@ -209,7 +246,7 @@ pub expression-kind_with-requires-clause-count : goal.expression-kind_with-requi
 expression-kind_with-requires-clause-count t c =
     ap length c.as_slice-in_default-2.ensures.value ∙ c.in_ok-js-in_default.ensures.is.count
     ∙ length-map c.as_slice-in_default.result.now (written_term c.args.source.now)
-    ∙ ap length (c.as_slice-in_default.ensures.value ∙ c.in_ok-ks.ensures)
+    ∙ ap length (c.as_slice-in_default.ensures.value ∙ c.in_ok-ks-in_default.ensures)
 
 pub expression-kind_with-requires-clause-within : goal.expression-kind_with-requires-clause-within
 expression-kind_with-requires-clause-within t c =
@@ -241,7 +278,7 @@ expression-expressions-requires t c =
     let k = c.args.k in
     let e = c.expr-e.result.now in
     let are : c.as_slice-in_default.result.now ≡ operands e.kind =
-    c.as_slice-in_default.ensures.value ∙ c.in_ok-ks.ensures in
+    c.as_slice-in_default.ensures.value ∙ c.in_ok-ks-in_default.ensures in
     let h : least_above c.as_slice-in_default.result.now ≤ k =
     least_is k _ (subst (AllBelow k) (sym are) (operands_below s k e c.requires c.expr-e.ensures)) in
     (omega arith, operands_within s k e _ c.requires c.expr-e.ensures are)

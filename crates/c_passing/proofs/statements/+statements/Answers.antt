@@ -13,7 +13,7 @@ use Rattle.c_passing.specs.Passes.{written_term, written_before, FormWithin, Act
 use Rattle.c_passing.specs.Passes.{ActionsWithin, AddsTerms, AddsActions, IsReturned, ArePassed, IsPassedAction}
 use Rattle.c_passing.specs.Passes.{ArePassedActions}
 use Rattle.c_passing.proofs.Building.{Built, statement_made, returned_made, written_before_is, written_past}
-use Rattle.c_passing.proofs.Building.{empty_made}
+use Rattle.c_passing.proofs.Building.{empty_made, expression_made}
 use Rattle.c_passing.proofs.Each.{statements_turn, no_statements_add}
 use Rattle.c_passing.proofs.Least.{count_both}
 use Rattle.c_passing.proofs.Numbering.{if_ok}
@@ -25,19 +25,19 @@ use Rattle.passing_steps.proofs.Counting.{at_index}
 pub statement-returns-in_ok-value-in-Some : goal.statement-returns-in_ok-value-in-Some
 statement-returns-in_ok-value-in-Some t c =
     if_ok c.give_back.result _ _
-    (λ j h. returned_made c.args.source.now c.args.out.now c.expression.new.out c.give_back.new.out c.args.k c.in-Some.a
+    (λ j h. returned_made c.args.source.now c.args.out.now c.expression-in-Some.new.out c.give_back.new.out c.args.k c.in-Some.a
     c.in-Some.t c.in_ok-value-in-Some.value j c.stmt-s.result.now c.stmt-s.ensures c.in-Some.ensures
     c.in_ok-value-in-Some.ensures h)
     c.give_back.ensures
 
 -- the steps of a statement that gives nothing back by a pointer
 built : (t : ℕ) (c : goal.statement-After-drop-ks-in-None t) (j : ℕ) →
-    c.push_stmt.new.self.stmts.items ≡ c.statements-in-None.new.out.stmts.items
+    c.push_stmt-in-None.new.self.stmts.items ≡ c.statements-in-None.new.out.stmts.items
     ++ record { kind = c.in_ok-kind-in-None-2.kind; pos = c.stmt-s.result.now.pos } ∷ [] →
-    c.push_stmt.new.self ≡ record c.statements-in-None.new.out { stmts = c.push_stmt.new.self.stmts } →
+    c.push_stmt-in-None.new.self ≡ record c.statements-in-None.new.out { stmts = c.push_stmt-in-None.new.self.stmts } →
     j ≡ length c.statements-in-None.new.out.stmts.items →
     Built c.args.source.now c.args.out.now c.statements.new.out c.expressions.new.out c.statements-in-None.new.out
-    c.push_stmt.new.self c.args.k j c.stmt-s.result.now
+    c.push_stmt-in-None.new.self c.args.k j c.stmt-s.result.now
     (record { kind = c.in_ok-kind-in-None-2.kind; pos = c.stmt-s.result.now.pos })
     c.in_ok-vs-in-None.vs.items c.statements.new.js.items c.statements-in-None.new.js.items
 built t c j items rest n =
@@ -85,9 +85,22 @@ built t c j items rest n =
 
 pub statement-returns-in_ok-kind-in-None-2 : goal.statement-returns-in_ok-kind-in-None-2
 statement-returns-in_ok-kind-in-None-2 t c =
-    pushed c.push_stmt.result _ _ _ (on_both c.push_stmt.result _ _ c.push_stmt.ensures.stmts c.push_stmt.ensures.rest)
-    c.push_stmt.ensures.number
+    pushed c.push_stmt-in-None.result _ _ _ (on_both c.push_stmt-in-None.result _ _ c.push_stmt-in-None.ensures.stmts c.push_stmt-in-None.ensures.rest)
+    c.push_stmt-in-None.ensures.number
     (λ x. statement_made _ _ _ _ _ _ _ _ _ _ _ _ _ (built t c _ x.0 x.1 refl))
+
+pub statement-returns-in-Expr : goal.statement-returns-in-Expr
+statement-returns-in-Expr t c =
+    pushed c.push_stmt.result _ _ _
+    (on_both c.push_stmt.result _ _ c.push_stmt.ensures.stmts c.push_stmt.ensures.rest) c.push_stmt.ensures.number
+    (λ x. expression_made c.args.source.now c.args.out.now c.expression.new.out c.push_stmt.new.self c.args.k
+    c.in-Expr.a c.in_ok-value.value _ c.stmt-s.result.now c.stmt-s.ensures c.in-Expr.is c.in_ok-value.ensures
+    x.0 x.1 refl)
+
+pub statement-expression-requires : goal.statement-expression-requires
+statement-expression-requires t c =
+    values_within c.args.source.now c.args.k c.stmt-s.result.now (c.in-Expr.a ∷ []) c.requires c.stmt-s.ensures
+    (rw c.in-Expr.is refl) 0 c.in-Expr.a refl
 
 pub statements-loop-k-init : goal.statements-loop-k-init
 statements-loop-k-init t c = no_statements_add c.args.source.now c.args.out.now c.args.js.now.items
@@ -118,8 +131,8 @@ statement-returned-requires t c =
     let s = c.args.source.now in
     terms_there s _ (values_within s c.args.k c.stmt-s.result.now _ c.requires c.stmt-s.ensures refl)
 
-pub statement-expression-requires : goal.statement-expression-requires
-statement-expression-requires t c =
+pub statement-expression-requires-in-Some : goal.statement-expression-requires-in-Some
+statement-expression-requires-in-Some t c =
     let s = c.args.source.now in
     let d = c.stmt-s.result.now in
     let r : IsReturned s d.kind (Some (c.in-Some.a, c.in-Some.t)) = c.in-Some.ensures in
