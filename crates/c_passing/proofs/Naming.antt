@@ -1,9 +1,8 @@
 -- The names of calls, as they are gathered.
 use Rattle.std.proofs.Common.{◌≡◌, ℕ, Bool, true, false, cond, eqb, List, [], ◌∷◌, ◌++◌, Option, Some, None, refl}
-use Rattle.std.proofs.Common.{sym, ap, subst, ◌∙◌, append_assoc, Bor}
+use Rattle.std.proofs.Common.{sym, ap, subst, ◌∙◌, append_assoc}
 use Rattle.std.specs.Prelude.{◌&&◌, slice_get}
 use Rattle.std.specs.Map.{lookup}
-use Rattle.std.specs.Option.{is_some, option_copied}
 use Rattle.std.proofs.lemmas.Bool.{eqb-true}
 use Rattle.std.proofs.lemmas.List.{append-nil}
 use Rattle.ck_base.specs.declared.positions.Pos.{Pos}
@@ -68,16 +67,6 @@ same_pos p q e = by (eqb p.line q.line) (eqb p.col q.col) refl refl e
 
 -- ---- one name more
 
--- what was found under a key
-pub found_none : (o : Option (Bor Span)) (p : Option Span) → option_copied o ≡ p → is_some o ≡ false → p ≡ None
-found_none None p e h = sym e
-found_none (Some s) p e h = absurd cc
-
-pub found_some : (o : Option (Bor Span)) (p : Option Span) → option_copied o ≡ p → is_some o ≡ true →
-    (s : Span) × (p ≡ Some s)
-found_some None p e h = absurd cc
-found_some (Some s) p e h = (s.now, sym e)
-
 -- where a name is known at its place, one more call changes nothing
 pub name_known : (m : Names) (p : Pos) (s name : Span) → known_at m p ≡ Some s → AddsName m m p name
 name_known m p s name e = λ ts t q r k. record {
@@ -92,6 +81,31 @@ name_known m p s name e = λ ts t q r k. record {
         ∙ kept s (first_at (t ∷ []) x) ∙ sym (h e))
     by ts t x s false e h = sym (first-append ts (t ∷ []) x
         ∙ ap (λ b. or_else (first_at ts x) (cond b (Some t.span) None)) e ∙ alone (first_at ts x))
+
+-- a name that takes the place of the first one, which is put back
+put_back : (old mid new : Names) (p : Pos) (name s : Span) → known_at old p ≡ Some s →
+    ((q : ℕ × ℕ) → lookup (same_pair q) mid.known.entries
+    ≡ cond (same_pair (p.line, p.col) q) (Some name) (lookup (same_pair q) old.known.entries)) →
+    ((q : ℕ × ℕ) → lookup (same_pair q) new.known.entries
+    ≡ cond (same_pair (p.line, p.col) q) (Some s) (lookup (same_pair q) mid.known.entries)) →
+    (q : Pos) → known_at new q ≡ known_at old q
+put_back old mid new p name s e u v q = v (q.line, q.col) ∙ by_place (same_place p q) refl
+  where
+    by_place : (b : Bool) → same_place p q ≡ b → cond (same_place p q) (Some s) (known_at mid q) ≡ known_at old q
+    by_place true h = ap (λ b. cond b (Some s) (known_at mid q)) h ∙ sym e ∙ ap (known_at old) (same_pos p q h)
+    by_place false h =
+        ap (λ b. cond b (Some s) (known_at mid q)) h ∙ u (q.line, q.col)
+        ∙ ap (λ b. cond b (Some name) (known_at old q)) h
+
+pub name_kept : (old mid new : Names) (p : Pos) (name s : Span) → known_at old p ≡ Some s →
+    ((q : ℕ × ℕ) → lookup (same_pair q) mid.known.entries
+    ≡ cond (same_pair (p.line, p.col) q) (Some name) (lookup (same_pair q) old.known.entries)) →
+    ((q : ℕ × ℕ) → lookup (same_pair q) new.known.entries
+    ≡ cond (same_pair (p.line, p.col) q) (Some s) (lookup (same_pair q) mid.known.entries)) →
+    AddsName old new p name
+name_kept old mid new p name s e u v = λ ts t q r k.
+    let h = name_known old p s name e ts t q r k in
+    record { are = λ x. put_back old mid new p name s e u v x ∙ h.are x }
 
 -- where none is known at its place, the name is that of the new call
 pub name_added : (old new : Names) (p : Pos) (name : Span) → known_at old p ≡ None →

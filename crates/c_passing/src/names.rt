@@ -36,8 +36,8 @@ fn add(names: &mut Names, pos: Pos, name: Span) -> Result<(), NoMemory>
     ensures { OnOk result (AddsName names.old names.new pos name) }
 {
     let key = (pos.line, pos.col);
-    if names.known.get(&key).is_none() {
-        names.known.insert(key, name)?;
+    if let Some(first) = names.known.insert(key, name)? {
+        names.known.insert(key, first)?;
     }
     Ok(())
 }
@@ -65,13 +65,21 @@ fn gather(names: &mut Names, tree: &Tree, k: u32, levels: usize) -> Result<(), N
     Ok(())
 }
 
+fn count_calls(tree: &Tree) -> usize {
+    tree.nodes
+        .as_slice()
+        .iter()
+        .filter(|node| is_call(node.kind))
+        .count()
+}
+
 /// The names of the calls in a file.
 pub(crate) fn names_of(alloc: Global, tree: &Tree) -> Result<Names, NoMemory>
     requires { HasSyntax tree.now }
     ensures { IfOk result (λ m. (x : Syn) → StandsAt tree.now.nodes tree.now.root x → Knows m (calls_in x)) }
 {
     let mut names = Names {
-        known: IndexMap::new(alloc),
+        known: IndexMap::with_capacity(alloc, count_calls(tree))?,
     };
     gather(&mut names, tree, tree.root, tree.nodes.as_slice().len())?;
     Ok(names)

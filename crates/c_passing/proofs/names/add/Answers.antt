@@ -1,13 +1,12 @@
-use Rattle.c_passing.proofs.Naming.{name_known, name_added, found_none, found_some}
+use Rattle.std.proofs.Common.{sym, ◌∙◌}
+use Rattle.c_passing.proofs.Naming.{name_kept, name_added}
 use Rattle.c_passing.proofs.names.add.Goals as goal
-use Rattle.passing_steps.specs.Named.{known_at}
+
+pub returns-in_default : goal.returns-in_default
+returns-in_default c = name_added c.args.names.now _ c.args.pos c.args.name
+    (sym c.in_ok-first.ensures.old ∙ c.in_default.is) c.in_ok-first.ensures.updates.0
 
 pub returns-in_ok-insert : goal.returns-in_ok-insert
-returns-in_ok-insert c = name_added c.args.names.now _ c.args.pos c.args.name
-    (found_none c.get.result (known_at c.args.names.now c.args.pos) c.get.ensures.value c.if-is_none.ensures)
-    c.in_ok-insert.ensures.updates.0
-
-pub returns-else-is_none : goal.returns-else-is_none
-returns-else-is_none c =
-    let f = found_some c.get.result (known_at c.args.names.now c.args.pos) c.get.ensures.value c.if-is_none.ensures in
-    name_known c.args.names.now c.args.pos f.0 c.args.name f.1
+returns-in_ok-insert c =
+    name_kept c.args.names.now (record { known = c.insert.new.self }) _ c.args.pos c.args.name c.in-Some.first
+    (sym c.in_ok-first.ensures.old ∙ c.in-Some.is) c.in_ok-first.ensures.updates.0 c.in_ok-insert.ensures.updates.0
