@@ -1,12 +1,10 @@
 -- The names of calls, as they are gathered.
-use Rattle.std.proofs.Common.{◌≡◌, ℕ, Bool, true, false, cond, eqb, List, [], ◌∷◌, ◌++◌, Option, Some, None, refl}
-use Rattle.std.proofs.Common.{sym, ap, subst, ◌∙◌, append_assoc}
-use Rattle.std.specs.Prelude.{◌&&◌, slice_get}
-use Rattle.std.specs.Map.{lookup}
-use Rattle.std.proofs.lemmas.Bool.{eqb-true}
+use Rattle.std.proofs.Common.{◌≡◌, ℕ, Bool, true, false, cond, List, [], ◌∷◌, ◌++◌, Some, None, refl, sym, ap}
+use Rattle.std.proofs.Common.{subst, ◌∙◌, append_assoc}
+use Rattle.std.specs.Prelude.{slice_get}
+use Rattle.std.specs.Option.{option_or}
 use Rattle.std.proofs.lemmas.List.{append-nil}
 use Rattle.ck_base.specs.declared.positions.Pos.{Pos}
-use Rattle.ck_base.specs.declared.positions.Span.{Span}
 use Rattle.ck_base.specs.Tokens.{Lexeme}
 use Rattle.c_tree.specs.declared.syntax.Node.{Node}
 use Rattle.c_tree.specs.declared.syntax.NodeKind.{NodeKind}
@@ -15,31 +13,17 @@ use Rattle.c_tree.specs.declared.syntax.Tree.{Tree}
 use Rattle.c_tree.specs.Syntax.{Syn, Syns, node, nil, more, joined, StandsAt, StandAt, stands, none, next}
 use Rattle.c_tree.specs.Passed.{same_place, calls_in, all_calls_in, call_name}
 use Rattle.passing_steps.specs.Names.{Names}
-use Rattle.c_passing.specs.Named.{first_at, Knows, AddsName, own_calls, AddsCall, Gathers}
-use Rattle.passing_steps.specs.Named.{same_pair, known_at, name_or, name_in}
+use Rattle.c_passing.specs.Named.{first_at, Knows, own_calls, AddsCall, Gathers}
+use Rattle.passing_steps.specs.Named.{known_at, AddsName, name_or, name_in}
 
 -- ---- the first call at a place
 
-abbrev or_else : Option Span → Option Span → Option Span
-or_else (Some s) o = Some s
-or_else None o = o
-
-kept : (s : Span) (o : Option Span) → or_else (Some s) o ≡ Some s
-kept s o = refl
-
-alone : (o : Option Span) → or_else o None ≡ o
-alone None = refl
-alone (Some s) = refl
-
-second : (o : Option Span) → or_else None o ≡ o
-second o = refl
-
-first-append : (ts us : List Lexeme) (p : Pos) → first_at (ts ++ us) p ≡ or_else (first_at ts p) (first_at us p)
+first-append : (ts us : List Lexeme) (p : Pos) → first_at (ts ++ us) p ≡ option_or (first_at ts p) (first_at us p)
 first-append [] us p = refl
 first-append (t ∷ ts) us p = by (same_place t.pos p) (first-append ts us p)
   where
-    by : (b : Bool) → first_at (ts ++ us) p ≡ or_else (first_at ts p) (first_at us p) →
-        cond b (Some t.span) (first_at (ts ++ us) p) ≡ or_else (cond b (Some t.span) (first_at ts p)) (first_at us p)
+    by : (b : Bool) → first_at (ts ++ us) p ≡ option_or (first_at ts p) (first_at us p) →
+        cond b (Some t.span) (first_at (ts ++ us) p) ≡ option_or (cond b (Some t.span) (first_at ts p)) (first_at us p)
     by true h = refl
     by false h = h
 
@@ -56,86 +40,16 @@ first_named (t ∷ ts) p = by (same_place t.pos p) (first_named ts p)
 pub named_by : (m : Names) (ts : List Lexeme) → Knows m ts → (p : Pos) → call_name ts p ≡ name_in m p
 named_by m ts k p = sym (ap name_or (k.are p) ∙ first_named ts p)
 
-same_pos : (p q : Pos) → same_place p q ≡ true → p ≡ q
-same_pos p q e = by (eqb p.line q.line) (eqb p.col q.col) refl refl e
-  where
-    by : (a b : Bool) → eqb p.line q.line ≡ a → eqb p.col q.col ≡ b → (a && b) ≡ true → p ≡ q
-    by true true i j h = ap (λ k. record p { line = k }) (eqb-true p.line q.line i)
-        ∙ ap (λ k. record q { col = k }) (eqb-true p.col q.col j)
-    by true false i j h = absurd cc
-    by false b i j h = absurd cc
-
--- ---- one name more
-
--- where a name is known at its place, one more call changes nothing
-pub name_known : (m : Names) (p : Pos) (s name : Span) → known_at m p ≡ Some s → AddsName m m p name
-name_known m p s name e = λ ts t q r k. record {
-  are = λ x.
-      let first : first_at ts p ≡ Some s = sym (k.are p) ∙ e in
-      k.are x ∙ by ts t x s (same_place t.pos x) refl (λ h. ap (first_at ts) (sym (same_pos t.pos x h) ∙ q) ∙ first);
+-- one call more is known
+pub call_added : (old new : Names) (n : Node) → ((t : Lexeme) → own_calls n.kind t ≡ t ∷ []) →
+    AddsName old new n.pos n.text → AddsCall old new n
+call_added old new n is a = λ ts t q r k. record {
+  are = λ p.
+      a.are p ∙ ap (λ o. option_or o (cond (same_place n.pos p) (Some n.text) None)) (k.are p)
+      ∙ ap (λ (x : Pos). option_or (first_at ts p) (cond (same_place x p) (Some n.text) None)) (sym q)
+      ∙ ap (λ s. option_or (first_at ts p) (cond (same_place t.pos p) (Some s) None)) (sym r)
+      ∙ sym (first-append ts (t ∷ []) p) ∙ ap (λ us. first_at (ts ++ us) p) (sym (is t));
 }
-  where
-    by : (ts : List Lexeme) (t : Lexeme) (x : Pos) (s : Span) (b : Bool) → same_place t.pos x ≡ b →
-        (same_place t.pos x ≡ true → first_at ts x ≡ Some s) → first_at ts x ≡ first_at (ts ++ t ∷ []) x
-    by ts t x s true e h = sym (first-append ts (t ∷ []) x ∙ ap (λ o. or_else o (first_at (t ∷ []) x)) (h e)
-        ∙ kept s (first_at (t ∷ []) x) ∙ sym (h e))
-    by ts t x s false e h = sym (first-append ts (t ∷ []) x
-        ∙ ap (λ b. or_else (first_at ts x) (cond b (Some t.span) None)) e ∙ alone (first_at ts x))
-
--- a name that takes the place of the first one, which is put back
-put_back : (old mid new : Names) (p : Pos) (name s : Span) → known_at old p ≡ Some s →
-    ((q : ℕ × ℕ) → lookup (same_pair q) mid.known.entries
-    ≡ cond (same_pair (p.line, p.col) q) (Some name) (lookup (same_pair q) old.known.entries)) →
-    ((q : ℕ × ℕ) → lookup (same_pair q) new.known.entries
-    ≡ cond (same_pair (p.line, p.col) q) (Some s) (lookup (same_pair q) mid.known.entries)) →
-    (q : Pos) → known_at new q ≡ known_at old q
-put_back old mid new p name s e u v q = v (q.line, q.col) ∙ by_place (same_place p q) refl
-  where
-    by_place : (b : Bool) → same_place p q ≡ b → cond (same_place p q) (Some s) (known_at mid q) ≡ known_at old q
-    by_place true h = ap (λ b. cond b (Some s) (known_at mid q)) h ∙ sym e ∙ ap (known_at old) (same_pos p q h)
-    by_place false h =
-        ap (λ b. cond b (Some s) (known_at mid q)) h ∙ u (q.line, q.col)
-        ∙ ap (λ b. cond b (Some name) (known_at old q)) h
-
-pub name_kept : (old mid new : Names) (p : Pos) (name s : Span) → known_at old p ≡ Some s →
-    ((q : ℕ × ℕ) → lookup (same_pair q) mid.known.entries
-    ≡ cond (same_pair (p.line, p.col) q) (Some name) (lookup (same_pair q) old.known.entries)) →
-    ((q : ℕ × ℕ) → lookup (same_pair q) new.known.entries
-    ≡ cond (same_pair (p.line, p.col) q) (Some s) (lookup (same_pair q) mid.known.entries)) →
-    AddsName old new p name
-name_kept old mid new p name s e u v = λ ts t q r k.
-    let h = name_known old p s name e ts t q r k in
-    record { are = λ x. put_back old mid new p name s e u v x ∙ h.are x }
-
--- where none is known at its place, the name is that of the new call
-pub name_added : (old new : Names) (p : Pos) (name : Span) → known_at old p ≡ None →
-    ((q : ℕ × ℕ) → lookup (same_pair q) new.known.entries
-    ≡ cond (same_pair (p.line, p.col) q) (Some name) (lookup (same_pair q) old.known.entries)) →
-    AddsName old new p name
-name_added old new p name n u = λ ts t q r k. record {
-  are = λ x.
-      let none : first_at ts p ≡ None = sym (k.are p) ∙ n in
-      u (x.line, x.col)
-      ∙ ap (λ (y : Pos). cond (same_place y x) (Some name) (known_at old x)) (sym q)
-      ∙ ap (λ s. cond (same_place t.pos x) (Some s) (known_at old x)) (sym r)
-      ∙ by ts t x (known_at old x) (k.are x) (same_place t.pos x) refl
-      (λ h. ap (first_at ts) (sym (same_pos t.pos x h) ∙ q) ∙ none);
-}
-  where
-    by : (ts : List Lexeme) (t : Lexeme) (x : Pos) (o : Option Span) → o ≡ first_at ts x → (b : Bool) →
-        same_place t.pos x ≡ b → (same_place t.pos x ≡ true → first_at ts x ≡ None) →
-        cond (same_place t.pos x) (Some t.span) o ≡ first_at (ts ++ t ∷ []) x
-    by ts t x o k true e h =
-        ap (λ b. cond b (Some t.span) o) e
-        ∙ sym (first-append ts (t ∷ []) x ∙ ap (λ y. or_else y (cond (same_place t.pos x) (Some t.span) None)) (h e)
-        ∙ ap (λ b. or_else None (cond b (Some t.span) None)) e ∙ second (Some t.span))
-    by ts t x o k false e h =
-        ap (λ b. cond b (Some t.span) o) e ∙ k
-        ∙ sym (first-append ts (t ∷ []) x ∙ ap (λ b. or_else (first_at ts x) (cond b (Some t.span) None)) e
-        ∙ alone (first_at ts x))
-
-abbrev pub own_calls_is : NodeKind → Bool → Type 0
-own_calls_is k b = (t : Lexeme) → own_calls k t ≡ cond b (t ∷ []) []
 
 -- ---- the calls of a tree
 
@@ -205,6 +119,6 @@ node_gathered tree old mid new n k e a g = λ x ts st know.
     ∙ ap (λ zs. ts ++ zs) (sym (ap calls_in o.2 ∙ calls-node n.kind o.0 o.1)) in
     subst (Knows new) all (g.are o.1 (ts ++ own) o.5 (a ts o.0 o.3 o.4 know))
 
-pub known_all : (tree : Tree) (old new : Names) → old.known.entries ≡ [] → Gathers tree old new tree.root → (x : Syn) →
-    StandsAt tree.nodes tree.root x → Knows new (calls_in x)
-known_all tree old new e g = λ x st. g x [] st (record { are = λ p. ap (lookup (same_pair (p.line, p.col))) e })
+pub known_all : (tree : Tree) (old new : Names) → ((p : Pos) → known_at old p ≡ None) →
+    Gathers tree old new tree.root → (x : Syn) → StandsAt tree.nodes tree.root x → Knows new (calls_in x)
+known_all tree old new e g = λ x st. g x [] st (record { are = e })

@@ -21,11 +21,6 @@ first_at (t ∷ ts) p = (if same_place t.pos p then Some t.span else first_at ts
 pub record Knows (m : Names) (ts : List Lexeme) : Type 0 where
   pub are : (p : Pos) → known_at m p ≡ first_at ts p
 
--- one more is known
-abbrev pub AddsName : Names → Names → Pos → Span → Type 0
-AddsName old new place name =
-    (ts : List Lexeme) (t : Lexeme) → t.pos ≡ place → t.span ≡ name → Knows old ts → Knows new (ts ++ t ∷ [])
-
 -- the call that a node is, if it is one
 abbrev pub own_calls : NodeKind → Lexeme → List Lexeme
 own_calls Kinds.Call t = t ∷ []

@@ -4,11 +4,10 @@ ghost use Rattle.std.specs.Prelude.{◌≡◌, ◌<◌, ◌∷◌, [], if◌then
 ghost use Rattle.ck_base.specs.Tokens.{Lexeme};
 ghost use Rattle.c_tree.specs.Syntax.{Syn, StandsAt};
 ghost use Rattle.c_tree.specs.Passed.{calls_in};
-ghost use Rattle.c_passing.specs.Named.{own_calls, Knows, AddsName, AddsCall, Gathers, HasSyntax, IsWithin};
+ghost use Rattle.c_passing.specs.Named.{own_calls, Knows, AddsCall, Gathers, HasSyntax, IsWithin};
 
 use c_tree::{Node, NodeKind, Tree};
-use ck_base::{NoMemory, Pos, Span};
-use indexmap::IndexMap;
+use ck_base::NoMemory;
 use passing_steps::Names;
 use std::alloc::Global;
 
@@ -31,23 +30,12 @@ fn is_call(kind: NodeKind) -> bool
     }
 }
 
-// The first name at a place counts.
-fn add(names: &mut Names, pos: Pos, name: Span) -> Result<(), NoMemory>
-    ensures { OnOk result (AddsName names.old names.new pos name) }
-{
-    let key = (pos.line, pos.col);
-    if let Some(first) = names.known.insert(key, name)? {
-        names.known.insert(key, first)?;
-    }
-    Ok(())
-}
-
 // The name of a node, if it is a call.
 fn add_call(names: &mut Names, node: &Node) -> Result<(), NoMemory>
     ensures { OnOk result (AddsCall names.old names.new node.now) }
 {
     if is_call(node.kind) {
-        add(names, node.pos, node.text)?;
+        names.add(node.pos, node.text)?;
     }
     Ok(())
 }
@@ -78,9 +66,7 @@ pub(crate) fn names_of(alloc: Global, tree: &Tree) -> Result<Names, NoMemory>
     requires { HasSyntax tree.now }
     ensures { IfOk result (λ m. (x : Syn) → StandsAt tree.now.nodes tree.now.root x → Knows m (calls_in x)) }
 {
-    let mut names = Names {
-        known: IndexMap::with_capacity(alloc, count_calls(tree))?,
-    };
+    let mut names = Names::with_capacity(alloc, count_calls(tree))?;
     gather(&mut names, tree, tree.root, tree.nodes.as_slice().len())?;
     Ok(names)
 }

@@ -1,5 +1,6 @@
 pub mod Calling
 pub mod Counting
+pub mod Naming
 pub mod Ordering
 pub mod Results
 pub mod Returning

@@ -1,4 +1,5 @@
 pub mod Named
 pub mod Numbered
 pub mod Ordered
+pub mod Places
 pub mod Steps

@@ -3,8 +3,8 @@
 //!
 //! Promise: what is made stands behind what was made before, and means what the passed program has in its place. Where
 //! memory or the numbers of 32 bits end it is `NoMemory`.
-//! Definitions (`specs/`): `Steps`, `Numbered` (the types), `Named` (the names of calls), `Ordered` (the numbers).
-//! Main lemmas (`proofs/`): `Calling`, `Returning`, `Ordering`.
+//! Definitions (`specs/`): `Steps`, `Numbered` (the types), `Named` (the names of calls) and `Places` (their order),
+//! `Ordered` (the numbers). Main lemmas (`proofs/`): `Calling`, `Returning`, `Ordering`, `Naming`.
 #![tactic(auto)]
 
 mod names;
