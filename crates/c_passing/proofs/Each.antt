@@ -5,17 +5,19 @@ use Rattle.std.specs.Prelude.{slice_get, flat_map}
 use Rattle.std.proofs.lemmas.List.{append-nil}
 use Rattle.ck_base.specs.declared.positions.Pos.{Pos}
 use Rattle.c_tree.specs.declared.typed.Expr.{Expr}
+use Rattle.c_tree.specs.declared.typed.ExprKind.{ExprKind}
 use Rattle.c_tree.specs.Types.{Ty, bare}
 use Rattle.c_tree.specs.Terms.{Variable, Term, type_of, Action}
 use Rattle.c_tree.specs.Passed.{Names, Passing, by_pointer, hidden_in, hidden_of, hidden_for, passed_term}
 use Rattle.c_tree.specs.Passed.{passed_action}
+use Rattle.c_tree.specs.Views.{operands}
 use Rattle.c_copy.specs.Copying.{Extends}
 use Rattle.c_copy.proofs.Copies.{extends_same, extends_then}
 use Rattle.passing_steps.specs.Source.{Source}
 use Rattle.passing_steps.specs.Made.{Made}
 use Rattle.c_passing.specs.Lists.{hidden_in_each, hidden_of_each, hidden_for_each, passed_each, passed_each_action}
 use Rattle.c_passing.specs.Lists.{passed_argument, passed_each_argument}
-use Rattle.c_passing.specs.Passes.{written_term, IsPassed, ArePassed, AddsTerms, AreCounted}
+use Rattle.c_passing.specs.Passes.{written_term, IsPassed, ArePassed, AddsTerms, AreCounted, IsKindPassed, IsMadeOf}
 use Rattle.c_passing.specs.Passes.{ArePassedArguments, AddsActions, IsPassedAction, ArePassedActions}
 use Rattle.c_passing.proofs.Calling.{written_of}
 use Rattle.c_passing.proofs.Hiding.{hidden_push, each_push, each_action_push, each_argument_push}
@@ -115,6 +117,31 @@ pub one_term : (s : Source) (a b : Made) (k j : ℕ) →
     (ArePassed s a b (map (written_term s) (k ∷ [])) (j ∷ []))
 one_term s a b k j h =
     terms_turn s a a b (k ∷ []) 0 k [] (j ∷ []) j (omega arith) refl (no_terms_add s a) h refl
+
+-- two expressions
+pub two_terms : (s : Source) (a b c : Made) (k l i j : ℕ) →
+    AddsTerms s a b (λ names. hidden_in names (written_term s k)) (IsPassed s a b (written_term s k) i) →
+    AddsTerms s b c (λ names. hidden_in names (written_term s l)) (IsPassed s b c (written_term s l) j) →
+    AddsTerms s a c (λ names. hidden_in_each names (map (written_term s) (k ∷ l ∷ [])))
+    (ArePassed s a c (map (written_term s) (k ∷ l ∷ [])) (i ∷ j ∷ []))
+two_terms s a b c k l i j h n =
+    terms_turn s a b c (k ∷ l ∷ []) 1 l (i ∷ []) (i ∷ j ∷ []) j (omega arith) refl (one_term s a b k i h) n refl
+
+-- a kind of expression with these operands
+pub made_of : (s : Source) (a b : Made) (k d : ExprKind) (ks js : List ℕ) → operands k ≡ ks →
+    AddsTerms s a b (λ names. hidden_in_each names (map (written_term s) ks))
+    (ArePassed s a b (map (written_term s) ks) js) → IsKindPassed s k js d →
+    AddsTerms s a b (λ names. hidden_in_each names (map (written_term s) (operands k))) (IsMadeOf s a b k d)
+made_of s a b k d ks js e h w = record {
+  extends = h.extends;
+  stmts = h.stmts;
+  hides = subst (λ zs. Hides s a b (λ names. hidden_in_each names (map (written_term s) zs))) (sym e) h.hides;
+  is = record {
+    made = subst (λ zs. ArePassed s a b (map (written_term s) (operands k)) zs) (sym w.operands)
+        (subst (λ zs. ArePassed s a b (map (written_term s) zs) js) (sym e) h.is);
+    kind = record { operands = refl; shape = w.shape };
+  };
+}
 
 -- ---- arguments
 

@@ -80,9 +80,6 @@ expression_hides s old mid new k e g b c h q =
     (map (written_term s) (operands e.kind)) (written_type s e.of) e.pos c)) h
 
 -- an expression that is no call, behind its operands
-pub load_kept : (s : Source) (a b : ℕ) → IsKindPassed s (exprs.Load a) (b ∷ []) (exprs.Load b)
-load_kept s a b = record { operands = refl; shape = λ ts e fits. refl }
-
 pub expression_passed : (s : Source) (old mid new : Made) (k : ℕ) (e d : Expr) (js : List ℕ) (j : ℕ) →
     slice_get s.program.now.exprs k ≡ Some e → AllBelow k (operands e.kind) →
     calls (expr_shape (types_of s.program.now.types) e.kind) ≡ false →

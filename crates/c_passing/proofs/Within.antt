@@ -1,7 +1,8 @@
 -- What expressions and statements name is there.
-use Rattle.std.proofs.Common.{◌≡◌, ℕ, zero, suc, ◌<◌, List, [], ◌∷◌, length, take, drop, Some, sym, ap, subst, ◌∙◌}
-use Rattle.std.proofs.Common.{arith}
+use Rattle.std.proofs.Common.{◌≡◌, ℕ, zero, suc, ◌<◌, List, [], ◌∷◌, length, get_or, take, drop, Some, sym, ap}
+use Rattle.std.proofs.Common.{subst, ◌∙◌, arith}
 use Rattle.std.specs.Prelude.{slice_get}
+use Rattle.std.proofs.lemmas.Option.{slice_get-get_or}
 use Rattle.c_tree.specs.declared.typed.Expr.{Expr}
 use Rattle.c_tree.specs.declared.typed.ExprKind.{ExprKind}
 use Rattle.c_tree.specs.declared.typed.ExprKind.TheVariants as exprs
@@ -16,6 +17,7 @@ use Rattle.passing_steps.specs.Source.{Source}
 use Rattle.c_passing.specs.Passes.{VarWithin, KindWithin, FormWithin, TermWithin, TermsWithin, ActionWithin}
 use Rattle.c_passing.specs.Passes.{ActionsWithin}
 use Rattle.c_passing.specs.Routines.{HasBody}
+use Rattle.c_passing.proofs.Least.{least_above, item_below}
 
 -- ---- items of lists
 
@@ -50,6 +52,15 @@ pub operands_below : (s : Source) (k : ℕ) (e : Expr) → TermWithin s k → sl
     AllBelow k (operands e.kind)
 operands_below s k e h g =
     λ j a q. (operand_stands (VarWithin (length s.numbers.now)) s.program.now.exprs k e h g j a q).0
+
+-- an operand that stands at a place
+pub operand_at : (s : Source) (k : ExprKind) (ks : List ℕ) (i a : ℕ) → operands k ≡ ks → i < length ks →
+    get_or ks i 0 ≡ a → TermsWithin s (operands k) → (a < least_above (operands k)) × TermWithin s a
+operand_at s k ks i a e l g h = (
+  subst (λ b. b < least_above (operands k)) g
+      (subst (λ zs. get_or ks i 0 < least_above zs) (sym e) (item_below ks i l)),
+  h i a (ap (λ zs. slice_get zs i) e ∙ slice_get-get_or ks i 0 l ∙ ap Some g),
+)
 
 var_within : (n : ℕ) (ts : List Ty) (k : ExprKind) → VarWithin n (expr_shape ts k) → KindWithin n k
 var_within n ts (exprs.Var k) h = h

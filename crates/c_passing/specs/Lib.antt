@@ -1,5 +1,6 @@
 pub mod Lists
 pub mod Named
 pub mod Numbered
+pub mod Operands
 pub mod Passes
 pub mod Routines

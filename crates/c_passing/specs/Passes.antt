@@ -95,6 +95,11 @@ pub record ArePassed (s : Source) (old new : Made) (xs : List Term) (js : List �
       HasTerms ts new.exprs.items js (passed_each e (length old.vars.items) xs)
   pub ordered : Takes s.types.now old new [] [] js []
 
+-- a kind of expression as it is run, whose operands are made before it
+pub record IsMadeOf (s : Source) (old new : Made) (k d : ExprKind) : Type 0 where
+  pub made : ArePassed s old new (map (written_term s) (operands k)) (operands d)
+  pub kind : IsKindPassed s k (operands d) d
+
 -- a written call
 abbrev pub written_call : Source → Expr → (f : ℕ) → List ℕ → Term
 written_call s e f xs = term tree.Call (with_term (written_term s f) (terms (map (written_term s) xs)))

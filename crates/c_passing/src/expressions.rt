@@ -8,10 +8,11 @@ ghost use Rattle.c_passing.specs.Lists.{hidden_in_each};
 ghost use Rattle.passing_steps.specs.Steps.{written_type};
 ghost use Rattle.c_passing.specs.Passes.{written_term, written_call, KindWithin, TermWithin, TermsWithin, AddsTerms};
 ghost use Rattle.c_passing.specs.Passes.{IsKindPassed, IsPassed, ArePassed, ArePassedArguments, IsPlainCall};
-ghost use Rattle.c_passing.specs.Passes.{IsCallByResult};
+ghost use Rattle.c_passing.specs.Passes.{IsCallByResult, IsMadeOf};
 
 use crate::calls::{by_result, hide_arguments};
 use crate::counts::after;
+use crate::operands::{Few, few_operands};
 use c_copy::{inner_with, operands, two};
 use c_tree::{Expr, ExprKind};
 use ck_base::{NoMemory, Pos, Sequence};
@@ -143,6 +144,34 @@ fn call(source: &Source<'_>, e: &Expr, f: u32, xs: &[u32], out: &mut Made) -> Re
     }
 }
 
+// A kind of expression that is no call as it is run, behind its operands.
+#[cycle(expressions)]
+fn made_of(source: &Source<'_>, kind: &ExprKind, out: &mut Made) -> Result<ExprKind, NoMemory>
+    requires within { KindWithin (length source.now.numbers.now) kind.now }
+    requires there { TermsWithin source.now (operands kind.now) }
+    ensures { IfOk result (λ d. AddsTerms source.now out.old out.new
+        (λ names. hidden_in_each names (map (written_term source.now) (operands kind.now)))
+        (IsMadeOf source.now out.old out.new kind.now d)) }
+{
+    match few_operands(kind) {
+        Few::Nothing => kind_with(source, kind, &[]),
+        Few::One(a) => {
+            let a = expression(source, a, out)?;
+            kind_with(source, kind, &[a])
+        }
+        Few::Two(a, b) => {
+            let a = expression(source, a, out)?;
+            let b = expression(source, b, out)?;
+            kind_with(source, kind, &[a, b])
+        }
+        Few::More => {
+            let ks = operands(source.alloc, kind)?;
+            let js = expressions(source, ks.as_slice(), out)?;
+            kind_with(source, kind, js.as_slice())
+        }
+    }
+}
+
 /// The number of expression `k` as it is run, which stands behind its operands at the end of the list.
 #[cycle(expressions)]
 pub(crate) fn expression(source: &Source<'_>, k: u32, out: &mut Made) -> Result<u32, NoMemory>
@@ -154,15 +183,8 @@ pub(crate) fn expression(source: &Source<'_>, k: u32, out: &mut Made) -> Result<
     let e = source.expr(k);
     match &e.kind {
         ExprKind::Call(f, xs) => call(source, e, *f, xs.as_slice(), out),
-        ExprKind::Load(a) => {
-            let place = expression(source, *a, out)?;
-            let of = source.types.number(e.of);
-            out.push_expr(ExprKind::Load(place), of, e.pos)
-        }
         _ => {
-            let ks = operands(source.alloc, &e.kind)?;
-            let js = expressions(source, ks.as_slice(), out)?;
-            let kind = kind_with(source, &e.kind, js.as_slice())?;
+            let kind = made_of(source, &e.kind, out)?;
             let of = source.types.number(e.of);
             out.push_expr(kind, of, e.pos)
         }

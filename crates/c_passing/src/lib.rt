@@ -14,6 +14,7 @@ mod counts;
 mod expressions;
 mod functions;
 mod names;
+mod operands;
 mod program;
 mod statements;
 mod types;

@@ -1,22 +1,23 @@
-use Rattle.std.proofs.Common.{◌≡◌, false, suc, ◌+◌, ◌<◌, ◌≤◌, ◌∷◌, [], ◌++◌, length, get_or, map, refl, sym, ap, subst, ◌∙◌}
-use Rattle.std.proofs.Common.{arith}
-use Rattle.std.proofs.lemmas.List.{length-map, take_all}
+use Rattle.std.proofs.Common.{◌≡◌, false, suc, ◌+◌, ◌<◌, ◌≤◌, ◌∷◌, [], ◌++◌, length, get_or, map, refl, sym, ap, subst}
+use Rattle.std.proofs.Common.{◌∙◌, arith}
+use Rattle.std.proofs.lemmas.List.{take_all}
 use Rattle.c_tree.specs.declared.typed.Expr.{Expr}
 use Rattle.c_tree.specs.declared.typed.ExprKind.TheVariants as exprs
 use Rattle.c_tree.specs.Views.{types_of, operands}
 use Rattle.c_tree.specs.Passed.{hidden_in}
-use Rattle.c_copy.specs.Copying.{AllBelow, expr_shape}
+use Rattle.c_copy.specs.Copying.{AllBelow}
 use Rattle.c_copy.proofs.Copies.{pushed}
 use Rattle.c_passing.specs.Lists.{hidden_in_each}
-use Rattle.c_passing.specs.Passes.{written_term, AddsTerms, IsKindPassed, IsPassed, ArePassed, ArePassedArguments}
+use Rattle.c_passing.specs.Operands.{IsFew}
+use Rattle.c_passing.specs.Passes.{written_term, AddsTerms, IsPassed, ArePassed, ArePassedArguments}
 use Rattle.c_passing.specs.Passes.{IsPlainCall, IsCallByResult}
-use Rattle.c_passing.proofs.Each.{terms_turn, no_terms_add, one_term, none_counted, no_arguments_add, Arguments, arguments_at}
-use Rattle.c_passing.proofs.Each.{arguments_plainly, arguments_by_address}
+use Rattle.c_passing.proofs.Each.{terms_turn, no_terms_add, one_term, two_terms, made_of, none_counted}
+use Rattle.c_passing.proofs.Each.{no_arguments_add, Arguments, arguments_at, arguments_plainly, arguments_by_address}
 use Rattle.c_passing.proofs.Least.{least_above, least_is, item_below}
 use Rattle.c_passing.proofs.Numbering.{if_ok}
-use Rattle.c_passing.proofs.Passing.{calls, shape_calls, load_kept, expression_passed, plain_call_passed, result_call_passed}
+use Rattle.c_passing.proofs.Passing.{calls, shape_calls, expression_passed, plain_call_passed, result_call_passed}
 use Rattle.c_passing.proofs.Passing.{written_call_is, plain_call_made, result_call_made}
-use Rattle.c_passing.proofs.Within.{term_within, operands_within, operands_below, kind_within}
+use Rattle.c_passing.proofs.Within.{term_within, operands_within, operands_below, operand_at, kind_within}
 use Rattle.c_passing.proofs.expressions.+expressions.Goals as goal
 use Rattle.c_passing.proofs.expressions.+expressions.Goals.{arguments-in-None+in_ok-push-in-None}
 use Rattle.c_passing.proofs.expressions.+expressions.Goals.{arguments-in-Some+in_ok-argument-in-Some+in_ok-push-in-Some+in_ok-h-in-Some}
@@ -165,61 +166,89 @@ expression-returns-in_ok-kind-in_default t c =
     let s = c.args.source.now in
     let e = c.expr-e.result.now in
     let k = c.args.k in
-    let old = c.args.out.now in
-    let mid = c.expressions.new.out in
-    let js = c.in_ok-js-in_default.js.items in
-    let too : c.as_slice-in_default.result.now ≡ operands e.kind =
-    c.as_slice-in_default.ensures.value ∙ c.in_ok-ks-in_default.ensures in
+    let mid = c.made_of.new.out in
+    let d : Expr = record { kind = c.in_ok-kind-in_default.kind; of = c.number-of.result; pos = e.pos } in
     let below = operands_below s k e c.requires c.expr-e.ensures in
     let calls = shape_calls (types_of s.program.now.types) e.kind c.in_default.not-Call in
-    let passed : AddsTerms s old mid (λ names. hidden_in_each names (map (written_term s) (operands e.kind)))
-    (ArePassed s old mid (map (written_term s) (operands e.kind)) js) =
-    subst (λ zs. AddsTerms s old mid (λ names. hidden_in_each names (map (written_term s) zs))
-    (ArePassed s old mid (map (written_term s) zs) js)) too c.in_ok-js-in_default.ensures in
-    let d : Expr = record { kind = c.in_ok-kind-in_default.kind; of = c.number-of-in_default.result; pos = e.pos } in
-    let kind : IsKindPassed s e.kind js d.kind =
-    subst (λ zs. IsKindPassed s e.kind zs d.kind) c.as_slice-in_default-2.ensures.value
-    c.in_ok-kind-in_default.ensures in
-    pushed c.push_expr-in_default.result _ _ _
-    (on_both c.push_expr-in_default.result _ _ c.push_expr-in_default.ensures.exprs c.push_expr-in_default.ensures.rest) c.push_expr-in_default.ensures.number
-    (λ x. expression_passed s old mid c.push_expr-in_default.new.self k e d js _ c.expr-e.ensures below calls passed kind
-    c.number-of-in_default.ensures refl x.0 x.1 refl)
-
-pub expression-returns-in_ok-place-in-Load : goal.expression-returns-in_ok-place-in-Load
-expression-returns-in_ok-place-in-Load t c =
-    let s = c.args.source.now in
-    let e = c.expr-e.result.now in
-    let k = c.args.k in
-    let a = c.in-Load.a in
-    let old = c.args.out.now in
-    let mid = c.expression.new.out in
-    let place = c.in_ok-place-in-Load.place in
-    let are : a ∷ [] ≡ operands e.kind = rw c.in-Load.is refl in
-    let below = operands_below s k e c.requires c.expr-e.ensures in
-    let other : calls (expr_shape (types_of s.program.now.types) e.kind) ≡ false = rw c.in-Load.is refl in
-    let passed : AddsTerms s old mid (λ names. hidden_in_each names (map (written_term s) (operands e.kind)))
-    (ArePassed s old mid (map (written_term s) (operands e.kind)) (place ∷ [])) =
-    subst (λ zs. AddsTerms s old mid (λ names. hidden_in_each names (map (written_term s) zs))
-    (ArePassed s old mid (map (written_term s) zs) (place ∷ []))) are
-    (one_term s old mid a place c.in_ok-place-in-Load.ensures) in
-    let d : Expr = record { kind = exprs.Load place; of = c.number-of.result; pos = e.pos } in
-    let kind : IsKindPassed s e.kind (place ∷ []) d.kind = rw c.in-Load.is (load_kept s a place) in
+    let h = c.in_ok-kind-in_default.ensures in
+    let passed : AddsTerms s c.args.out.now mid
+    (λ names. hidden_in_each names (map (written_term s) (operands e.kind)))
+    (ArePassed s c.args.out.now mid (map (written_term s) (operands e.kind)) (operands d.kind)) =
+    record { extends = h.extends; stmts = h.stmts; hides = h.hides; is = h.is.made } in
     pushed c.push_expr.result _ _ _
     (on_both c.push_expr.result _ _ c.push_expr.ensures.exprs c.push_expr.ensures.rest) c.push_expr.ensures.number
-    (λ x. expression_passed s old mid c.push_expr.new.self k e d (place ∷ []) _ c.expr-e.ensures below other passed
-    kind c.number-of.ensures refl x.0 x.1 refl)
+    (λ x. expression_passed s c.args.out.now mid c.push_expr.new.self k e d (operands d.kind) _ c.expr-e.ensures below
+    calls passed h.is.kind c.number-of.ensures refl x.0 x.1 refl)
 
-pub expression-expression-requires : goal.expression-expression-requires
-expression-expression-requires t c =
+pub expression-made_of-requires : goal.expression-made_of-requires
+expression-made_of-requires t c =
     let s = c.args.source.now in
     let k = c.args.k in
     let e = c.expr-e.result.now in
-    let a = c.in-Load.a in
-    let are : a ∷ [] ≡ operands e.kind = rw c.in-Load.is refl in
-    let h : least_above (a ∷ []) ≤ k =
-    least_is k (a ∷ []) (subst (AllBelow k) (sym are) (operands_below s k e c.requires c.expr-e.ensures)) in
-    let i : a < least_above (a ∷ []) = item_below (a ∷ []) 0 (omega arith) in
-    (omega (arith, h, i), operands_within s k e (a ∷ []) c.requires c.expr-e.ensures are 0 a refl)
+    let h : least_above (operands e.kind) ≤ k =
+    least_is k (operands e.kind) (operands_below s k e c.requires c.expr-e.ensures) in (
+      omega arith,
+      (
+        kind_within s k e c.requires c.expr-e.ensures,
+        operands_within s k e (operands e.kind) c.requires c.expr-e.ensures refl,
+      ),
+    )
+
+pub made_of-expression-requires : goal.made_of-expression-requires
+made_of-expression-requires t c =
+    let k = c.args.kind.now in
+    let h = operand_at c.args.source.now k (c.in-One.a ∷ []) 0 c.in-One.a
+    (subst (IsFew k) c.in-One.is c.few_operands.ensures) (omega arith) refl c.requires.there in
+    let l = h.0 in (omega arith, h.1)
+
+pub made_of-expression-requires-in-Two : goal.made_of-expression-requires-in-Two
+made_of-expression-requires-in-Two t c =
+    let k = c.args.kind.now in
+    let h = operand_at c.args.source.now k (c.in-Two.a ∷ c.in-Two.b ∷ []) 0 c.in-Two.a
+    (subst (IsFew k) c.in-Two.is c.few_operands.ensures) (omega arith) refl c.requires.there in
+    let l = h.0 in (omega arith, h.1)
+
+pub made_of-expression-requires-in-Two-2 : goal.made_of-expression-requires-in-Two-2
+made_of-expression-requires-in-Two-2 t c =
+    let k = c.args.kind.now in
+    let h = operand_at c.args.source.now k (c.in-Two.a ∷ c.in-Two.b ∷ []) 1 c.in-Two.b
+    (subst (IsFew k) c.in-Two.is c.few_operands.ensures) (omega arith) refl c.requires.there in
+    let l = h.0 in (omega arith, h.1)
+
+pub made_of-returns-in_ok-b-in-Two : goal.made_of-returns-in_ok-b-in-Two
+made_of-returns-in_ok-b-in-Two t c =
+    let s = c.args.source.now in
+    let old = c.args.out.now in
+    let mid = c.expression-in-Two.new.out in
+    let new = c.expression-in-Two-2.new.out in
+    let a = c.in_ok-a-in-Two.a in
+    let b = c.in_ok-b-in-Two.b in
+    if_ok c.kind_with-in-Two.result _ _
+    (λ d w. made_of s old new c.args.kind.now d (c.in-Two.a ∷ c.in-Two.b ∷ []) (a ∷ b ∷ [])
+    (subst (IsFew c.args.kind.now) c.in-Two.is c.few_operands.ensures)
+    (two_terms s old mid new c.in-Two.a c.in-Two.b a b c.in_ok-a-in-Two.ensures c.in_ok-b-in-Two.ensures) w)
+    c.kind_with-in-Two.ensures
+
+pub made_of-returns-in-Nothing : goal.made_of-returns-in-Nothing
+made_of-returns-in-Nothing t c =
+    let s = c.args.source.now in
+    let old = c.args.out.now in
+    if_ok c.kind_with.result _ _
+    (λ d w. made_of s old old c.args.kind.now d [] []
+    (subst (IsFew c.args.kind.now) c.in-Nothing.is c.few_operands.ensures)
+    (no_terms_add s old) w)
+    c.kind_with.ensures
+
+pub made_of-returns-in_ok-a-in-One : goal.made_of-returns-in_ok-a-in-One
+made_of-returns-in_ok-a-in-One t c =
+    let s = c.args.source.now in
+    let old = c.args.out.now in
+    let mid = c.expression.new.out in
+    if_ok c.kind_with-in-One.result _ _
+    (λ d w. made_of s old mid c.args.kind.now d (c.in-One.a ∷ []) (c.in_ok-a-in-One.a ∷ [])
+    (subst (IsFew c.args.kind.now) c.in-One.is c.few_operands.ensures)
+    (one_term s old mid c.in-One.a c.in_ok-a-in-One.a c.in_ok-a-in-One.ensures) w)
+    c.kind_with-in-One.ensures
 
 pub expressions-loop-k-init : goal.expressions-loop-k-init
 expressions-loop-k-init t c = rw (c.new-js.ensures.items) (no_terms_add c.args.source.now c.args.out.now)
@@ -242,16 +271,6 @@ expressions-returns t c =
 pub expression-expr-e-requires : goal.expression-expr-e-requires
 expression-expr-e-requires t c = term_within c.args.source.now c.args.k c.requires
 
-pub expression-kind_with-requires-clause-count : goal.expression-kind_with-requires-clause-count
-expression-kind_with-requires-clause-count t c =
-    ap length c.as_slice-in_default-2.ensures.value ∙ c.in_ok-js-in_default.ensures.is.count
-    ∙ length-map c.as_slice-in_default.result.now (written_term c.args.source.now)
-    ∙ ap length (c.as_slice-in_default.ensures.value ∙ c.in_ok-ks-in_default.ensures)
-
-pub expression-kind_with-requires-clause-within : goal.expression-kind_with-requires-clause-within
-expression-kind_with-requires-clause-within t c =
-    kind_within c.args.source.now c.args.k c.expr-e.result.now c.requires c.expr-e.ensures
-
 pub arguments-expression-requires : goal.arguments-expression-requires
 arguments-expression-requires t c =
     let xs = c.args.xs.now in
@@ -271,17 +290,6 @@ expressions-expression-requires t c =
     let i = c.loop-k.k-index in
     let h : get_or ks i 0 < least_above ks = item_below ks i c.loop-k-test.true in
     (omega arith, c.requires i (get_or ks i 0) (at_index ks i c.loop-k-test.true))
-
-pub expression-expressions-requires : goal.expression-expressions-requires
-expression-expressions-requires t c =
-    let s = c.args.source.now in
-    let k = c.args.k in
-    let e = c.expr-e.result.now in
-    let are : c.as_slice-in_default.result.now ≡ operands e.kind =
-    c.as_slice-in_default.ensures.value ∙ c.in_ok-ks-in_default.ensures in
-    let h : least_above c.as_slice-in_default.result.now ≤ k =
-    least_is k _ (subst (AllBelow k) (sym are) (operands_below s k e c.requires c.expr-e.ensures)) in
-    (omega arith, operands_within s k e _ c.requires c.expr-e.ensures are)
 
 pub expression-call-requires : goal.expression-call-requires
 expression-call-requires t c =

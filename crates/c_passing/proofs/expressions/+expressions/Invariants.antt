@@ -1,4 +1,5 @@
 use Rattle.std.proofs.Common.{◌+◌, ◌*◌, ◌∷◌, take, map}
+use Rattle.c_tree.specs.Views.{operands}
 use Rattle.c_passing.specs.Lists.{hidden_in_each}
 use Rattle.c_passing.specs.Passes.{written_term, AddsTerms, ArePassed, ArePassedArguments, AreCounted}
 use Rattle.c_passing.proofs.Least.{least_above}
@@ -15,6 +16,9 @@ decreases-call_by_result l = 4 * least_above l.xs.now + 2
 
 abbrev pub decreases-call : goal.decreases-call
 decreases-call l = 4 * least_above (l.f ∷ l.xs.now) + 3
+
+abbrev pub decreases-made_of : goal.decreases-made_of
+decreases-made_of l = 4 * least_above (operands l.kind.now) + 2
 
 abbrev pub decreases-expression : goal.decreases-expression
 decreases-expression l = 4 * l.k + 4
