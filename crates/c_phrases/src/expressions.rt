@@ -133,6 +133,36 @@ pub(crate) fn node<'a>(
     cursor.join(kind, item, first, parts)
 }
 
+// The same where all that is read is an expression of at least this level.
+#[cycle(phrases)]
+fn join_operand<'a>(
+    cursor: &mut Cursor<'a>,
+    types: &TypeNames<'a>,
+    kind: NodeKind,
+    item: &Item<'a>,
+    first: Place,
+    level: u32,
+    start: Parts,
+    below: u32,
+) -> Result<Part<'a>, Stop>
+    requires room { IsRoomy cursor.old }
+    requires height { below ≤ 200 }
+    requires start { start.height ≤ below }
+    requires level { level ≤ 15 }
+    ensures size { IfOk result (λ _. Owed cursor.old cursor.new 1) }
+    ensures low { IfOk result (λ p. p.height ≤ below + 1) }
+    ensures taller { IfOk result (λ p. start.height + weight_of kind ≤ p.height) }
+    ensures tree { (ys : Syns) → ((zs : Syns) → IsPlaceOf first (first_token (node kind item.now (joined ys zs)))) →
+        ((zs : Syns) → declared_names (node kind item.now (joined ys zs)) ≡ []) →
+        Holds cursor.old.nodes.items start ys →
+        Reads cursor.old cursor.new (made_by (reader below) kind item.now
+        (Step.Read (Phrase.Expression level) ∷ []) ys (in_force types.now) (rest_of cursor.old)) result }
+{
+    let part = read(cursor, types, Phrase::Expression(level), below)?;
+    let parts = start.with(part)?;
+    cursor.join(kind, item, first, parts)
+}
+
 // The part at the left end of an expression.
 #[cycle(phrases)]
 fn operand<'a>(cursor: &mut Cursor<'a>, types: &TypeNames<'a>, below: u32) -> Result<Part<'a>, Stop>
@@ -345,19 +375,16 @@ fn longer<'a>(
         Tail::Steps(operator) => {
             cursor.join(NodeKind::Postfix(operator), item, left.root.first, start)
         }
-        Tail::Joins(operator) => {
-            let steps = [Step::Read(Phrase::Expression(infix_level(operator) + 1))];
-            node(
-                cursor,
-                types,
-                NodeKind::Infix(operator),
-                item,
-                left.root.first,
-                &steps,
-                start,
-                below,
-            )
-        }
+        Tail::Joins(operator) => join_operand(
+            cursor,
+            types,
+            NodeKind::Infix(operator),
+            item,
+            left.root.first,
+            infix_level(operator) + 1,
+            start,
+            below,
+        ),
         Tail::Asks => {
             let steps = [
                 Step::Read(Phrase::Expression(COMMA)),
@@ -375,19 +402,16 @@ fn longer<'a>(
                 below,
             )
         }
-        Tail::Assigns(operator) => {
-            let steps = [Step::Read(Phrase::Expression(ASSIGNMENT))];
-            node(
-                cursor,
-                types,
-                NodeKind::Assignment(operator),
-                item,
-                left.root.first,
-                &steps,
-                start,
-                below,
-            )
-        }
+        Tail::Assigns(operator) => join_operand(
+            cursor,
+            types,
+            NodeKind::Assignment(operator),
+            item,
+            left.root.first,
+            ASSIGNMENT,
+            start,
+            below,
+        ),
         Tail::Ends => Err(Stop::NoTree),
     }
 }

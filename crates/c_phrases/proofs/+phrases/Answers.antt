@@ -1,5 +1,5 @@
 use Rattle.std.specs.Prelude.{IfSome}
-use Rattle.std.proofs.Common.{◌≡◌, suc, ◌+◌, ◌-◌, ◌≤◌, ◌<◌, ◌∷◌, [], refl, ap, sym, subst, ◌∙◌, arith, Some, None}
+use Rattle.std.proofs.Common.{◌≡◌, suc, ◌+◌, ◌-◌, ◌≤◌, ◌<◌, ◌∷◌, [], refl, ap, sym, subst, ◌∙◌, arith, Some, None, Ok}
 use Rattle.std.proofs.Common.{false, length, length-append}
 use Rattle.std.proofs.lemmas.Result.{err_from_is_err_and, IfOk-weaker, MatchResult-weaker}
 use Rattle.std.proofs.lemmas.Bool.{le-leb, eqb-true, eqb-false}
@@ -14,7 +14,7 @@ use Rattle.c_phrases.specs.Reading.{begins_type}
 use Rattle.c_phrases.specs.Reading.{opens_type, with_parts, is_close_brace}
 use Rattle.c_phrases.specs.Got.{IsPlaceOf, Paid, GotCore, rest_of, in_force, naming_of, encloses, after, missing, there}
 use Rattle.c_phrases.specs.Suffixes.{height_of, next_from, unmoved}
-use Rattle.c_phrases.specs.Steps.{goal_of, alone, follow_from, members_from, made_by}
+use Rattle.c_phrases.specs.Steps.{goal_of, alone, follow_from, members_from, made_by, run}
 use Rattle.c_phrases.specs.Runs.{qualifiers_node}
 use Rattle.c_phrases.proofs.Tools.{given}
 use Rattle.c_phrases.proofs.Made.{bind_is, then_is, else_is, fails_bind, fails_same, fails_memory, grows_on, grows_same}
@@ -988,19 +988,19 @@ expressions::longer-returns-in-Selects t c = record {
 
 pub expressions::longer-returns-in-Joins : goal.expressions::longer-returns-in-Joins
 expressions::longer-returns-in-Joins t c = record {
-  size = c.node-in-Joins.ensures.size;
-  low = c.node-in-Joins.ensures.low;
-  taller = IfOk-weaker c.node-in-Joins.result _ _
-      (λ p e. omega (arith, e, c.in_ok-start.ensures.size)) c.node-in-Joins.ensures.taller;
+  size = c.join_operand.ensures.size;
+  low = c.join_operand.ensures.low;
+  taller = IfOk-weaker c.join_operand.result _ _
+      (λ p e. omega (arith, e, c.in_ok-start.ensures.size)) c.join_operand.ensures.taller;
   tree = (λ x m.
       let same = ap (λ k. Reading.longer (Reading.read c.args.below) (suc c.args.below) k x c.args.item.now
       (in_force c.args.types.now) (rest_of c.args.cursor.now))
       (ap tail_of (sym c.symbol.ensures) ∙ sym c.tail_of.ensures ∙ c.in-Joins.is)
       ∙ infix_is (Reading.read c.args.below) (suc c.args.below) x c.args.item.now (in_force c.args.types.now)
       (rest_of c.args.cursor.now) c.in-Joins.operator _ (ap (λ v. v + 1) c.infix_level.ensures.level) in
-      MatchResult-weaker c.node-in-Joins.result
-      (and_ok c.node-in-Joins.result _ _ _ (c.node-in-Joins.ensures.tree (one x) (λ zs. m.root.first) (λ zs. refl)
-      (c.in_ok-start.ensures.one x m)) c.node-in-Joins.ensures.low)
+      MatchResult-weaker c.join_operand.result
+      (and_ok c.join_operand.result _ _ _ (c.join_operand.ensures.tree (one x) (λ zs. m.root.first) (λ zs. refl)
+      (c.in_ok-start.ensures.one x m)) c.join_operand.ensures.low)
       (λ y g. got_grown (suc c.args.below) same (let l = g.1 in omega arith) g.0)
       (λ e f. fails_grown _ (suc c.args.below) e same f));
 }
@@ -1026,19 +1026,19 @@ expressions::longer-returns-in-Asks t c = record {
 
 pub expressions::longer-returns-in-Assigns : goal.expressions::longer-returns-in-Assigns
 expressions::longer-returns-in-Assigns t c = record {
-  size = c.node-in-Assigns.ensures.size;
-  low = c.node-in-Assigns.ensures.low;
-  taller = IfOk-weaker c.node-in-Assigns.result _ _
-      (λ p e. omega (arith, e, c.in_ok-start.ensures.size)) c.node-in-Assigns.ensures.taller;
+  size = c.join_operand-in-Assigns.ensures.size;
+  low = c.join_operand-in-Assigns.ensures.low;
+  taller = IfOk-weaker c.join_operand-in-Assigns.result _ _
+      (λ p e. omega (arith, e, c.in_ok-start.ensures.size)) c.join_operand-in-Assigns.ensures.taller;
   tree = (λ x m.
       let same = ap (λ k. Reading.longer (Reading.read c.args.below) (suc c.args.below) k x c.args.item.now
       (in_force c.args.types.now) (rest_of c.args.cursor.now))
       (ap tail_of (sym c.symbol.ensures) ∙ sym c.tail_of.ensures ∙ c.in-Assigns.is)
       ∙ assign_is (Reading.read c.args.below) (suc c.args.below) x c.args.item.now (in_force c.args.types.now)
       (rest_of c.args.cursor.now) c.in-Assigns.operator in
-      MatchResult-weaker c.node-in-Assigns.result
-      (and_ok c.node-in-Assigns.result _ _ _ (c.node-in-Assigns.ensures.tree (one x) (λ zs. m.root.first) (λ zs. refl)
-      (c.in_ok-start.ensures.one x m)) c.node-in-Assigns.ensures.low)
+      MatchResult-weaker c.join_operand-in-Assigns.result
+      (and_ok c.join_operand-in-Assigns.result _ _ _ (c.join_operand-in-Assigns.ensures.tree (one x) (λ zs. m.root.first) (λ zs. refl)
+      (c.in_ok-start.ensures.one x m)) c.join_operand-in-Assigns.ensures.low)
       (λ y g. got_grown (suc c.args.below) same (let l = g.1 in omega arith) g.0)
       (λ e f. fails_grown _ (suc c.args.below) e same f));
 }
@@ -1258,6 +1258,56 @@ declarators::next_suffix-returns t c = record {
       (ap (λ v. starts is_open_parenthesis v) (sym (c.takes.ensures.left c.if-takes.false))
       ∙ sym c.takes-2.ensures.found ∙ c.if-takes-2.false)));
 }
+
+pub expressions::join_operand-returns : goal.expressions::join_operand-returns
+expressions::join_operand-returns t c = record {
+  size = IfOk-weaker c.join.result _ _
+      (λ p e. owed_owed {k = 0} (owes c.in_ok-part.ensures.size)
+      (noded c.read.new.cursor c.join.new.self e c.join.ensures.rest))
+      c.join.ensures.size;
+  low = IfOk-weaker c.join.result _ _
+      (λ p e. omega (
+        arith,
+        e,
+        c.in_ok-parts.ensures.size,
+        c.in_ok-part.ensures.low,
+        c.requires.start,
+        weight_low c.args.kind,
+      )) c.join.ensures.low;
+  taller = IfOk-weaker c.join.result _ _
+      (λ p e. omega (arith, e, c.in_ok-parts.ensures.size)) c.join.ensures.low;
+  tree = (λ ys first names holds.
+      let types = in_force c.args.types.now in
+      let tokens = rest_of c.args.cursor.now in
+      let step = Steps.Read (Phrases.Expression c.args.level) in
+      let last = followed (follow_from (Reading.read c.args.below) step types tokens) (Ok c.in_ok-parts.parts) refl
+      c.in_ok-part.ensures.tree holds c.in_ok-parts.ensures.kids c.in_ok-parts.ensures.size tt in
+      let all = bind_is (λ a. run (Reading.read c.args.below) [] a.0 types a.1) last.reads in
+      let whole = given (run_begins (Reading.read c.args.below) (step ∷ []) ys types tokens) all in
+      MatchResult-weaker c.join.result c.join.ensures.tree
+      (λ part made. record {
+        tree = node c.args.kind c.args.item.now last.trees;
+        means = made.means last.trees (subst (λ v.
+            IsPlaceOf c.args.first (first_token (node c.args.kind c.args.item.now v))) (sym whole.1) (first whole.0))
+            (subst (λ v. declared_names (node c.args.kind c.args.item.now v) ≡ []) (sym whole.1) (names whole.0))
+            last.holds;
+        reads = bind_is (λ a. Some (node c.args.kind c.args.item.now a.0, a.1)) all
+            ∙ ap (λ v. Some (node c.args.kind c.args.item.now last.trees, v)) (sym c.join.ensures.rest);
+        grows = grows_on last.grows made.grows;
+      })
+      (λ e same. fails_memory e _ same));
+}
+
+pub expressions::join_operand-returns-in_err-part : goal.expressions::join_operand-returns-in_err-part
+expressions::join_operand-returns-in_err-part t c =
+    let p = err_from_is_err_and c.from_residual.result c.from_residual.ensures.1 in
+    rw (p.1, p.2) (record {
+      size = tt;
+      low = tt;
+      taller = tt;
+      tree = λ ys first names h.
+          fails_bind _ _ _ (fails_bind _ _ _ (fails_bind _ _ _ (fails_bind _ _ _ c.in_err-part.ensures.tree)));
+    })
 
 pub expressions::node-returns : goal.expressions::node-returns
 expressions::node-returns t c = record {

@@ -52,6 +52,9 @@ decreases-expressions::production l = 16 * l.below + 9
 abbrev pub decreases-expressions::node : goal.decreases-expressions::node
 decreases-expressions::node l = 16 * l.below + 10
 
+abbrev pub decreases-expressions::join_operand : goal.decreases-expressions::join_operand
+decreases-expressions::join_operand l = 16 * l.below + 10
+
 abbrev pub decreases-expressions::measure : goal.decreases-expressions::measure
 decreases-expressions::measure l = 16 * l.below + 11
 
