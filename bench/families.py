@@ -4,7 +4,9 @@
 Each family is a C file of a number of parts, of at most 4,194,304 bytes. It is taken with that number and with half of
 it, by `cheric build` and by `gcc -fsyntax-only`, which gets at most 60 seconds and 4 GB. A file over the limit of
 weight ends with `refused 142 1:1` after the front end; what is built goes through all of the compiler, which the check
-of gcc does not. The time is that of the processor, the least of a few runs; the memory is the peak of resident bytes.
+of gcc does not. Both files and both commands take turns, five of them or fewer. A time is that of the processor, the
+least of its runs, and the memory is the peak of resident bytes; what is compared are runs of the same turn, and of all
+turns the middle one is told.
 
 The line of a family says what is over the aim: `growth` where cheric takes more than 2.5 times as long for twice the
 number, `gcc` where it takes more than twice as long as gcc for the larger file, `answer` where the file is neither
@@ -14,6 +16,7 @@ import argparse
 import multiprocessing
 import os
 import resource
+import statistics
 import subprocess
 import sys
 import tempfile
@@ -160,12 +163,22 @@ class Run:
         return f"{self.seconds:.2f} s, {self.memory:.0f} MB"
 
 
-def least(words, limits):
-    """The run of the least time; those that take long are run once."""
-    runs = [Run(words, limits)]
-    while len(runs) < 5 and sum(run.seconds for run in runs) < 2.5:
-        runs.append(Run(words, limits))
+def turns_of(commands):
+    """The runs of commands that take turns, so that a slow minute of the machine meets them all: up to five turns, and
+    fewer where they take long."""
+    turns = [[Run(words, limits) for words, limits in commands]]
+    while len(turns) < 5 and sum(run.seconds for turn in turns for run in turn) < 16:
+        turns.append([Run(words, limits) for words, limits in commands])
+    return turns
+
+
+def least(runs):
     return min(runs, key=lambda run: run.seconds)
+
+
+def middle(runs, others):
+    """How many times as long as the others of its turn a run takes, in the middle turn."""
+    return statistics.median(run.seconds / max(other.seconds, 0.001) for run, other in zip(runs, others))
 
 
 def write(name, text_of, n):
@@ -186,42 +199,45 @@ def written(name, text_of, n):
 
 
 class Family:
-    """The runs of a family, of half its number and of the whole: first those of cheric, then those of gcc."""
+    """The runs of a family, of half its number and of the whole."""
 
     def __init__(self, family, words, work):
         self.name, count, text_of = family
         count = count // 10 if words.small else count
         self.count = count - count % 200 if count >= 2000 else count
-        source = f"{work}/file.c"
-        self.cheric, self.gcc = [], []
-        for n in (self.count // 2, self.count):
-            self.size = written(source, text_of, n)
-            if not words.gcc:
-                build = [words.cheric, "build", source, "--out", f"{work}/file.elf"]
-                self.cheric.append(least(build, CHERIC_LIMITS))
-            if not (self.gcc and self.gcc[0].late):
-                self.gcc.append(least(["gcc", "-fsyntax-only", "-w", source], GCC_LIMITS))
+        files = [f"{work}/half.c", f"{work}/file.c"]
+        for file, n in zip(files, (self.count // 2, self.count)):
+            self.size = written(file, text_of, n)
+        builds = [([words.cheric, "build", file, "--out", f"{work}/file.elf"], CHERIC_LIMITS) for file in files]
+        checks = [(["gcc", "-fsyntax-only", "-w", file], GCC_LIMITS) for file in files]
+        first = Run(*checks[0])
+        builds, checks = [] if words.gcc else builds, [] if first.late else checks
+        runs = list(zip(*turns_of(builds + checks)))
+        self.cheric, self.gcc = runs[:len(builds)], runs[len(builds):] or [[first]]
 
     def of_gcc(self):
         """The time and memory of gcc for the half and the whole, or why there are none."""
+        runs = [least(runs) for runs in self.gcc]
         return " | ".join(
             (f"over {GCC_LIMITS[0]} s" if run.late else str(run) if run.status == 0 else f"fails: {run.line[-60:]}")
-            for run in self.gcc + self.gcc[-1:] * (2 - len(self.gcc)))
+            for run in runs + runs[-1:] * (2 - len(runs)))
 
     def row(self):
         """The line of the table, and whether all is within the aims."""
         name = f"{self.name} ({self.count:,}; {self.size:,} bytes)"
+        checked = least(self.gcc[-1])
         if not self.cheric:
-            return f"| {name} | {self.of_gcc()} |", all(run.status == 0 or run.late for run in self.gcc)
+            return f"| {name} | {self.of_gcc()} |", checked.status == 0 or checked.late
         half, whole = self.cheric
-        answer = whole.line.split()[0] if whole.line.startswith("built ") else whole.line
-        growth = whole.seconds / max(half.seconds, 0.001)
-        beside = whole.seconds / max(self.gcc[-1].seconds, 0.001)
-        known = self.gcc[-1].status == 0 or self.gcc[-1].late
+        line = whole[0].line
+        answer = line.split()[0] if line.startswith("built ") else line
+        growth = middle(whole, half)
+        known = checked.status == 0 or checked.late
+        beside = middle(whole, self.gcc[-1]) if checked.status == 0 else least(whole).seconds / checked.seconds
         marks = ["growth"] * (growth > GROWTH) + ["gcc"] * (known and beside > BESIDE_GCC)
         marks += ["answer"] * (answer not in ("built", "refused 142 1:1"))
-        ratio = f"{beside:.2f}" if self.gcc[-1].status == 0 else f"under {beside:.2f}" if known else ""
-        cells = [name, answer, half, whole, f"{growth:.2f}", self.of_gcc(), ratio, " ".join(marks)]
+        ratio = f"{beside:.2f}" if checked.status == 0 else f"under {beside:.2f}" if known else ""
+        cells = [name, answer, least(half), least(whole), f"{growth:.2f}", self.of_gcc(), ratio, " ".join(marks)]
         return f"| {' | '.join(map(str, cells))} |", not marks
 
 
