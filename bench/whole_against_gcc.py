@@ -2,14 +2,14 @@
 """bench/whole_against_gcc.py [COUNT [SEED]] [--dense | --trap] [--jobs N] [--keep FOLDER]: compares generated programs
 with gcc.
 
-COUNT programs of whole_programs.py (100 by default, from SEED 1 on) are run by `./cheric run` and as
-`gcc -O0 -fwrapv -funsigned-char` builds them; both get the program's own text as their input, and must put the same
-bytes and exit with the same number. With --dense the programs are those of dense_programs.py: cheric gets the dense
-one, gcc the one with its steps written out. With --trap one statement fails a check of the machine, and an exit stands
-in its place for gcc: a run that comes there must end by that check at its place. Programs over the limit of weight
-(142), and those that are not built yet (150), are counted apart. With --keep the programs that are answered otherwise
-are put into FOLDER, as SEED.c and, where gcc gets another text, SEED.gcc.c. It needs gcc and what ./cheric needs. It
-proves nothing and is no part of the gate."""
+COUNT programs of whole_programs.py (100 by default, from SEED 1 on) are run by `./cheric run` and as `gcc -O0 -fwrapv
+-funsigned-char` builds them; both get the program's own text as their input, and must put the same bytes and exit with
+the same number. With --dense the programs are those of dense_programs.py: cheric gets the dense one, gcc the one with
+its steps written out. With --trap one statement fails a check of the machine, and an exit stands in its place for gcc:
+a run that comes there must end by that check at its place. Programs over the limit of weight (142), those that are not
+built yet (150), and those on which gcc fails in itself are counted apart. With --keep the programs that are answered
+otherwise are put into FOLDER, as SEED.c and, where gcc gets another text, SEED.gcc.c. It needs gcc and what ./cheric
+needs. It proves nothing and is no part of the gate."""
 import os
 import subprocess
 import sys
@@ -34,10 +34,14 @@ def pair(seed, words):
 
 
 def by_gcc(work, text, taken, trap):
+    """The answer by gcc, or none where gcc fails in itself, as it does at `(_Bool)(3, 3)`."""
     source, target = f"{work}/gcc.c", f"{work}/gcc"
     with open(source, "w", encoding="utf-8") as file:
         file.write(text)
-    subprocess.run([*GCC, "-o", target, source], check=True)
+    built = subprocess.run([*GCC, "-o", target, source], capture_output=True, text=True, check=False)
+    if "internal compiler error" in built.stderr:
+        return None
+    built.check_returncode()
     run = answer_of([target], taken)
     if trap and run.status == whole_programs.TRAPPED:
         return Answer(run.output, trap, 2)
@@ -75,18 +79,19 @@ def main():
                 return seed, got, None
             return seed, got, by_gcc(work, other, text.encode(), trap)
 
-    heavy = unbuilt = other = 0
+    heavy = unbuilt = failed = other = 0
     for seed, got, want in each(compared, range(words.seed, words.seed + words.count), words.jobs):
         if want is None:
             heavy += got.line.startswith("refused 142")
             unbuilt += got.line.startswith("refused 150")
+            failed += not got.line.startswith("refused")
         elif got != want:
             other += 1
             print(f"seed {seed}: {got}; gcc {want}", flush=True)
             if words.keep:
                 keep(words.keep, seed, *pair(seed, words)[:2])
-    print(f"{words.count} programs, {heavy} of them too heavy (142), {unbuilt} not built yet (150), {other} answered "
-          f"otherwise than by gcc")
+    print(f"{words.count} programs, {heavy} of them too heavy (142), {unbuilt} not built yet (150), {failed} on which "
+          f"gcc fails in itself, {other} answered otherwise than by gcc")
     return 1 if other else 0
 
 

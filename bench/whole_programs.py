@@ -200,7 +200,7 @@ class Program:
     def index(self, length, depth):
         """An index below a length."""
         if length == 1:
-            return self.pick(["0", "0", f"({self.value(0)} & 0)"])
+            return f"({self.value(0)} & 0)" if self.chance(0.33) else "0"
         if depth <= 0 or self.chance(0.4):
             return str(self.random.randrange(length))
         if length & (length - 1) == 0:
