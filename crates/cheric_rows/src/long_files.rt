@@ -166,7 +166,7 @@ const BUILT: [Long; 4] = [
 /// Words and files, with the status, output and line.
 type Called = (&'static str, Text, u8, Text, &'static str);
 
-const CALLED: [Called; 8] = [
+const CALLED: [Called; 9] = [
     // in brackets; with the function's body there are more than 200 in one another
     (
         "cheric run a.c",
@@ -253,6 +253,23 @@ const CALLED: [Called; 8] = [
         10,
         &[],
         "refused 142 1:1\n",
+    ),
+    // 3,800 parameters: each of four among them has its argument
+    (
+        "cheric run a.c",
+        &[
+            ("int f(int z", 1),
+            (",int a#", 3_799),
+            (
+                "){return a3799-3799+a1900-1900+a1-1+z-6;}int main(void){return f(7",
+                1,
+            ),
+            (",#", 3_799),
+            (");}", 1),
+        ],
+        1,
+        &[],
+        "exit 1\n",
     ),
 ];
 
