@@ -3,3 +3,4 @@ pub mod Lexemes
 pub mod Pieces
 pub mod Reader
 pub mod Spelled
+pub mod Bases

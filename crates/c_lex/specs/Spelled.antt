@@ -4,8 +4,8 @@ use Rattle.std.specs.Prelude.{List, [], ◌∷◌, length, take, codes, Option, 
 use Rattle.std.specs.Str.{byte}
 use Rattle.ck_base.specs.Tokens.{is_among, line_feed}
 use Rattle.ck_base.specs.Literals.{value_of, leading_digits, simple_escape}
-pub use Rattle.c_spellings.specs.Bases.{digits_at}
-unfoldable pub use Rattle.c_spellings.specs.Bases.{base_at}
+pub use Rattle.c_lex.specs.Bases.{digits_at}
+unfoldable pub use Rattle.c_lex.specs.Bases.{base_at}
 
 -- a value below 2 ^ 64 has a type where this holds: a decimal constant without `u` needs a signed one
 abbrev pub has_type : ℕ → Bool → Bool → Bool

@@ -10,7 +10,7 @@ ghost use Rattle.ck_base.specs.Lexes.{IsLongest, BeginsNoToken};
 ghost use Rattle.c_lex.specs.Fronts.{beginning as kind_at, MeasuresFront, MeasuresQuoted};
 ghost use Rattle.c_lex.specs.Fronts.{begins_left_out as left_out_begins};
 
-use c_spellings::{is_double, is_single, is_triple};
+use crate::punctuators::{is_double, is_single, is_triple};
 use ck_base::TokenKind;
 
 // A letter or `_` (C11 6.4.2.1).

@@ -3,16 +3,17 @@
 //!
 //! Promise: `Tokens::next` gives the longest token, the end, or the first place that breaks the rules; a file has one
 //! reading.
-//! Definitions (`specs/`): `Lexes`, `Tokens` and `Literals` of `ck_base`, `Bases` of `c_spellings`; here `Fronts`,
-//! `Spelled`, `Reader`.
+//! Definitions (`specs/`): `Lexes`, `Tokens` and `Literals` of `ck_base`; here `Fronts`, `Spelled`, `Bases`, `Reader`.
 //! Main lemmas (`proofs/`): `Longest`, `OneReading`.
 #![tactic(auto)]
 
+mod bases;
 mod forms;
 mod laws;
 mod literals;
 mod pieces;
 mod places;
+mod punctuators;
 mod separators;
 mod tokens;
 

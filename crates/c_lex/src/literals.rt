@@ -14,8 +14,8 @@ ghost use Rattle.ck_base.specs.Lexes.{IsAccepted};
 ghost use Rattle.c_lex.specs.Spelled.{base_at, digits_at, suffix_at, has_type as typed, numeric_at, other_escape_at};
 ghost use Rattle.c_lex.specs.Spelled.{escape_at, character_at, is_plain as plain};
 
+use crate::bases::digits_of;
 use crate::forms::is_among;
-use c_spellings::digits_of;
 use ck_base::{Integer, NoMemory, TokenKind};
 
 // The value of a digit of either case, or 36.

@@ -1,7 +1,7 @@
 //! The base of an integer constant.
 
 ghost use Rattle.std.specs.Prelude.{◌≡◌};
-ghost use Rattle.c_spellings.specs.Bases.{base_at, digits_at};
+ghost use Rattle.c_lex.specs.Bases.{base_at, digits_at};
 
 /// The base of an integer constant, and its digits with the suffix.
 #[tactic(auto, unfolding(crate::specs::Bases::base_at))]
