@@ -3,9 +3,9 @@ use Rattle.std.proofs.Common.{ℕ, ◌≡◌, ◌+◌, ◌-◌, ◌<◌, ◌≤�
 use Rattle.std.specs.Prelude.{Option, Some, None, IfSome, slice_index}
 use Rattle.std.proofs.lemmas.Bool.Decides.{nat_tests}
 use Rattle.std.proofs.lemmas.Bool.{cases_lt}
-use Rattle.register_ranks.specs.declared.intervals.Interval.{Interval}
+use Rattle.reg_alloc.specs.declared.intervals.Interval.{Interval}
 use Rattle.reg_alloc.specs.Placed.{IsCrossed, IsUsable, IsKept, IsPassed}
-use Rattle.register_ranks.specs.Ranks.{register_of, rank_of, IsOwnRank}
+use Rattle.reg_alloc.specs.Ranks.{register_of, rank_of, IsOwnRank}
 use Rattle.reg_alloc.specs.Scanned.{IsChoice}
 
 register_low : (k : ℕ) → k < 8 → register_of k ≡ 17 - k

@@ -3,3 +3,4 @@ pub mod Choice
 pub mod Numbered
 pub mod Steps
 pub mod Finished
+mod NextCall

@@ -9,7 +9,7 @@ use Rattle.std.proofs.lemmas.List.Elements.{All-nil, All-cons}
 use Rattle.std.proofs.lemmas.List.Sums.{sum_by-cons}
 use Rattle.std.proofs.lemmas.List.Sorted.{All-permutation, Contains-permutation, sum_by-IsPermutation}
 use Rattle.std.proofs.lemmas.List.Sorted.{length_permutation}
-use Rattle.register_ranks.specs.declared.intervals.Interval.{Interval}
+use Rattle.reg_alloc.specs.declared.intervals.Interval.{Interval}
 use Rattle.reg_alloc.specs.declared.scan.Entry.{Entry}
 use Rattle.reg_alloc.specs.Placed.{holds}
 use Rattle.reg_alloc.specs.Scanned.{entries_from, held, AreInOrder}

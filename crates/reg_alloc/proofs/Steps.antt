@@ -9,12 +9,12 @@ use Rattle.std.proofs.lemmas.List.{length-set, get_or-set_same, get_or-set_other
 use Rattle.std.proofs.lemmas.List.Elements.{All-head, All-tail, All-from_get_or, All-contains, Contains-append_left}
 use Rattle.std.proofs.lemmas.List.Elements.{Contains-get_or, Contains-push, Contains-push_cases}
 use Rattle.std.proofs.lemmas.List.Sums.{sum_by_push, sum_by-set, sum_by-take-drop, sum_by-cons}
-use Rattle.register_ranks.specs.declared.intervals.Interval.{Interval}
+use Rattle.reg_alloc.specs.declared.intervals.Interval.{Interval}
 use Rattle.reg_alloc.specs.declared.places.Home.{Home}
 use Rattle.reg_alloc.specs.declared.places.Home.TheVariants.{Register, Slot}
 use Rattle.reg_alloc.specs.declared.scan.Entry.{Entry}
 use Rattle.reg_alloc.specs.Placed.{holds, Meet, IsCrossed, ApartAt, IsRelaxed}
-use Rattle.register_ranks.specs.Ranks.{register_of, rank_of}
+use Rattle.reg_alloc.specs.Ranks.{register_of, rank_of}
 use Rattle.reg_alloc.specs.Scanned.{held, IsNext, IsDone, Suits, IsChoice, AreTaken, IsScanned}
 use Rattle.reg_alloc.proofs.Choice.{rank-register}
 use Rattle.reg_alloc.proofs.Checked.{apart_back}

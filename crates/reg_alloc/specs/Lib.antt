@@ -1,2 +1,5 @@
 pub mod Placed
 pub mod Scanned
+pub mod Crossing
+pub mod Calls
+pub mod Ranks

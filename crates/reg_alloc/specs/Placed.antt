@@ -1,8 +1,8 @@
 -- Homes that keep live intervals apart.
 use Rattle.std.specs.Prelude.{ℕ, ◌≡◌, ◌≢◌, ◌+◌, ◌<◌, ◌≤◌, ◌⊎◌, Bool, ◌&&◌, nat_le, List, length, slice_get, Some}
 use Rattle.std.specs.Prelude.{Contains, count_by}
-pub use Rattle.register_ranks.specs.declared.intervals.Interval.{Interval}
-pub use Rattle.register_ranks.specs.Crossing.{IsCrossed, IsPassed}
+pub use Rattle.reg_alloc.specs.declared.intervals.Interval.{Interval}
+pub use Rattle.reg_alloc.specs.Crossing.{IsCrossed, IsPassed}
 use Rattle.reg_alloc.specs.declared.places.Home.{Home}
 use Rattle.reg_alloc.specs.declared.places.Home.TheVariants.{Register, Slot}
 

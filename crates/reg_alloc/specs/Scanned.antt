@@ -2,13 +2,13 @@
 use Rattle.std.specs.Prelude.{ℕ, ◌≡◌, ◌≢◌, ◌+◌, ◌<◌, ◌≤◌, nat_lt, List, [], ◌∷◌, ◌++◌, length, slice_get, slice_index}
 use Rattle.std.specs.Prelude.{Some, Contains, All, count_by}
 use Rattle.std.specs.List.Sorted.{IsNonDecreasingBy}
-use Rattle.register_ranks.specs.declared.intervals.Interval.{Interval}
+use Rattle.reg_alloc.specs.declared.intervals.Interval.{Interval}
 use Rattle.reg_alloc.specs.declared.places.Home.{Home}
 use Rattle.reg_alloc.specs.declared.places.Home.TheVariants.{Register, Slot}
 use Rattle.reg_alloc.specs.declared.scan.Entry.{Entry}
 use Rattle.reg_alloc.specs.declared.scan.Scan.{Scan}
 use Rattle.reg_alloc.specs.Placed.{holds, Fits, ApartAt, IsRelaxed, StaysClear}
-use Rattle.register_ranks.specs.Ranks.{rank_of, register_of}
+use Rattle.reg_alloc.specs.Ranks.{rank_of, register_of}
 
 -- ---- intervals in the order of their first instructions
 

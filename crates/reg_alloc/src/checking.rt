@@ -2,8 +2,8 @@
 ghost use Rattle.std.specs.Prelude.{◌≡◌, ◌<◌, ◌≤◌, ℕ, ◌↔◌, length, IsTrue};
 ghost use Rattle.reg_alloc.specs.Placed.{IsCrossed, IsUsable, IsKept, Fits, FitsAt, Meet, ApartAt, IsPlaced};
 
+use crate::intervals::Interval;
 use crate::places::{Home, Places};
-use register_ranks::Interval;
 
 // Whether some call crosses an interval.
 fn is_crossed(calls: &[u32], v: Interval) -> bool

@@ -2,12 +2,15 @@
 ghost use Rattle.std.specs.Prelude.{◌≡◌, ◌+◌, ◌^◌, ◌<◌, ◌≤◌, ℕ, ◌↔◌, [], ◌∷◌, ◌++◌, All, IsTrue, IfOk, IfSome};
 ghost use Rattle.std.specs.Prelude.{IfNone, List, length, replicate, slice_index, slice_set};
 ghost use Rattle.reg_alloc.specs.Placed.{IsCrossed, IsPlaced, IsSlotBelow, IsRegister, IsRelaxed, StaysClearAt};
-ghost use Rattle.register_ranks.specs.Ranks.{register_of};
+ghost use Rattle.reg_alloc.specs.Ranks.{register_of};
 ghost use Rattle.reg_alloc.specs.Scanned.{entries_from, AreInOrder, IsNext, IsChoice, AreTaken, HasScanned};
 
+use crate::calls::Calls;
+use crate::free::take;
+use crate::intervals::Interval;
 use crate::places::{Home, Places};
+use crate::ranks::{RANKS, lowest_rank, own_rank, register_of};
 use ck_base::{NoMemory, Sequence};
-use register_ranks::{Calls, Interval, RANKS, lowest_rank, own_rank, register_of, take};
 use std::alloc::{AllocError, Global};
 
 /// An interval and its place in the caller's list.

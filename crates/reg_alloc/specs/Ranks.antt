@@ -1,7 +1,7 @@
 -- The registers of the allocator, by rank.
 use Rattle.std.specs.Prelude.{ℕ, ◌≡◌, ◌+◌, ◌-◌, if◌then◌else◌, nat_lt, List, Contains}
-use Rattle.register_ranks.specs.declared.intervals.Interval.{Interval}
-use Rattle.register_ranks.specs.Crossing.{IsCrossed}
+use Rattle.reg_alloc.specs.declared.intervals.Interval.{Interval}
+use Rattle.reg_alloc.specs.Crossing.{IsCrossed}
 
 -- c17 down to c10, c5 to c7, then c8, c9 and c18 to c27
 unfoldable pub register_of : ℕ → ℕ

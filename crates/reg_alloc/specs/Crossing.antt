@@ -1,6 +1,6 @@
 -- Calls and intervals.
 use Rattle.std.specs.Prelude.{ℕ, ◌≡◌, ◌<◌, ◌⊎◌, List, Contains}
-use Rattle.register_ranks.specs.declared.intervals.Interval.{Interval}
+use Rattle.reg_alloc.specs.declared.intervals.Interval.{Interval}
 
 -- some call crosses an interval: it stands strictly between its ends
 abbrev pub IsCrossed : List ℕ → Interval → Type 0

@@ -1,7 +1,7 @@
 use Rattle.std.proofs.Common.{rules, leb}
 use Rattle.std.proofs.lemmas.List.Sorted.{IsPartitionPoint-from_clause, IsPartitionedBy-leb}
-use Rattle.register_ranks.proofs.NextCall.{next_above}
-use Rattle.register_ranks.proofs.calls.Calls.next_above.Goals as goal
+use Rattle.reg_alloc.proofs.NextCall.{next_above}
+use Rattle.reg_alloc.proofs.calls.Calls.next_above.Goals as goal
 
 pub returns : goal.returns
 returns c =

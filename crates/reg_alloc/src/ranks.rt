@@ -1,7 +1,7 @@
 //! The registers of the allocator, by rank: the order in which it tries them.
 ghost use Rattle.std.specs.Prelude.{◌≡◌, ◌<◌, ◌≤◌, IfSome};
-ghost use Rattle.register_ranks.specs.Crossing.{IsCrossed, IsPassed};
-ghost use Rattle.register_ranks.specs.Ranks.{register_of, IsOwnRank};
+ghost use Rattle.reg_alloc.specs.Crossing.{IsCrossed, IsPassed};
+ghost use Rattle.reg_alloc.specs.Ranks.{register_of, IsOwnRank};
 
 use crate::calls::Calls;
 use crate::intervals::Interval;

@@ -12,9 +12,9 @@ use Rattle.std.proofs.lemmas.Option.{slice_get-get_or, slice_get_past}
 use Rattle.std.proofs.lemmas.List.{get_or_default}
 use Rattle.std.proofs.lemmas.List.Elements.{Contains-get_or}
 use Rattle.std.proofs.lemmas.List.Sorted.{searched}
-use Rattle.register_ranks.specs.declared.intervals.Interval.{Interval}
-use Rattle.register_ranks.specs.Calls.{IsNextAbove}
-use Rattle.register_ranks.specs.Crossing.{IsCrossed}
+use Rattle.reg_alloc.specs.declared.intervals.Interval.{Interval}
+use Rattle.reg_alloc.specs.Calls.{IsNextAbove}
+use Rattle.reg_alloc.specs.Crossing.{IsCrossed}
 
 -- what stands before the place is at most n, and what stands from it on is above n
 before_place : (xs : List ℕ) (n i k : ℕ) → IsPartitionPoint (λ y. nat_le y n ≡ true) (λ y. nat_le y n ≡ false) xs i →

@@ -1,7 +1,7 @@
 //! The calls of a function, in order.
 ghost use Rattle.std.specs.Prelude.{ℕ, ◌↔◌, IsTrue, IfOk, Contains};
 ghost use Rattle.std.specs.List.Sorted.{IsPermutation, IsNonDecreasing};
-ghost use Rattle.register_ranks.specs.Calls.{IsNextAbove};
+ghost use Rattle.reg_alloc.specs.Calls.{IsNextAbove};
 
 use crate::intervals::Interval;
 use std::alloc::{AllocError, Global};
@@ -14,7 +14,7 @@ pub struct Calls {
 }
 
 impl Calls {
-    ghost use Rattle.register_ranks.specs.Crossing.{IsCrossed};
+    ghost use Rattle.reg_alloc.specs.Crossing.{IsCrossed};
 
     pub fn new(alloc: Global, calls: &[u32]) -> Result<Self, AllocError>
         ensures { IfOk result (λ c. IsPermutation calls.now c.numbers.items) }

@@ -1,5 +1,5 @@
-use Rattle.register_ranks.proofs.NextCall.{has_iff}
-use Rattle.register_ranks.proofs.calls.Calls.has.Goals as goal
+use Rattle.reg_alloc.proofs.NextCall.{has_iff}
+use Rattle.reg_alloc.proofs.calls.Calls.has.Goals as goal
 
 pub returns : goal.returns
 returns c =

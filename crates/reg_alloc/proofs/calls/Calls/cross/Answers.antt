@@ -1,6 +1,6 @@
 use Rattle.std.proofs.lemmas.Bool.{false≢true}
-use Rattle.register_ranks.proofs.NextCall.{crossed_iff, uncrossed}
-use Rattle.register_ranks.proofs.calls.Calls.cross.Goals as goal
+use Rattle.reg_alloc.proofs.NextCall.{crossed_iff, uncrossed}
+use Rattle.reg_alloc.proofs.calls.Calls.cross.Goals as goal
 
 pub returns-in-Some : goal.returns-in-Some
 returns-in-Some c = crossed_iff c.args.self.now.numbers.items c.args.v c.in-Some.c (c.in-Some.ensures {u = tt})
