@@ -1,9 +1,9 @@
 -- What an answer says of the extent of a type.
 use Rattle.std.specs.Prelude.{◌≡◌, ℕ, ◌<◌, ◌≤◌, Option, Some, None, Result, Ok, Err}
 use Rattle.c_tree.specs.Layout.{Extent, size_limit}
-pub use Rattle.cap_members.specs.declared.answers.Layout.{Layout}
-pub use Rattle.cap_members.specs.declared.answers.Owned.{Owned}
-pub use Rattle.cap_members.specs.Extents.{extent_is, greatest_align}
+pub use Rattle.cap_layout.specs.declared.answers.Layout.{Layout}
+pub use Rattle.cap_layout.specs.declared.answers.Owned.{Owned}
+pub use Rattle.cap_layout.specs.Extents.{extent_is, greatest_align}
 use Rattle.cap_layout.specs.declared.answers.LayoutFault.{LayoutFault}
 use Rattle.cap_layout.specs.declared.answers.LayoutFault.TheVariants as faults
 

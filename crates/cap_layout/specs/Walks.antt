@@ -7,7 +7,7 @@ use Rattle.c_tree.specs.Layout.{offset_of_member}
 use Rattle.c_tree.specs.Counts.{is_record}
 use Rattle.c_tree.specs.declared.typed.CType.{CType}
 use Rattle.c_tree.specs.declared.typed.Member.{Member}
-pub use Rattle.cap_members.specs.Extents.{placing}
+pub use Rattle.cap_layout.specs.Extents.{placing}
 use Rattle.cap_layout.specs.declared.answers.LayoutFault.{LayoutFault}
 use Rattle.cap_layout.specs.declared.shapes.Base.{Base}
 use Rattle.cap_layout.specs.declared.shapes.Base.TheVariants.{Scalar, Members}

@@ -8,9 +8,9 @@ ghost use Rattle.c_tree.specs.Layout.{size_of};
 ghost use Rattle.c_tree.specs.Counts.{expr_copies, value_copies, stmt_copies, copies};
 
 use crate::kept::Layouts;
+use crate::owning::owned;
 use crate::records::{Record, record_at};
 use c_tree::{Expr, ExprKind, FunDef, Stmt, StmtKind, Typed, VarDef};
-use cap_members::owned;
 
 fn parts(n: u64) -> u64
     requires { n ≤ 4294967296 }

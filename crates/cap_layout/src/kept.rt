@@ -6,11 +6,11 @@ ghost use Rattle.cap_layout.specs.Answers.{Layout, Fits, IsLayout, extent_is, gr
 ghost use Rattle.cap_layout.specs.Kept.{AreLayoutsOf};
 ghost use Rattle.cap_layout.specs.Walks.{placing, shape_extent, IsSmallShape};
 
-use crate::answers::LayoutFault;
+use crate::answers::{Layout, LayoutFault};
+use crate::members::placed;
 use crate::shapes::{Base, LIMIT, Shape, shape_at, shape_of};
 use crate::sizes::{finished, layout, repeated};
 use c_tree::{CType, Member, Typed};
-use cap_members::{Layout, placed};
 use std::alloc::{AllocError, Global};
 use std::marker::Model;
 

@@ -4,12 +4,12 @@ ghost use Rattle.c_tree.specs.Layout.{bare, members_of, extent, member_at};
 ghost use Rattle.cap_layout.specs.Answers.{IsOffset};
 ghost use Rattle.cap_layout.specs.Walks.{IsPlace};
 
-use crate::answers::LayoutFault;
+use crate::answers::{Layout, LayoutFault};
+use crate::members::{placed, start_of};
 use crate::records::{Record, record_at};
 use crate::shapes::LIMIT;
 use crate::sizes::layout;
 use c_tree::{Member, Typed};
-use cap_members::{Layout, placed, start_of};
 
 // Where a member of a struct begins.
 fn struct_offset(p: &Typed, ms: &[Member], k: u32) -> Result<u64, LayoutFault>

@@ -5,10 +5,11 @@ ghost use Rattle.c_tree.specs.Layout.{extent};
 ghost use Rattle.cap_layout.specs.Answers.{extent_is, greatest_align, IsLayout};
 ghost use Rattle.cap_layout.specs.Walks.{placing, capped};
 
-use crate::answers::LayoutFault;
+use crate::answers::{Layout, LayoutFault};
+use crate::members::placed;
+use crate::owning::rounded;
 use crate::shapes::{Base, LIMIT, core_of};
 use c_tree::{CType, Member, Typed};
-use cap_members::{Layout, placed, rounded};
 
 /// Elements in a row.
 pub fn repeated(l: Layout, count: u64) -> Result<Layout, LayoutFault>

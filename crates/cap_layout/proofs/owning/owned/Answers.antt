@@ -1,8 +1,8 @@
 use Rattle.std.proofs.Common.{◌≡◌, ◌≤◌, ℕ, ◌^◌, ◌%◌, arith}
 use Rattle.cap_concentrate.specs.Rounding.{owned}
 use Rattle.c_tree.specs.Layout.{size_limit}
-use Rattle.cap_members.proofs.Lengths.{owns}
-use Rattle.cap_members.proofs.owning.owned.Goals as goal
+use Rattle.cap_layout.proofs.Lengths.{owns}
+use Rattle.cap_layout.proofs.owning.owned.Goals as goal
 
 length_is : (n r : ℕ) → n ≤ size_limit → r ≡ owned n % 2 ^ 64 → r ≡ owned n
 length_is n r h e = let o = owns n h in let p = o.padding in let g = o.greatest in omega arith

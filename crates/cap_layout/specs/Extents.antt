@@ -1,7 +1,7 @@
 -- A layout as the extent of a type, and a member beside the others.
 use Rattle.std.specs.Prelude.{ℕ, Bool, true, false}
 use Rattle.c_tree.specs.Layout.{Extent, behind, beside}
-use Rattle.cap_members.specs.declared.answers.Layout.{Layout}
+use Rattle.cap_layout.specs.declared.answers.Layout.{Layout}
 
 abbrev pub extent_is : Layout → Extent
 extent_is l = record { size = l.size; align = l.align }

@@ -2,7 +2,7 @@
 ghost use Rattle.std.specs.Prelude.{◌≡◌, ◌+◌, ◌<◌, ◌≤◌};
 ghost use Rattle.cap_concentrate.specs.Rounding.{alignment, owned, rounded_up};
 ghost use Rattle.c_tree.specs.Layout.{size_limit};
-ghost use Rattle.cap_members.specs.Extents.{greatest_align};
+ghost use Rattle.cap_layout.specs.Extents.{greatest_align};
 
 use crate::answers::Owned;
 use cap_concentrate::{alignment_mask, rounded_length};
