@@ -6,8 +6,8 @@ use Rattle.std.specs.Prelude.{◌&&◌, ◌⊎◌, false, map, IfOk, OnOk, if◌
 use Rattle.std.specs.Str.{bytes_eq}
 use Rattle.std.proofs.lemmas.Bool.{le-leb, and_from, ne_eqb}
 use Rattle.std.proofs.lemmas.List.{take_at, drop_at, drop-drop, length-append, length-drop, length-replicate}
-use Rattle.elf_words.specs.declared.field.Field.{Field}
-use Rattle.elf_words.specs.declared.field.Field.TheVariants.{Half, Word, Xword}
+use Rattle.elf_file.specs.declared.field.Field.{Field}
+use Rattle.elf_file.specs.declared.field.Field.TheVariants.{Half, Word, Xword}
 use Rattle.elf_file.specs.declared.headers.Headers.{Headers}
 use Rattle.elf_file.specs.declared.image.Image.{Image}
 use Rattle.elf_file.specs.declared.image.Line.{Line}

@@ -10,8 +10,8 @@ use Rattle.std.proofs.lemmas.Bool.{and_from, cases_lt, eqb-true, leb-true, ne_eq
 use Rattle.std.proofs.lemmas.List.{append-nil, drop-drop, get_or_past, get_or-take, length-drop, length-take}
 use Rattle.std.proofs.lemmas.List.{length-take-le, take_all, take-append-drop}
 use Rattle.byteorder.specs.Numbers.{little_from-lt}
-use Rattle.elf_words.specs.declared.field.Field.{Field}
-use Rattle.elf_words.specs.declared.field.Field.TheVariants.{Word, Xword}
+use Rattle.elf_file.specs.declared.field.Field.{Field}
+use Rattle.elf_file.specs.declared.field.Field.TheVariants.{Word, Xword}
 use Rattle.elf_file.specs.declared.headers.Headers.{Headers}
 use Rattle.elf_file.specs.declared.image.Image.{Image}
 use Rattle.elf_file.specs.declared.image.Line.{Line}

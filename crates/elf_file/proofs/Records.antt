@@ -4,7 +4,7 @@ use Rattle.std.specs.List.{flat_map, All}
 use Rattle.std.specs.Simd.{first_chunks}
 use Rattle.std.proofs.lemmas.List.{take_at, drop_at, length-append, append-nil}
 use Rattle.std.proofs.lemmas.List.Elements.{All-head, All-tail}
-use Rattle.elf_words.specs.declared.field.Field.TheVariants.{Word, Xword}
+use Rattle.elf_file.specs.declared.field.Field.TheVariants.{Word, Xword}
 use Rattle.elf_file.specs.declared.image.Line.{Line}
 use Rattle.elf_file.specs.declared.image.Reloc.{Reloc}
 use Rattle.elf_file.specs.Fields.{spelled, size_of, word_at, xword_at, Fit}

@@ -5,8 +5,8 @@ use Rattle.std.proofs.lemmas.Bool.{and_from}
 use Rattle.std.proofs.lemmas.List.{drop_at, drop-drop, drop_all, length-append}
 use Rattle.byteorder.specs.Endian.{little_bytes}
 use Rattle.byteorder.specs.Numbers.{little_number-reads_back, length-bytes_low_first}
-use Rattle.elf_words.specs.declared.field.Field.{Field}
-use Rattle.elf_words.specs.declared.field.Field.TheVariants.{Half}
+use Rattle.elf_file.specs.declared.field.Field.{Field}
+use Rattle.elf_file.specs.declared.field.Field.TheVariants.{Half}
 use Rattle.elf_file.specs.Fields.{width_of, value_of, bytes_of, number, spelled, size_of, meets, Fit}
 
 -- ---- one more field

@@ -8,7 +8,7 @@ use Rattle.std.proofs.lemmas.List.{length-drop, get_or-drop}
 use Rattle.std.specs.Int.{byte_at, bytes_low_first}
 use Rattle.byteorder.specs.Endian.{little_from, little_number, little_bytes}
 use Rattle.byteorder.specs.Numbers.{little_from-cons}
-use Rattle.elf_words.specs.declared.field.Field.{Field}
+use Rattle.elf_file.specs.declared.field.Field.{Field}
 use Rattle.elf_file.specs.Fields.{width_of, value_of, bytes_of, number, spelled, size_of, meets}
 
 -- each is a byte

@@ -1,7 +1,7 @@
 -- The files of an image.
 use Rattle.std.specs.Prelude.{◌≡◌, ℕ, ◌-◌, ◌*◌, ◌<◌, ◌^◌, List, [], ◌∷◌, ◌++◌, length, replicate}
 use Rattle.std.specs.List.{flat_map, concat, All}
-use Rattle.elf_words.specs.declared.field.Field.{Field}
+use Rattle.elf_file.specs.declared.field.Field.{Field}
 use Rattle.elf_file.specs.declared.headers.Headers.{Headers}
 use Rattle.elf_file.specs.declared.image.Image.{Image}
 use Rattle.elf_file.specs.declared.image.Line.{Line}

@@ -1,9 +1,9 @@
 -- The headers of an image's file, field by field as in the ELF64 object file format, and where its six parts stand.
 use Rattle.std.specs.Prelude.{ℕ, ◌+◌, ◌*◌, ◌/◌, Bool, List, [], ◌∷◌, ◌++◌, if◌then◌else◌}
-use Rattle.elf_words.specs.declared.field.Field.{Field}
-use Rattle.elf_words.specs.declared.field.Field.TheVariants.{Half, Word, Xword}
+use Rattle.elf_file.specs.declared.field.Field.{Field}
+use Rattle.elf_file.specs.declared.field.Field.TheVariants.{Half, Word, Xword}
 use Rattle.elf_file.specs.declared.headers.Headers.{Headers}
-unfoldable pub use Rattle.elf_words.specs.Count.{count_words}
+unfoldable pub use Rattle.elf_file.specs.Count.{count_words}
 
 -- ---- where the parts stand
 

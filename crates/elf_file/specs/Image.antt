@@ -3,8 +3,8 @@ use Rattle.std.specs.Prelude.{◌≡◌, ℕ, ◌+◌, ◌%◌, ◌<◌, ◌==�
 use Rattle.std.specs.Prelude.{length, map, Option, if◌then◌else◌}
 use Rattle.std.specs.List.{All, find}
 use Rattle.std.specs.List.Sorted.{IsStrictlyIncreasing}
-use Rattle.elf_words.specs.declared.field.Field.{Field}
-use Rattle.elf_words.specs.declared.field.Field.TheVariants.{Word, Xword}
+use Rattle.elf_file.specs.declared.field.Field.{Field}
+use Rattle.elf_file.specs.declared.field.Field.TheVariants.{Word, Xword}
 use Rattle.elf_file.specs.declared.image.Image.{Image}
 use Rattle.elf_file.specs.declared.image.Line.{Line}
 use Rattle.elf_file.specs.declared.image.Reloc.{Reloc}

@@ -5,3 +5,4 @@ pub mod Image
 pub mod Parts
 pub mod Reading
 pub mod Refusal
+pub mod Count

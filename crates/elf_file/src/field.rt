@@ -1,10 +1,61 @@
-//! Numbers of stated widths, little endian, as an ELF64 file has them: how they are read.
-
-ghost use Rattle.std.specs.Prelude.{◌≡◌, ◌+◌, ◌≤◌, ◌==◌, length};
-ghost use Rattle.elf_file.specs.Fields.{width_of, value_of, number, half_at, word_at, xword_at, meets, size_of};
+//! Numbers of stated widths, little endian, as an ELF64 file has them: how they are put and read.
+ghost use Rattle.std.specs.Prelude.{◌≡◌, ◌++◌, ◌≤◌, OnOk, ◌+◌, ◌==◌, length};
+ghost use Rattle.elf_file.specs.Fields.{width_of, value_of, bytes_of, spelled, number, half_at, word_at, xword_at};
+ghost use Rattle.elf_file.specs.Fields.{meets, size_of};
 
 use byteorder::{ByteOrder, LittleEndian};
-use elf_words::Field;
+use std::alloc::AllocError;
+
+/// A number of a file (ELF64, "Data representation").
+#[derive(Clone, Copy)]
+pub enum Field {
+    /// Two bytes.
+    Half(u16),
+    /// Four bytes.
+    Word(u32),
+    /// Eight bytes: an extended word, an address or an offset. The value may be one that no eight bytes have.
+    Xword(u128),
+}
+
+impl Field {
+    pub fn width(self) -> usize
+        ensures value { result ≡ width_of self }
+        ensures most { result ≤ 8 }
+    {
+        match self {
+            Field::Half(_) => 2,
+            Field::Word(_) => 4,
+            Field::Xword(_) => 8,
+        }
+    }
+
+    fn value(self) -> u128
+        ensures { result ≡ value_of self }
+    {
+        match self {
+            Field::Half(value) => value as u128,
+            Field::Word(value) => value as u128,
+            Field::Xword(value) => value,
+        }
+    }
+}
+
+/// Appends the fields.
+#[tactic(auto, unfolding(crate::specs::Fields::spelled))]
+pub fn put(out: &mut Vec<u8>, fields: &[Field]) -> Result<(), AllocError>
+    ensures { OnOk result (out.new.items ≡ out.old.items ++ spelled fields.now) }
+{
+    for field in fields {
+        put_field(out, *field)?;
+    }
+    Ok(())
+}
+
+fn put_field(out: &mut Vec<u8>, field: Field) -> Result<(), AllocError>
+    ensures { OnOk result (out.new.items ≡ out.old.items ++ bytes_of field) }
+{
+    out.extend_from_slice(&field.value().to_le_bytes()[..field.width()])
+}
 
 /// The half word at a place.
 #[tactic(auto, unfolding(crate::specs::Fields::number))]

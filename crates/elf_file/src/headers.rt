@@ -7,8 +7,8 @@ ghost use Rattle.elf_file.specs.Headers.{rounded, program_header, section_header
 ghost use Rattle.elf_file.specs.Headers.{words_at, words_size, names_at, end_of, file_header, program_headers};
 ghost use Rattle.elf_file.specs.Headers.{section_headers, image_words};
 
-use elf_words::Field;
-use elf_words::Field::{Half, Word, Xword};
+use crate::field::Field;
+use crate::field::Field::{Half, Word, Xword};
 
 /// What an image chooses of its file's headers. The pairs are a base and a length in bytes, and each size is in bytes.
 #[derive(Clone, Copy)]
@@ -270,7 +270,7 @@ pub fn section_headers(h: Headers) -> [[Field; 10]; 7]
 }
 
 /// The words of the image: version, entry, then base and length of text, data, table, heap and stack.
-#[tactic(auto, unfolding(crate::specs::Headers::image_words, elf_words::specs::Fields::Fit))]
+#[tactic(auto, unfolding(crate::specs::Headers::image_words, crate::specs::Fields::Fit))]
 pub fn image_words(version: u64, table: (u64, u64), h: Headers) -> [Field; 12]
     ensures value { result ≡ image_words version table h }
     ensures fits { Fit (image_words version table h) }

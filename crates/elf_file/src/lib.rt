@@ -4,11 +4,11 @@
 //!
 //! Promise: reading gives the image or the first refusal in order, and what was written of an image is read as that
 //! image.
-//! Definitions (`specs/`): `Fields`, `Count` of `elf_words`; here `Image`, `File`, `Headers`, `Parts`, `Reading`,
-//! `Refusal`.
+//! Definitions (`specs/`): `Fields`, `Count`, `Image`, `File`, `Headers`, `Parts`, `Reading`, `Refusal`.
 //! Main lemmas (`proofs/`): `Found`, `Again`.
 #![tactic(auto)]
 
+mod count;
 mod field;
 mod headers;
 mod image;

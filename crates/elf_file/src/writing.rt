@@ -9,13 +9,14 @@ ghost use Rattle.elf_file.specs.File.{headers_of, words_fields, relocs_bytes, li
 ghost use Rattle.elf_file.specs.File.{FitsFields};
 ghost use Rattle.elf_file.specs.Reading.{reading};
 
+use crate::count::put_count;
+use crate::field::Field::{Word, Xword};
+use crate::field::{Field, put};
 use crate::headers::{
     Headers, IDENT, NAMES, file_header, image_words, program_headers, section_headers,
 };
 use crate::image::{Image, Line, Reloc};
 use ck_base::NoMemory;
-use elf_words::Field::{Word, Xword};
-use elf_words::{Field, put, put_count};
 use std::alloc::{AllocError, Global};
 
 /// The headers of an image's file.
@@ -57,7 +58,7 @@ fn put_padding(out: &mut Vec<u8>, size: u64) -> Result<(), AllocError>
     out.extend_from_slice(&zeros[..gap])
 }
 
-#[tactic(auto, unfolding(elf_words::specs::Fields::Fit))]
+#[tactic(auto, unfolding(crate::specs::Fields::Fit))]
 fn reloc_fields(r: Reloc) -> [Field; 5]
     ensures value { result ≡ reloc_fields r }
     ensures fits { Fit (reloc_fields r) }
@@ -71,7 +72,7 @@ fn reloc_fields(r: Reloc) -> [Field; 5]
     ]
 }
 
-#[tactic(auto, unfolding(elf_words::specs::Fields::Fit))]
+#[tactic(auto, unfolding(crate::specs::Fields::Fit))]
 fn line_fields(l: Line) -> [Field; 4]
     ensures value { result ≡ line_fields l }
     ensures fits { Fit (line_fields l) }

@@ -1,5 +1,5 @@
 use Rattle.std.proofs.Common.{ℕ, ◌+◌, drop, sym, ap, ◌∙◌, arith}
-use Rattle.elf_words.specs.declared.field.Field.TheVariants.{Half}
+use Rattle.elf_file.specs.declared.field.Field.TheVariants.{Half}
 use Rattle.elf_file.specs.Fields.{meets}
 use Rattle.elf_file.proofs.Runs.{size_of_more, meets_goes, meets_ends}
 use Rattle.elf_file.proofs.field.meets.Goals as goal

@@ -1,8 +1,8 @@
 //! The count behind an image's words.
 
 ghost use Rattle.std.specs.Prelude.{◌≡◌, ◌++◌, OnOk};
-ghost use Rattle.elf_words.specs.Fields.{spelled, Fit};
-ghost use Rattle.elf_words.specs.Count.{count_words};
+ghost use Rattle.elf_file.specs.Fields.{spelled, Fit};
+ghost use Rattle.elf_file.specs.Count.{count_words};
 
 use crate::field::Field::Xword;
 use crate::field::put;
