@@ -14,6 +14,7 @@ mod integers;
 mod kept;
 mod machine;
 mod memory_rows;
+mod output;
 mod state;
 mod step;
 

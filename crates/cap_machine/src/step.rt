@@ -14,9 +14,9 @@ use crate::code::Code;
 use crate::end::{End, Step};
 use crate::kept::{Reach, Reaches, check};
 use crate::machine::Machine;
+use crate::output::put_byte;
 use cap_ops::{Access, Cause, null};
 use ck_base::{Sink, Source};
-use output_bytes::put_byte;
 use rv_code::decode;
 use rv_instr::{Instr, Reg};
 

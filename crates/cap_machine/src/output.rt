@@ -1,10 +1,4 @@
 //! One byte of output: the put of a run's step, whatever the sink is.
-//!
-//! Promise: the byte is put whole, or the sink counts a fault.
-//! Definitions (`specs/`): `Calls` of `ck_base`.
-//! Main lemmas (`proofs/`): none.
-#![tactic(auto)]
-
 ghost use Rattle.std.specs.Prelude.{ℕ, Option, List, OnOk, OnErr};
 ghost use Rattle.ck_base.specs.Calls.{seen, PutDone, PutFailed};
 
