@@ -9,8 +9,8 @@ use Rattle.purecap_abi.specs.Ends.{before_store, epilogue_code, give_code, give_
 use Rattle.purecap_abi.specs.Ends.{keep_from, link_store, negative, prologue_code, stack_code, take_aligned, take_code}
 use Rattle.purecap_abi.specs.Saving.{behind_registers, keeps_stack, kept_homes, registers_at, stack_at}
 use Rattle.purecap_abi.specs.Words.{load_code, low, moved_code, near_code, wide_code}
-use Rattle.purecap_abi.specs.Way.{Way}
-use Rattle.purecap_abi.specs.Way.TheVariants.{ToFrame, FromFrame}
+use Rattle.purecap_abi.specs.declared.taking.Way.{Way}
+use Rattle.purecap_abi.specs.declared.taking.Way.TheVariants.{ToFrame, FromFrame}
 use Rattle.reg_alloc.specs.Placed.{IsRegister}
 use Rattle.reg_alloc.specs.declared.places.Home.{Home}
 use Rattle.rv_instr.specs.declared.instr.Instr.{Instr}

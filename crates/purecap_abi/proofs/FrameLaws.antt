@@ -12,12 +12,12 @@ use Rattle.reg_alloc.specs.declared.places.Home.{Home}
 use Rattle.obj_mem.specs.declared.map.Frame.{Frame}
 use Rattle.obj_mem.specs.declared.map.Slot.{Slot}
 use Rattle.obj_mem.specs.Legal.{ObjectNeed, FunctionNeed, alignment_of, room_of, Apart, slot_of, HasSlot}
-use Rattle.purecap_ends.specs.Saving.{kept_homes, kept_registers, is_home, stack_bytes, kept_bytes, saved_bytes}
-use Rattle.purecap_ends.specs.Saving.{AreHomes, IsFor, most_outgoing}
+use Rattle.purecap_abi.specs.Saving.{kept_homes, kept_registers, is_home, stack_bytes, kept_bytes, saved_bytes}
+use Rattle.purecap_abi.specs.Saving.{AreHomes, IsFor, most_outgoing}
 use Rattle.purecap_abi.specs.Placing.{greatest_of, object, ArePlaced, IsAny, slot_at, AreSlots}
 use Rattle.purecap_abi.specs.Frames.{AreLocals, room, asked, IsLegalFrame, HasFrame}
-use Rattle.purecap_ends.proofs.Counts.{slot_count_most}
-pub use Rattle.purecap_ends.proofs.Counts.{kept_most}
+use Rattle.purecap_abi.proofs.Counts.{slot_count_most}
+pub use Rattle.purecap_abi.proofs.Counts.{kept_most}
 use Rattle.purecap_abi.proofs.Placing.{greatest_least, greatest_most, greatest_power}
 
 -- ---- how much is saved

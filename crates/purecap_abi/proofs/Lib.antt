@@ -1,7 +1,7 @@
 pub mod Powers
 pub mod Placing
 pub mod FrameLaws
-pub use Rattle.purecap_words.proofs.Ranges
-pub use Rattle.purecap_words.proofs.Numbers
-pub use Rattle.purecap_ends.proofs.Counts
-pub use Rattle.purecap_ends.proofs.EndLaws
+pub mod Ranges
+pub mod Numbers
+pub mod Counts
+pub mod EndLaws

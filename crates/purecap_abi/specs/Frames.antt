@@ -6,7 +6,7 @@ use Rattle.reg_alloc.specs.declared.places.Home.{Home}
 use Rattle.obj_mem.specs.declared.map.Frame.{Frame}
 use Rattle.obj_mem.specs.declared.map.Slot.{Slot}
 use Rattle.obj_mem.specs.Legal.{ObjectNeed, FunctionNeed, IsFrame, owned_of, alignment_of}
-use Rattle.purecap_ends.specs.Saving.{saved_bytes}
+use Rattle.purecap_abi.specs.Saving.{saved_bytes}
 use Rattle.purecap_abi.specs.Placing.{greatest_of}
 
 -- ---- what is given

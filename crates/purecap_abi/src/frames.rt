@@ -2,14 +2,14 @@
 ghost use Rattle.std.specs.Prelude.{◌≡◌, ℕ, ◌+◌, ◌*◌, ◌%◌, ◌^◌, ◌<◌, ◌≤◌, length, sum_by, replicate, IfOk, OnOk};
 ghost use Rattle.std.specs.List.{All};
 ghost use Rattle.cap_concentrate.specs.Rounding.{rounded_up};
-ghost use Rattle.purecap_ends.specs.Saving.{AreHomes, IsFor, kept_bytes, most_outgoing};
+ghost use Rattle.purecap_abi.specs.Saving.{AreHomes, IsFor, kept_bytes, most_outgoing};
 ghost use Rattle.purecap_abi.specs.Placing.{greatest_of, ArePlaced, IsAny, AreSlots};
 ghost use Rattle.purecap_abi.specs.Frames.{IsLocal, AreLocals, room, HasFrame};
 
+use crate::saving::kept_bytes;
 use cap_layout::Owned;
 use ck_base::{NoMemory, Sequence};
 use obj_mem::{Frame, Slot};
-use purecap_ends::kept_bytes;
 use reg_alloc::Places;
 use std::alloc::Global;
 

@@ -28,7 +28,7 @@ use Rattle.obj_mem.specs.Values.{Value, capability_of}
 use Rattle.obj_mem.specs.declared.map.Frame.{Frame}
 use Rattle.reg_alloc.specs.declared.places.Home.{Home}
 use Rattle.reg_alloc.specs.Placed.{IsKept}
-use Rattle.purecap_abi.specs.Way.TheVariants.{ToFrame}
+use Rattle.purecap_abi.specs.declared.taking.Way.TheVariants.{ToFrame}
 use Rattle.purecap_abi.specs.Ends.{before_store, link_store, stack_code, keep_code, prologue_code}
 use Rattle.purecap_abi.specs.Saving.{registers_at, kept_homes, stack_at}
 use Rattle.tac_ir.specs.Costs.{cost, prologue_cost}

@@ -30,7 +30,7 @@ use Rattle.obj_mem.specs.Pointers.{keeps}
 use Rattle.obj_mem.specs.declared.map.Frame.{Frame}
 use Rattle.reg_alloc.specs.declared.places.Home.{Home}
 use Rattle.reg_alloc.specs.Placed.{IsKept}
-use Rattle.purecap_abi.specs.Way.TheVariants.{FromFrame}
+use Rattle.purecap_abi.specs.declared.taking.Way.TheVariants.{FromFrame}
 use Rattle.purecap_abi.specs.Ends.{keep_from, keep_code, give_plain, give_code, epilogue_code}
 use Rattle.purecap_abi.specs.Numbers.{number_after}
 use Rattle.purecap_abi.specs.Saving.{kept_homes, kept_registers, is_home, keeps_stack, stack_bytes, registers_at}

@@ -30,7 +30,7 @@ use Rattle.obj_mem.specs.declared.map.Frame.{Frame}
 use Rattle.obj_mem.specs.Pointers.{keeps}
 use Rattle.reg_alloc.specs.declared.places.Home.{Home}
 use Rattle.reg_alloc.specs.Placed.{IsKept}
-use Rattle.purecap_abi.specs.Way.TheVariants.{ToFrame}
+use Rattle.purecap_abi.specs.declared.taking.Way.TheVariants.{ToFrame}
 use Rattle.purecap_abi.specs.Ends.{before_store, link_store, stack_code, keep_code, prologue_code}
 use Rattle.purecap_abi.specs.Saving.{IsFor, kept_homes, keeps_stack, stack_bytes, registers_at, behind_registers}
 use Rattle.purecap_abi.specs.Saving.{stack_at}

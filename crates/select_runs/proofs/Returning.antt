@@ -24,7 +24,7 @@ use Rattle.obj_mem.specs.Objects.{base_in}
 use Rattle.obj_mem.specs.Table.{addresses_of}
 use Rattle.obj_mem.specs.Values.{Value, Int, capability_of}
 use Rattle.reg_alloc.specs.Placed.{IsKept}
-use Rattle.purecap_abi.specs.Way.TheVariants.{FromFrame}
+use Rattle.purecap_abi.specs.declared.taking.Way.TheVariants.{FromFrame}
 use Rattle.purecap_abi.specs.Ends.{epilogue_code, keep_code, give_code}
 use Rattle.purecap_abi.specs.Saving.{registers_at, kept_homes, stack_at}
 use Rattle.purecap_abi.proofs.EndLaws.{epilogue_most}

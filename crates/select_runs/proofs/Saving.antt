@@ -15,7 +15,7 @@ use Rattle.tag_mem.specs.Areas.{IsMemory, is_inside}
 use Rattle.cap_machine.specs.declared.machine.Machine.{Machine}
 use Rattle.cap_machine.specs.State.{register}
 use Rattle.obj_mem.specs.Pointers.{keeps}
-use Rattle.purecap_abi.specs.Way.TheVariants.{ToFrame}
+use Rattle.purecap_abi.specs.declared.taking.Way.TheVariants.{ToFrame}
 use Rattle.purecap_abi.specs.Ends.{keep_from, keep_code}
 use Rattle.purecap_abi.specs.Words.{low, near_code, store_code, moved_code}
 use Rattle.place_inject.specs.Objects.{SameOutside}

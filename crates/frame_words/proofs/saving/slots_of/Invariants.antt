@@ -1,9 +1,0 @@
-use Rattle.std.proofs.Common.{◌≡◌, ◌≤◌, take}
-use Rattle.frame_words.specs.Saving.{slot_count}
-use Rattle.frame_words.proofs.saving.slots_of.Given as goal
-
-abbrev pub invariant-loop-home : goal.invariant-loop-home
-invariant-loop-home l = record {
-  value : l.count ≡ slot_count (take l.home-index l.home-items);
-  small : l.count ≤ 4294967296;
-}

@@ -1,2 +1,0 @@
-pub use Rattle.frame_words.proofs.Counts
-pub use Rattle.frame_words.proofs.EndLaws
