@@ -4,7 +4,7 @@ use Rattle.std.proofs.Common.{get_or, map, refl, ap, ◌∙◌, arith}
 use Rattle.std.specs.List.{zip}
 use Rattle.std.proofs.Math.Seq.{drop-cons}
 use Rattle.std.proofs.lemmas.List.{map-append}
-use Rattle.whole_pointers.specs.declared.pointers.Pointer.{Pointer}
+use Rattle.cap_reloc.specs.declared.whole_pointers.Pointer.{Pointer}
 use Rattle.cap_reloc.specs.Initial.{Content, byte_in, byte_of, lowest, highest}
 use Rattle.cap_reloc.specs.Pointers.{extent_of}
 use Rattle.cap_reloc.proofs.Rows.{zip_more}

@@ -22,7 +22,7 @@ use Rattle.obj_mem.specs.declared.map.Map.{Map}
 use Rattle.obj_mem.specs.Legal.{ObjectNeed, owned_of, alignment_of, AreAligned}
 use Rattle.obj_mem.specs.Needs.{nothing_of, need_by, global_need, literal_need, is_const, weight_in, Legal}
 use Rattle.obj_mem.specs.Table.{table_length, entry_count}
-use Rattle.whole_pointers.specs.declared.pointers.Pointer.{Pointer}
+use Rattle.cap_reloc.specs.declared.whole_pointers.Pointer.{Pointer}
 use Rattle.cap_reloc.specs.Begins.{asked_by, IsInside}
 use Rattle.cap_reloc.specs.Initial.{AreInitial}
 use Rattle.cap_reloc.specs.Pointers.{table_pointers, entries, link_reloc, link_relocs}

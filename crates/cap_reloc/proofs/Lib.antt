@@ -10,3 +10,4 @@ pub mod Rows
 pub mod Sizes
 pub mod Starts
 pub mod Under
+pub mod OwnedSizes

@@ -9,7 +9,7 @@ use Rattle.obj_mem.specs.Agreement.{Paired}
 use Rattle.obj_mem.specs.Legal.{ObjectNeed, owned_of, placed_at}
 use Rattle.obj_mem.specs.Standing.{HasBounds, HaveBounds}
 use Rattle.obj_mem.proofs.Pairs.{join_both}
-use Rattle.whole_pointers.specs.declared.pointers.Pointer.{Pointer}
+use Rattle.cap_reloc.specs.declared.whole_pointers.Pointer.{Pointer}
 use Rattle.cap_reloc.specs.Pointers.{whole, extent_of}
 
 pub pairs_length : {X Y : Type 0} (f : X × ℕ → Y) (xs : List X) (bs : List ℕ) → length bs ≡ length xs →

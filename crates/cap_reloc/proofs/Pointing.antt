@@ -31,7 +31,7 @@ use Rattle.obj_mem.specs.Needs.{global_need, literal_need, is_const, weight_in, 
 use Rattle.obj_mem.specs.Standing.{HasBounds, HaveBounds}
 use Rattle.obj_mem.proofs.Fitting.{part_encodable}
 use Rattle.obj_mem.proofs.Spread.{objects_are_exact_law}
-use Rattle.whole_pointers.specs.declared.pointers.Pointer.{Pointer}
+use Rattle.cap_reloc.specs.declared.whole_pointers.Pointer.{Pointer}
 use Rattle.cap_reloc.specs.Begins.{asked_by}
 use Rattle.cap_reloc.specs.Pointers.{whole, global_pointer, literal_pointer, object_pointers, sentry, heap}
 use Rattle.cap_reloc.specs.Pointers.{table_pointers, entries, entry_of, linked, narrowed, pointer_at, no_pointer}

@@ -5,7 +5,7 @@ use Rattle.std.specs.List.{zip, flat_map}
 use Rattle.std.proofs.lemmas.List.{take_more, take_all, length-take-le, flat_map_more, append_assoc, append-nil}
 use Rattle.std.proofs.lemmas.Slice.Zip.{length-zip, get_or-zip}
 use Rattle.elf_file.specs.declared.image.Reloc.{Reloc}
-use Rattle.whole_pointers.specs.declared.pointers.Pointer.{Pointer}
+use Rattle.cap_reloc.specs.declared.whole_pointers.Pointer.{Pointer}
 use Rattle.cap_reloc.specs.Pointers.{stored, entries}
 
 entries_push : (place : ℕ) (cs : List Pointer) (c : Pointer) →

@@ -13,7 +13,7 @@ use Rattle.obj_mem.specs.Legal.{ObjectNeed, owned_of}
 use Rattle.obj_mem.specs.Standing.{HaveBounds}
 use Rattle.obj_mem.specs.Table.{Start, Holds, WholeHeap, pointer_to, pointers_to, sentries_from, start_capability}
 use Rattle.obj_mem.specs.Table.{addresses_of, object_base}
-use Rattle.whole_pointers.specs.declared.pointers.Pointer.{Pointer}
+use Rattle.cap_reloc.specs.declared.whole_pointers.Pointer.{Pointer}
 use Rattle.cap_reloc.specs.Begins.{entries_from, relocation_of, stored_by, IsRelocation}
 use Rattle.cap_reloc.specs.Pointers.{whole, sentry, heap, stored, entries}
 

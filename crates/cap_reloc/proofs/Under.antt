@@ -33,13 +33,13 @@ use Rattle.obj_mem.proofs.Pairs.{join_both}
 use Rattle.obj_mem.proofs.Spread.{objects_are_exact_law}
 use Rattle.ck_int.specs.Kinds.{kept_of}
 use Rattle.cap_ops.specs.Permissions.{data_permissions, const_permissions}
-use Rattle.whole_pointers.specs.declared.pointers.Pointer.{Pointer}
+use Rattle.cap_reloc.specs.declared.whole_pointers.Pointer.{Pointer}
 use Rattle.cap_reloc.specs.Begins.{asked_by, beginning, links_begun, link_begun, IsRelocation}
 use Rattle.cap_reloc.specs.Initial.{lowest, highest}
 use Rattle.cap_reloc.specs.Pointers.{global_pointer, literal_pointer, object_pointers, sentry, heap, table_pointers}
 use Rattle.cap_reloc.specs.Pointers.{extent_of, entries, entry_of, linked, narrowed, pointer_at, no_pointer, link_reloc}
 use Rattle.cap_reloc.specs.Pointers.{link_relocs, stored, LieIn, GlobalsLieIn, LiteralsLieIn}
-use Rattle.whole_pointers.proofs.Sizes.{owned_most}
+use Rattle.cap_reloc.proofs.OwnedSizes.{owned_most}
 use Rattle.cap_reloc.proofs.Contents.{lowest_at, highest_at}
 use Rattle.cap_reloc.proofs.Pairs.{pairs_length, pair_at, pairs_joined, exact_pairs, exact_at, below_all, extents_are}
 use Rattle.cap_reloc.proofs.Starts.{Matches, part_matches, row_matches, sentry_matches, sentries_match, heap_matches}

@@ -3,3 +3,4 @@ pub mod Initial
 pub mod Stored
 pub mod Pointers
 pub mod Levels
+pub mod Whole

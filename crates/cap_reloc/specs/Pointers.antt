@@ -14,8 +14,8 @@ use Rattle.c_tree.specs.declared.typed.Target.{Target}
 use Rattle.c_tree.specs.declared.typed.Target.TheVariants as target
 use Rattle.obj_mem.specs.declared.map.Map.{Map}
 use Rattle.obj_mem.specs.Needs.{global_need}
-use Rattle.whole_pointers.specs.declared.pointers.Pointer.{Pointer}
-pub use Rattle.whole_pointers.specs.Whole.{whole, literal_pointer}
+use Rattle.cap_reloc.specs.declared.whole_pointers.Pointer.{Pointer}
+pub use Rattle.cap_reloc.specs.Whole.{whole, literal_pointer}
 
 -- ---- of whole objects, functions and the heap
 

@@ -5,12 +5,12 @@ ghost use Rattle.cap_concentrate.specs.Rounding.{rounded_up};
 ghost use Rattle.cap_reloc.specs.Initial.{byte_in, byte_of, global_contents, literal_contents, contents, lowest};
 ghost use Rattle.cap_reloc.specs.Initial.{highest};
 ghost use Rattle.cap_reloc.specs.Pointers.{extent_of, LieIn, GlobalsLieIn, LiteralsLieIn};
-ghost use Rattle.whole_pointers.specs.declared.pointers.Pointer.{Pointer};
+ghost use Rattle.cap_reloc.specs.declared.whole_pointers.Pointer.{Pointer};
 
+use crate::whole_pointers::Pointer;
 use c_tree::Typed;
 use obj_mem::Map;
 use std::alloc::{AllocError, Global};
-use whole_pointers::Pointer;
 
 /// Where the initial data stand.
 #[derive(Clone, Copy)]

@@ -8,11 +8,11 @@ ghost use Rattle.cap_reloc.specs.Levels.{const_by};
 ghost use Rattle.cap_reloc.specs.Pointers.{global_pointer, literal_pointer, object_pointers, sentry, heap};
 ghost use Rattle.cap_reloc.specs.Pointers.{table_pointers};
 
+use crate::whole_pointers::{CONST, DATA, Pointer, literal_pointer, whole};
 use c_tree::{CType, GlobalDef, Typed};
 use cap_layout::Layouts;
 use obj_mem::Map;
 use std::alloc::{AllocError, Global};
-use whole_pointers::{CONST, DATA, Pointer, literal_pointer, whole};
 
 /// A sentry with Global and Execute.
 const SENTRY: u64 = 0x8000_0000_0000_0003;

@@ -7,11 +7,11 @@ ghost use Rattle.c_tree.specs.declared.typed.Link.{Link};
 ghost use Rattle.cap_reloc.specs.Pointers.{stored, entries, entry_of, narrowed, linked, pointer_at, link_reloc};
 ghost use Rattle.cap_reloc.specs.Pointers.{link_relocs};
 
+use crate::whole_pointers::Pointer;
 use c_tree::{Link, Target, Typed};
 use elf_file::Reloc;
 use obj_mem::Map;
 use std::alloc::{AllocError, Global};
-use whole_pointers::Pointer;
 
 // The relocation that stores a pointer at a place.
 fn stored(place: u64, c: Pointer) -> Reloc

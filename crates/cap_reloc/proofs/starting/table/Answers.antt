@@ -4,7 +4,7 @@ use Rattle.cap_concentrate.specs.Rounding.{rounded_up}
 use Rattle.c_tree.specs.declared.typed.GlobalDef.{GlobalDef}
 use Rattle.c_tree.specs.declared.typed.Link.{Link}
 use Rattle.obj_mem.specs.Agreement.{Paired}
-use Rattle.whole_pointers.specs.declared.pointers.Pointer.{Pointer}
+use Rattle.cap_reloc.specs.declared.whole_pointers.Pointer.{Pointer}
 use Rattle.cap_reloc.specs.Begins.{beginning, IsRelocation, IsInside}
 use Rattle.c_tree.specs.declared.typed.Typed.{Typed}
 use Rattle.typing_laws.proofs.Sound.{well_typed}

@@ -1,7 +1,7 @@
 //! The pointers to whole objects.
 ghost use Rattle.std.specs.Prelude.{◌≡◌, ◌^◌, ◌<◌};
 ghost use Rattle.cap_concentrate.specs.Rounding.{owned};
-ghost use Rattle.whole_pointers.specs.Whole.{literal_pointer};
+ghost use Rattle.cap_reloc.specs.Whole.{literal_pointer};
 
 use c_tree::Literal;
 use cap_concentrate::rounded_length;
@@ -25,7 +25,7 @@ pub const DATA: u64 = 0b111_1101;
 pub const CONST: u64 = 0b1_0101;
 
 /// The pointer to a whole object of `size` bytes.
-#[tactic(auto, using(crate::proofs::Sizes::owned_fits))]
+#[tactic(auto, using(crate::proofs::OwnedSizes::owned_fits))]
 pub fn whole(base: u64, size: u64, perms: u64) -> Pointer
     requires { size < 2 ^ 63 }
     ensures { result ≡ record { base = base; offset = 0; length = owned size; perms = perms } }

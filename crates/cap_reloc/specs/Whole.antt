@@ -3,7 +3,7 @@ use Rattle.std.specs.Prelude.{ℕ}
 use Rattle.c_tree.specs.declared.typed.Literal.{Literal}
 use Rattle.obj_mem.specs.Legal.{ObjectNeed, owned_of}
 use Rattle.obj_mem.specs.Needs.{literal_need}
-use Rattle.whole_pointers.specs.declared.pointers.Pointer.{Pointer}
+use Rattle.cap_reloc.specs.declared.whole_pointers.Pointer.{Pointer}
 
 abbrev pub whole : ObjectNeed → ℕ → Pointer
 whole n base = record { base = base; offset = 0; length = owned_of n; perms = n.permissions }
