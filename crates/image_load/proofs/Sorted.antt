@@ -15,7 +15,7 @@ use Rattle.image_load.specs.Judging.{overlap, some_overlap, lies_inside, is_entr
 use Rattle.image_load.specs.Judging.{is_capability, guard, judged_relocs, then_judged, judged}
 use Rattle.image_load.specs.Loading.{Loads}
 use Rattle.image_load.specs.State.{region_of, with_region, regions_of}
-use Rattle.image_registers.proofs.Exact.{and_both}
+use Rattle.image_load.proofs.Exact.{and_both}
 use Rattle.image_load.proofs.Walk.{passed}
 
 -- ---- extents that lie well and apart

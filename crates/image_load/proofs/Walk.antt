@@ -14,7 +14,7 @@ use Rattle.image_load.specs.declared.refusal.LoadRefusal.TheVariants as refusal
 use Rattle.image_load.specs.Judging.{Extent, Judged, end_of, is_encodable, is_place, is_capability, capability_of}
 use Rattle.image_load.specs.Judging.{judged_relocs}
 use Rattle.image_load.specs.State.{relocated}
-use Rattle.image_registers.proofs.Exact.{and_both}
+use Rattle.image_load.proofs.Exact.{and_both}
 
 -- ---- the list from a place on
 

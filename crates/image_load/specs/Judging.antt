@@ -5,8 +5,8 @@ use Rattle.cap_ops.specs.declared.capability.Cap.{Cap}
 use Rattle.cap_ops.specs.declared.capability.TheConstants.{UNSEALED, SENTRY}
 use Rattle.cap_ops.specs.Capability.{base, top}
 use Rattle.cap_ops.specs.Bounded.{bounded}
-pub use Rattle.image_registers.specs.Extents.{Extent, end_of}
-unfoldable pub use Rattle.image_registers.specs.Extents.{is_encodable}
+pub use Rattle.image_load.specs.Extents.{Extent, end_of}
+unfoldable pub use Rattle.image_load.specs.Extents.{is_encodable}
 use Rattle.elf_file.specs.declared.image.Image.{Image}
 use Rattle.elf_file.specs.declared.image.Reloc.{Reloc}
 use Rattle.image_load.specs.declared.refusal.LoadRefusal.{LoadRefusal}

@@ -2,3 +2,4 @@ pub mod Judging
 pub mod State
 pub mod Loading
 pub mod Contained
+pub mod Extents

@@ -3,7 +3,7 @@ use Rattle.std.specs.Prelude.{ℕ, ◌==◌, true, false, List, [], ◌∷◌, n
 use Rattle.std.specs.List.{insert, prefix_len}
 use Rattle.cap_ops.specs.declared.capability.Cap.{Cap}
 use Rattle.cap_ops.specs.Permissions.{code_permissions}
-pub use Rattle.image_registers.specs.Extents.{of_extent, registers}
+pub use Rattle.image_load.specs.Extents.{of_extent, registers}
 use Rattle.tag_mem.specs.Areas.{Area}
 use Rattle.tag_mem.specs.Memory.{written}
 use Rattle.tag_mem.specs.Numbers.{little_bytes}

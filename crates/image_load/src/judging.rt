@@ -6,13 +6,13 @@ ghost use Rattle.cap_ops.specs.Capability.{base, top};
 ghost use Rattle.elf_file.specs.Image.{words_of};
 
 use crate::extent::{
-    is_entry, is_permission_word, is_place, is_sentry, lies_inside, segments_fit, some_overlap,
+    Extent, bounded, is_encodable, is_entry, is_permission_word, is_place, is_sentry, lies_inside,
+    segments_fit, some_overlap,
 };
 use crate::refusal::LoadRefusal;
 use cap_concentrate::bounds_of;
 use cap_ops::{Cap, SENTRY, UNSEALED};
 use elf_file::{Reloc, View};
-use image_registers::{Extent, bounded, is_encodable};
 
 /// Image word k.
 fn word(view: &View<'_>, k: u8) -> u64

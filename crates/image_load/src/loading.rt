@@ -10,6 +10,8 @@ ghost use Rattle.image_load.specs.Contained.{text_in, Contained};
 ghost use Rattle.cap_machine.specs.Containment.{IsContained, RunsContained};
 ghost use Rattle.cap_machine.specs.Rows.{memory_bits};
 
+use crate::beginning::registers;
+use crate::extent::{Extent, bounded};
 use crate::judging::{
     capability_of, entry_of, heap_of, initial_of, judge, stack_of, table_of, text_of,
 };
@@ -19,7 +21,6 @@ use cap_machine::Machine;
 use cap_ops::{Cap, UNSEALED};
 use ck_base::NoMemory;
 use elf_file::View;
-use image_registers::{Extent, bounded, registers};
 use std::alloc::Global;
 use tag_mem::{Mem, Region};
 

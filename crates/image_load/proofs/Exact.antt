@@ -3,7 +3,7 @@ use Rattle.std.proofs.Common.{◌≡◌, ◌≤◌, ◌^◌, Bool, true, false, 
 use Rattle.std.specs.Prelude.{◌&&◌}
 use Rattle.std.proofs.lemmas.Bool.{eqb-true, leb-true}
 use Rattle.cap_concentrate.specs.Rounding.{least_base, least_top}
-use Rattle.image_registers.specs.Extents.{Extent, end_of, is_encodable}
+use Rattle.image_load.specs.Extents.{Extent, end_of, is_encodable}
 
 pub and_both : (a b : Bool) → (a && b) ≡ true → (a ≡ true) × (b ≡ true)
 and_both true b h = (refl, h)

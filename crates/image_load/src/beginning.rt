@@ -1,8 +1,8 @@
 //! The registers with which a machine begins.
 ghost use Rattle.std.specs.Prelude.{◌≡◌, ◌<◌, ◌^◌, true};
-ghost use Rattle.image_registers.specs.Extents.{end_of, is_encodable, registers};
+ghost use Rattle.image_load.specs.Extents.{end_of, is_encodable, registers};
 
-use crate::extents::{Extent, bounded};
+use crate::extent::{Extent, bounded};
 use cap_ops::{Cap, UNSEALED, null};
 
 /// All permissions but Execute.

@@ -3,8 +3,8 @@ use Rattle.cap_concentrate.specs.declared.fields.Fields.{Fields}
 use Rattle.cap_concentrate.specs.Packing.{same_fields}
 use Rattle.cap_concentrate.specs.Encoding.{with_bounds, encoded_internal, encoded_t, encoded_b}
 use Rattle.cap_ops.specs.declared.capability.Cap.{Cap}
-use Rattle.image_registers.proofs.Exact.{exact_facts}
-use Rattle.image_registers.proofs.extents.bounded.Goals as goal
+use Rattle.image_load.proofs.Exact.{exact_facts}
+use Rattle.image_load.proofs.extent.bounded.Goals as goal
 
 pub set_bounds-bounds-requires : goal.set_bounds-bounds-requires
 set_bounds-bounds-requires c = (exact_facts c.args.e c.requires.exact).0
