@@ -2,7 +2,7 @@
 use Rattle.std.specs.Prelude.{ℕ}
 use Rattle.elf_file.specs.declared.image.Image.{Image}
 use Rattle.image_load.specs.Contained.{text_in, Contained}
-use Rattle.audit_rules.specs.Rules.{IsFirstWord, IsFirstReloc}
+use Rattle.elf_audit.specs.Rules.{IsFirstWord, IsFirstReloc}
 use Rattle.elf_audit.specs.declared.verdict.Verdict.{Verdict}
 use Rattle.elf_audit.specs.declared.verdict.Verdict.TheVariants as verdict
 

@@ -6,9 +6,9 @@ ghost use Rattle.image_load.specs.Contained.{Contained};
 ghost use Rattle.elf_audit.specs.Audit.{Answers};
 ghost use Rattle.elf_audit.specs.declared.verdict.Verdict.TheVariants.{Yes};
 
+use crate::finding::{first_reloc, first_word};
+use crate::reached::reached;
 use crate::verdict::Verdict;
-use audit_rules::reached::reached;
-use audit_rules::{first_reloc, first_word};
 use ck_base::NoMemory;
 use elf_file::View;
 use std::alloc::Global;

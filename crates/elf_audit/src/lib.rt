@@ -2,13 +2,17 @@
 //! a word that is no instruction.
 //!
 //! Promise: `audit` says yes exactly where the image is contained, and else names the first word or relocation that
-//! breaks a rule.
-//! Definitions (`specs/`): `Audit`; `Contained` of `image_load`; `Rules` of `audit_rules`.
-//! Main lemmas (`proofs/`): `AuditedImage` of `audit_rules`.
+//! breaks a rule, with the least reason of the definition.
+//! Definitions (`specs/`): `Audit`, `Rules`; `Contained` of `image_load`.
+//! Main lemmas (`proofs/`): `Audited`, `AuditedImage`.
 #![tactic(auto)]
 
 mod auditing;
+mod finding;
+mod reached;
+mod rules;
 mod verdict;
+mod words;
 
 pub use auditing::audit;
 pub use verdict::Verdict;

@@ -1,7 +1,7 @@
 use Rattle.std.proofs.Common.{arith}
-use Rattle.audit_rules.proofs.AuditedImage.{contained_image, no_word, no_reloc}
-use Rattle.audit_rules.proofs.Noted.{none_there}
-use Rattle.audit_rules.specs.Rules.{reloc_reason}
+use Rattle.elf_audit.proofs.AuditedImage.{contained_image, no_word, no_reloc}
+use Rattle.elf_audit.proofs.Noted.{none_there}
+use Rattle.elf_audit.specs.Rules.{reloc_reason}
 use Rattle.image_load.specs.Contained.{text_in}
 use Rattle.elf_audit.proofs.auditing.audit.Goals as goal
 

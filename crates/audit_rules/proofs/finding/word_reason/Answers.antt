@@ -1,7 +1,0 @@
-use Rattle.std.proofs.Common.{arith}
-use Rattle.audit_rules.proofs.Sizes.{fits}
-use Rattle.audit_rules.proofs.finding.word_reason.Goals as goal
-
-pub overflow_add-at : goal.overflow_add-at
-overflow_add-at c = let high = (fits c.args.view.now c.requires.fine).high in
-    omega (arith, c.requires.inside, c.place_of-at.ensures)
