@@ -6,7 +6,7 @@ use Rattle.bounds_place.specs.declared.sizes.Sizes.{Sizes}
 use Rattle.bounds_place.specs.Sizes.{in_range, usual}
 use Rattle.clap.specs.Faults.{fault_of}
 use Rattle.clap.specs.Words.{App, Text, first_of, matches_of, new_app, with_rule}
-use Rattle.command_words.specs.Rules.{word_rule, option_rule}
+use Rattle.command_line.specs.Rules.{word_rule, option_rule}
 
 -- What is done with a file: its C program is built and run, or is built and put under a name; its image is run, or is
 -- audited; its C program is run by its strict meaning; or it is built, and the map or the listing shown.

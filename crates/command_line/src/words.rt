@@ -5,11 +5,11 @@ ghost use Rattle.clap.specs.Words.{app_of, first_value, found_of};
 ghost use Rattle.command_line.specs.Lines.{Line as LineOf, IsLine, Takes, command, given_in};
 ghost use Rattle.command_line.specs.Asked.{line_of, IsLineInRange};
 
+use crate::arguments::{option, word};
 use crate::line::{Line, line_in};
 use ck_base::NoMemory;
 use clap::error::ErrorKind;
 use clap::{ArgMatches, Command};
-use command_words::{option, word};
 use std::alloc::Global;
 
 /// The command, as `clap` reads it.

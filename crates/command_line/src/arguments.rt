@@ -2,7 +2,7 @@
 
 ghost use Rattle.std.specs.Prelude.{◌≡◌, false};
 ghost use Rattle.clap.specs.Words.{rule_of};
-ghost use Rattle.command_words.specs.Rules.{option_rule, word_rule};
+ghost use Rattle.command_line.specs.Rules.{option_rule, word_rule};
 
 use clap::Arg;
 use std::alloc::Global;
