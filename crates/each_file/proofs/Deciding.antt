@@ -26,7 +26,7 @@ use Rattle.typing_laws.proofs.Accepted.{fit_of_tokens}
 use Rattle.written_programs.proofs.Written.{written}
 use Rattle.written_programs.proofs.Whole.{typed_whole}
 use Rattle.written_programs.proofs.Tagged.{typed_tags}
-use Rattle.c_codes.specs.Codes.{IsTypingCode}
+use Rattle.typing_laws.specs.Codes.{IsTypingCode}
 use Rattle.each_file.specs.Each.{IsAccepted, IsRefused, EachFile}
 
 -- ---- the room of objects

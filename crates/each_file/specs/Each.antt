@@ -6,7 +6,7 @@ use Rattle.c_tree.specs.declared.typed.Typed.{Typed}
 use Rattle.c_tree.specs.Syntax.{Syn}
 use Rattle.c_tree.specs.Typing.{RefusesSyntax}
 use Rattle.c_tree.specs.File.{IsRead, Accepts, Refused}
-use Rattle.c_codes.specs.Codes.{IsTypingCode}
+use Rattle.typing_laws.specs.Codes.{IsTypingCode}
 
 -- it is accepted, as some program
 abbrev pub IsAccepted : List ℕ → Type 0

@@ -8,7 +8,7 @@
 
 ghost use Rattle.each_file.specs.Each.{EachFile};
 
-use c_codes::typing_codes;
+use typing_laws::codes::typing_codes;
 use c_lex::token_count;
 use c_parse::{one_file, readings_are_trees};
 

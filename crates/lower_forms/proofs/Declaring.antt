@@ -19,7 +19,7 @@ use Rattle.c_tree.specs.declared.typed.StmtKind.TheVariants as stmts
 use Rattle.c_tree.specs.declared.typed.Typed.{Typed}
 use Rattle.c_tree.specs.declared.typed.VarDef.{VarDef}
 use Rattle.typing_laws.proofs.Sound.{well_typed}
-use Rattle.c_scopes.specs.Scoping.{IsAmong}
+use Rattle.typing_laws.specs.Scoping.{IsAmong}
 use Rattle.cheri_c_sem.specs.Expressions.{expr_tree}
 use Rattle.cheri_c_sem.specs.Programs as means
 use Rattle.cheri_c_sem.specs.Programs.{function_tree, lengths_of, parameter_of, statements, stmt_tree, stmt_kind_tree}

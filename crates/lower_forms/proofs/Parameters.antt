@@ -17,7 +17,7 @@ use Rattle.c_tree.specs.declared.typed.Typed.{Typed}
 use Rattle.c_tree.specs.declared.typed.VarDef.{VarDef}
 use Rattle.c_tree.proofs.Forest.{forest_reads}
 use Rattle.typing_laws.proofs.Sound.{well_typed}
-use Rattle.c_values.proofs.Whole.{parameters_fit}
+use Rattle.typing_laws.proofs.values.Whole.{parameters_fit}
 use Rattle.cheri_c_sem.specs.Kinds.{Kind}
 use Rattle.cheri_c_sem.specs.Types.{scalar_of}
 use Rattle.tac_ir.specs.Meaning.{kinds_of}

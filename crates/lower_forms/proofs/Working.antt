@@ -27,7 +27,7 @@ use Rattle.c_tree.specs.declared.typed.UnaryOp.{UnaryOp}
 use Rattle.c_tree.specs.declared.typed.UnaryOp.TheVariants as unary
 use Rattle.c_tree.specs.declared.typed.VarDef.{VarDef}
 use Rattle.typing_laws.proofs.Sound.{well_typed}
-use Rattle.c_values.specs.Valued.{IsValue, IsPlace, IsComputed}
+use Rattle.typing_laws.specs.Valued.{IsValue, IsPlace, IsComputed}
 use Rattle.cheri_c_sem.specs.Expressions as meant
 use Rattle.cheri_c_sem.specs.Expressions.{kind_tree, expr_tree, arguments, compound_by, step_operation, sign_of}
 use Rattle.cheri_c_sem.specs.Kinds.{Kind, Plain, Capability, int_kind}

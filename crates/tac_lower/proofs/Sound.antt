@@ -17,7 +17,7 @@ use Rattle.c_tree.specs.declared.typed.FunDef.{FunDef}
 use Rattle.c_tree.specs.declared.typed.Typed.{Typed}
 use Rattle.c_tree.specs.declared.typed.VarDef.{VarDef}
 use Rattle.typing_laws.proofs.Sound.{well_typed}
-use Rattle.c_values.proofs.Whole.{parameters_fit}
+use Rattle.typing_laws.proofs.values.Whole.{parameters_fit}
 use Rattle.cheri_c_sem.specs.Expressions.{expr_tree}
 use Rattle.cheri_c_sem.specs.Order.{Ordered}
 use Rattle.cheri_c_sem.specs.Programs.{stmt_tree}

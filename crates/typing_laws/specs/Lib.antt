@@ -1,1 +1,4 @@
 pub mod Fitting
+pub mod Scoping
+pub mod Valued
+pub mod Codes

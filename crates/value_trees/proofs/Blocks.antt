@@ -7,7 +7,7 @@ use Rattle.std.proofs.lemmas.Option.{same_Some}
 use Rattle.c_tree.specs.Views.{times_in}
 use Rattle.c_tree.specs.declared.typed.Typed.{Typed}
 use Rattle.c_tree.specs.declared.typed.VarDef.{VarDef}
-use Rattle.c_scopes.specs.Scoping.{IsAmong}
+use Rattle.typing_laws.specs.Scoping.{IsAmong}
 use Rattle.cheri_c_sem.specs.Programs.{declared}
 use Rattle.cheri_c_sem.specs.Tree.{Declared, Simple, Objects}
 use Rattle.cheri_c_sem.specs.Types.{is_simple, objects_before}

@@ -23,8 +23,8 @@ use Rattle.c_tree.specs.declared.typed.StmtKind.TheVariants as stmts
 use Rattle.c_tree.specs.declared.typed.Typed.{Typed}
 use Rattle.c_tree.specs.declared.typed.VarDef.{VarDef}
 use Rattle.typing_laws.proofs.Sound.{well_typed}
-use Rattle.c_values.specs.Valued.{AreScalars, is_plain, IsValue, IsPlace, ActionValued, AreValues}
-use Rattle.c_values.proofs.Whole.{valued}
+use Rattle.typing_laws.specs.Valued.{AreScalars, is_plain, IsValue, IsPlace, ActionValued, AreValues}
+use Rattle.typing_laws.proofs.values.Whole.{valued}
 use Rattle.cheri_c_sem.specs.Expressions as meant
 use Rattle.cheri_c_sem.specs.Types.{is_record, is_simple}
 use Rattle.value_trees.specs.Nodes.{IsUsed, IsExpr, Names, handed_on, HasRecord, HasScalar, NodesFit}

@@ -26,7 +26,7 @@ use Rattle.c_tree.specs.declared.typed.Typed.{Typed}
 use Rattle.c_tree.specs.declared.typed.VarDef.{VarDef}
 use Rattle.c_tree.proofs.Forest.{forest_reads}
 use Rattle.typing_laws.proofs.Sound.{well_typed}
-use Rattle.c_values.specs.Valued.{IsValue, IsPlace}
+use Rattle.typing_laws.specs.Valued.{IsValue, IsPlace}
 use Rattle.cheri_c_sem.specs.Expressions as meant
 use Rattle.cheri_c_sem.specs.Types.{size_of_extent}
 use Rattle.value_trees.specs.Nodes.{IsUsed, IsExpr, type_at}

@@ -15,7 +15,7 @@ use Rattle.c_tree.specs.declared.typed.ExprKind.TheVariants as exprs
 use Rattle.c_tree.specs.declared.typed.Typed.{Typed}
 use Rattle.c_tree.specs.declared.typed.VarDef.{VarDef}
 use Rattle.typing_laws.proofs.Sound.{well_typed}
-use Rattle.c_values.specs.Valued.{IsValue, IsPlace}
+use Rattle.typing_laws.specs.Valued.{IsValue, IsPlace}
 use Rattle.cheri_c_sem.specs.Expressions.{kind_tree, expr_tree}
 use Rattle.cheri_c_sem.specs.Tree.{Variable, Local}
 use Rattle.cheri_c_sem.specs.Types.{is_simple, objects_before}

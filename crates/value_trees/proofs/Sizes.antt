@@ -19,7 +19,7 @@ use Rattle.c_tree.specs.declared.syntax.RecordKind.TheVariants as kinds
 use Rattle.c_tree.proofs.Aligned.{alignment_is_power}
 use Rattle.typing_laws.proofs.Divides.{power_pos}
 use Rattle.typing_laws.proofs.Extents.{tree_up}
-use Rattle.c_values.specs.Valued.{is_plain}
+use Rattle.typing_laws.specs.Valued.{is_plain}
 use Rattle.cap_concentrate.specs.Rounding.{alignment}
 use Rattle.cap_concentrate.proofs.Laws.{owned_ge}
 use Rattle.cap_concentrate.proofs.Least.{rounded_up_ge}

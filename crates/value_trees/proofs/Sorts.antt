@@ -15,7 +15,7 @@ use Rattle.c_tree.specs.declared.typed.CType.{CType}
 use Rattle.c_tree.specs.declared.typed.CType.TheVariants as types
 use Rattle.c_tree.specs.declared.typed.Typed.{Typed}
 use Rattle.c_tree.proofs.Forest.{forest_reads}
-use Rattle.c_values.specs.Valued.{is_plain}
+use Rattle.typing_laws.specs.Valued.{is_plain}
 use Rattle.cheri_c_sem.specs.Kinds.{Kind}
 use Rattle.cheri_c_sem.specs.Types.{scalar_of, is_record, is_void}
 

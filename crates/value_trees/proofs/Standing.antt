@@ -21,8 +21,8 @@ use Rattle.c_tree.specs.declared.typed.Typed.{Typed}
 use Rattle.c_tree.specs.declared.typed.UnaryOp.{UnaryOp}
 use Rattle.c_tree.specs.declared.typed.UnaryOp.TheVariants as unary
 use Rattle.c_tree.specs.declared.typed.VarDef.{VarDef}
-use Rattle.c_scopes.specs.Scoping.{IsAmong, TermScoped, TermsScoped}
-use Rattle.c_values.specs.Valued.{AreScalars, IsValue, IsPlace, AreAsked}
+use Rattle.typing_laws.specs.Scoping.{IsAmong, TermScoped, TermsScoped}
+use Rattle.typing_laws.specs.Valued.{AreScalars, IsValue, IsPlace, AreAsked}
 use Rattle.cheri_c_sem.specs.Expressions.{constant, kind_tree, expr_tree, variable, arguments, bare_type, kind_at}
 use Rattle.cheri_c_sem.specs.Expressions as meant
 use Rattle.cheri_c_sem.specs.Kinds.{Kind, Plain, Capability}

@@ -30,10 +30,10 @@ use Rattle.c_tree.specs.declared.typed.SwitchLabel.{SwitchLabel}
 use Rattle.c_tree.specs.declared.typed.Typed.{Typed}
 use Rattle.c_tree.specs.declared.typed.VarDef.{VarDef}
 use Rattle.typing_laws.proofs.Sound.{well_typed}
-use Rattle.c_scopes.specs.Scoping.{IsAmong, TermScoped, ActionScoped, ActionsScoped}
-use Rattle.c_scopes.proofs.Whole.{scoped}
-use Rattle.c_values.specs.Valued.{is_plain, AreOnce, Begins, FirstBegin, IsValue, ActionValued, ActionsValued}
-use Rattle.c_values.proofs.Whole.{valued}
+use Rattle.typing_laws.specs.Scoping.{IsAmong, TermScoped, ActionScoped, ActionsScoped}
+use Rattle.typing_laws.proofs.scopes.Whole.{scoped}
+use Rattle.typing_laws.specs.Valued.{is_plain, AreOnce, Begins, FirstBegin, IsValue, ActionValued, ActionsValued}
+use Rattle.typing_laws.proofs.values.Whole.{valued}
 use Rattle.cheri_c_sem.specs.Expressions as meant
 use Rattle.cheri_c_sem.specs.Expressions.{expr_tree}
 use Rattle.cheri_c_sem.specs.Programs as means

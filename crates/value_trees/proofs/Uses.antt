@@ -20,8 +20,8 @@ use Rattle.c_tree.specs.declared.typed.FunDef.{FunDef}
 use Rattle.c_tree.specs.declared.typed.Stmt.{Stmt}
 use Rattle.c_tree.specs.declared.typed.Typed.{Typed}
 use Rattle.typing_laws.proofs.Sound.{well_typed}
-use Rattle.c_values.specs.Valued.{IsValue, IsPlace, AreAsked, ActionValued, ActionsValued, AreValues}
-use Rattle.c_values.proofs.Whole.{valued}
+use Rattle.typing_laws.specs.Valued.{IsValue, IsPlace, AreAsked, ActionValued, ActionsValued, AreValues}
+use Rattle.typing_laws.proofs.values.Whole.{valued}
 use Rattle.value_trees.specs.Nodes.{IsUsed, AreUsed}
 use Rattle.value_trees.proofs.Nodes.{shape_of, expression_made, form_of, statement_made}
 

@@ -13,7 +13,7 @@ use Rattle.c_tree.specs.declared.typed.VarDef.{VarDef}
 use Rattle.std.specs.Prelude.{slice_get}
 use Rattle.c_tree.specs.declared.typed.UnaryOp.{UnaryOp}
 use Rattle.c_tree.specs.declared.typed.UnaryOp.TheVariants as unary
-use Rattle.c_values.specs.Valued.{is_plain, IsValue}
+use Rattle.typing_laws.specs.Valued.{is_plain, IsValue}
 
 -- ---- types
 

@@ -13,7 +13,7 @@ use Rattle.c_tree.specs.declared.typed.Stmt.{Stmt}
 use Rattle.c_tree.specs.declared.typed.StmtKind.TheVariants as stmts
 use Rattle.c_tree.specs.declared.typed.Typed.{Typed}
 use Rattle.c_tree.specs.declared.typed.VarDef.{VarDef}
-use Rattle.c_values.specs.Valued.{IsValue, IsPlace}
+use Rattle.typing_laws.specs.Valued.{IsValue, IsPlace}
 use Rattle.cheri_c_sem.specs.Expressions.{expr_tree, type_of}
 use Rattle.cheri_c_sem.specs.Types.{is_record, is_simple}
 use Rattle.lower_runs.specs.Expressions.{position_in}

@@ -1,6 +1,6 @@
 -- Where the trees of a typed program's expressions are values and where places: as the expressions are.
 use Rattle.std.specs.Prelude.{◌≡◌, ℕ, Bool, true, false, List, Some, slice_get}
-use Rattle.c_scopes.specs.Scoping.{IsAmong, TermScoped}
+use Rattle.typing_laws.specs.Scoping.{IsAmong, TermScoped}
 use Rattle.c_tree.specs.Terms.{type_of}
 use Rattle.c_tree.specs.Types.{Ty, is_tagged}
 use Rattle.c_tree.specs.Views.{terms_of, term_at}
@@ -8,7 +8,7 @@ use Rattle.c_tree.specs.WellTyped.{TermFits}
 use Rattle.c_tree.specs.declared.typed.Expr.{Expr}
 use Rattle.c_tree.specs.declared.typed.Typed.{Typed}
 use Rattle.c_tree.specs.declared.typed.VarDef.{VarDef}
-use Rattle.c_values.specs.Valued.{IsValue, IsPlace}
+use Rattle.typing_laws.specs.Valued.{IsValue, IsPlace}
 use Rattle.cheri_c_sem.specs.Expressions.{expr_tree}
 use Rattle.cheri_c_sem.specs.Tree.{Ex}
 use Rattle.cheri_c_sem.specs.Types.{is_simple, objects_before}

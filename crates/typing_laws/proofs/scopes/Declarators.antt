@@ -1,0 +1,298 @@
+-- Specifiers, tags and declarators keep what is in scope (C11 6.7.1 to 6.7.7).
+use Rattle.std.proofs.Common.{ℕ, ◌+◌, ℤ, Bool, true, false, List, [], ◌∷◌, ◌++◌, length, Option, Some}
+use Rattle.std.proofs.Common.{None, Result, Ok, Err, inl, inr, ⊎_elim, refl}
+use Rattle.std.specs.Prelude.{pos, if◌then◌else◌, not, ◌||◌, ◌==◌}
+use Rattle.ck_base.specs.declared.positions.Pos.{Pos}
+use Rattle.ck_base.specs.Tokens.{Lexeme}
+use Rattle.c_tree.specs.declared.syntax.NodeKind.{NodeKind}
+use Rattle.c_tree.specs.declared.syntax.NodeKind.TheVariants as Kinds
+use Rattle.c_tree.specs.declared.syntax.RecordKind.{RecordKind}
+use Rattle.c_tree.specs.Syntax.{Syns, node, nil, more}
+use Rattle.c_tree.specs.Types.{is_function}
+use Rattle.c_tree.specs.Constants.{constant_of}
+use Rattle.c_tree.specs.Terms.{numbers_from}
+use Rattle.c_tree.specs.Scopes.{Entity, Local, Alias, Enumerator, Tagging, Recorded}
+use Rattle.c_tree.specs.Scopes.{Enumerated, Scope, Part, State, Doing, give, look, leave, innermost}
+use Rattle.c_tree.specs.Scopes.{Fault, continued, change, bind_tag, is_complete, find_in, find_name, find_tag}
+use Rattle.c_tree.specs.Scopes.{◌>>=◌, ◌>>◌}
+use Rattle.c_tree.specs.Readings.{Specified, Param, Prototype, Wrap, Derived, Reading}
+use Rattle.c_tree.specs.Declarators.{constant, named_types, specifiers, alias_type, new_tag, declare_tag}
+use Rattle.c_tree.specs.Declarators.{as_record, named_tag, begin_tag, complete_tag, all_members, filled_tag}
+use Rattle.c_tree.specs.Declarators.{record_specifier, enumerate, enumerator, enumerators, new_enumeration}
+use Rattle.c_tree.specs.Declarators.{named_enumeration, enum_specifier, array_length, declarator_of, abstract}
+use Rattle.c_tree.specs.Declarators.{type_name, add_member, member_declarators, member_of, parameter_from}
+use Rattle.c_tree.specs.Declarators.{Formed, kind_at, judge, formed, specified_type, is_new, in_int, has_part, is_free}
+use Rattle.c_tree.specs.Declarators.{place_of}
+use Rattle.c_tree.specs.Declarators.{parameter_of, bind_local, bind_parameter, parameter_list, prototype_of, names_type}
+use Rattle.c_tree.specs.Programs.{type_of_kind}
+use Rattle.typing_laws.proofs.Facts.{AllNames}
+use Rattle.typing_laws.proofs.scopes.Stepping.{More, among_left, among_right, among_either, EntityOpen, NamesOpen, At, at_more}
+use Rattle.typing_laws.proofs.scopes.Stepping.{moved, Runs, Goes, Keeps, Any, going, run_give, run_kept, run_refuse, run_need}
+use Rattle.typing_laws.proofs.scopes.Stepping.{run_then, run_next, give_goes, give_keeps, refuse_goes, goes_then, goes_next}
+use Rattle.typing_laws.proofs.scopes.Stepping.{need_keeps, some_keeps, if_goes, bound, tagged, entered, at_entered, at_left}
+use Rattle.typing_laws.proofs.scopes.Expressions.{unevaluated_keeps}
+use Rattle.typing_laws.proofs.scopes.Readings.{PrototypeOpen, DerivedOpen, Reads, AllReads, read_keeps}
+
+module _ (js : List ℕ) where
+  pub constant_keeps : (r : Reading) → Reads r → Keeps js Any (constant r)
+  constant_keeps r h =
+      goes_then (unevaluated_keeps js (read_keeps js r h)) λ x i.
+      goes_then (some_keeps (constant_of x.is) 134 x.first) λ v u. give_keeps tt
+
+  -- the rules on a declarator's type
+  pub judge_keeps : (f : Formed) (lacks misfits : Bool) (p : Pos) → Keeps js Any (judge f lacks misfits p)
+  judge_keeps f lacks misfits p = goes_next (goes_next (need_keeps _ _ _) (need_keeps _ _ _)) (need_keeps _ _ _)
+
+  -- ---- specifiers
+
+  named_types_keep : (alone : Bool) (xs : Syns) (rs : List Reading) → AllReads rs →
+      Keeps js Any (named_types alone xs rs)
+  named_types_keep alone (more x xs) (r ∷ rs) h =
+      if_goes (names_type x) _ _
+      (goes_then (h.0.type js alone) λ t i. goes_then (named_types_keep alone xs rs h.1) λ ts j. give_keeps tt)
+      (named_types_keep alone xs rs h.1)
+  named_types_keep alone nil rs h = give_keeps tt
+  named_types_keep alone (more x xs) [] h = give_keeps tt
+
+  pub specifiers_keep : (alone : Bool) (t : Lexeme) (xs : Syns) (rs : List Reading) → AllReads rs →
+      Keeps js Any (specifiers alone t xs rs)
+  unfolding specifiers
+  specifiers_keep alone t xs rs h =
+      goes_then (named_types_keep _ xs rs h) λ ts i.
+      goes_then (goes_next (need_keeps _ _ _) (some_keeps (specified_type xs ts) 133 t.pos)) λ of j. give_keeps tt
+
+  alias_keeps : (e : Option Entity) (p : Pos) → Keeps js Any (alias_type e p)
+  alias_keeps (Some (Alias t)) p = give_keeps tt
+  alias_keeps e p = refuse_goes
+
+  -- ---- structs and unions
+
+  new_tag_keeps : (k : RecordKind) → Keeps js Any (new_tag k)
+  new_tag_keeps k =
+      going λ b s at. run_give (moved at refl (λ c. c)) tt
+
+  tag_keeps : (t : Lexeme) (n : ℕ) → Keeps js Any (change (bind_tag t.text (Recorded n)) >> give n)
+  tag_keeps t n = going λ b s at. run_give (tagged t.text (Recorded n) at refl (λ c. c)) tt
+
+  declare_tag_keeps : (k : RecordKind) (t : Lexeme) → Keeps js Any (declare_tag k t)
+  declare_tag_keeps k t = goes_then (new_tag_keeps k) λ n i. tag_keeps t n
+
+  as_record_keeps : (k : RecordKind) (t : Lexeme) (o : Option Tagging) → Keeps js Any (as_record k t o)
+  as_record_keeps k t None = declare_tag_keeps k t
+  as_record_keeps k t (Some Enumerated) = refuse_goes
+  as_record_keeps k t (Some (Recorded n)) =
+      going λ b s at. run_next (run_need (kind_at s n k) 133 t.pos at) λ q at. run_give at tt
+
+  named_tag_keeps : (here : Bool) (k : RecordKind) (t : Lexeme) → Keeps js Any (named_tag here k t)
+  named_tag_keeps here k t = going λ b s at. (as_record_keeps k t (if here
+      then find_in (innermost s.scopes).tags t.text else find_tag s.scopes t.text)).run b s at
+
+  begin_tag_keeps : (n : ℕ) (p : Pos) → Keeps js Any (begin_tag n p)
+  begin_tag_keeps n p =
+      going λ b s at. run_next (run_need _ _ _ at) λ q at. run_kept (moved at refl (λ c. c))
+
+  complete_tag_keeps : (k : RecordKind) (n : ℕ) (ms : List Part) (p : Pos) → Keeps js Any (complete_tag k n ms p)
+  complete_tag_keeps k n ms p =
+      going λ b s at. run_next (run_need _ _ _ at) λ q at. run_kept (moved at refl (λ c. c))
+
+  members_keep : (rs : List Reading) (ms : List Part) → AllReads rs → Keeps js Any (all_members rs ms)
+  members_keep [] ms h = give_keeps tt
+  members_keep (r ∷ rs) ms h = goes_then (h.0.members js ms) λ ns i. members_keep rs ns h.1
+
+  filled_tag_keeps : (k : RecordKind) (n : ℕ) (rs : List Reading) (t : Lexeme) (p : Pos) → AllReads rs →
+      Keeps js Any (filled_tag k n rs t p)
+  filled_tag_keeps k n rs t p h =
+      goes_then (goes_next (begin_tag_keeps n p) (members_keep rs [] h)) λ ms i.
+      goes_next (complete_tag_keeps k n ms t.pos) (give_keeps tt)
+
+  -- a struct or union of its own
+  own_record_keeps : (k : RecordKind) (t : Lexeme) (rs : List Reading) → AllReads rs →
+      Keeps js Any (new_tag k >>= λ m. filled_tag k m rs t t.pos)
+  own_record_keeps k t rs h = goes_then (new_tag_keeps k) λ m i. filled_tag_keeps k m rs t t.pos h
+
+  record_keeps : (k : RecordKind) (alone : Bool) (t : Lexeme) (xs : Syns) (rs : List Reading) → AllReads rs →
+      Keeps js Any (record_specifier k alone t xs rs)
+  unfolding record_specifier
+  record_keeps k alone t (more (node Kinds.Tag n ys) nil) rs h =
+      goes_then (named_tag_keeps alone k n) λ m i. give_keeps tt
+  record_keeps k alone t (more (node Kinds.Tag n ys) (more x xs)) (r ∷ rs) h =
+      goes_then (named_tag_keeps true k n) λ m i. filled_tag_keeps k m rs t n.pos h.1
+  record_keeps k alone t xs rs h = own_record_keeps k t rs h
+
+  -- ---- enumerations
+
+  enumerate_keeps : (t : Lexeme) (z : ℤ) (p : Pos) → Keeps js Any (enumerate t z p)
+  enumerate_keeps t z p =
+      going λ b s at. run_next (run_next (run_next (run_need (is_new s t.text) 131 t.pos at) λ q at.
+      run_need (in_int z) 134 p at) λ q at. run_kept (bound t.text (Enumerator z) at tt refl (λ c. c))) λ q at.
+      run_give at tt
+
+  pub enumerator_keeps : (t : Lexeme) (rs : List Reading) (z : ℤ) → AllReads rs → Keeps js Any (enumerator t rs z)
+  unfolding enumerator
+  enumerator_keeps t (r ∷ rs) z h = goes_then (constant_keeps r h.0) λ c i. enumerate_keeps t c.number c.first
+  enumerator_keeps t [] z h = enumerate_keeps t z t.pos
+
+  enumerators_keep : (rs : List Reading) (z : ℤ) → AllReads rs → Keeps js Any (enumerators rs z)
+  enumerators_keep [] z h = give_keeps tt
+  enumerators_keep (r ∷ rs) z h = goes_then (h.0.enumerator js z) λ y i. enumerators_keep rs y h.1
+
+  new_enumeration_keeps : (t : Lexeme) (o : Option Tagging) → Keeps js Any (new_enumeration t o)
+  new_enumeration_keeps t None = going λ b s at. run_kept (tagged t.text Enumerated at refl (λ c. c))
+  new_enumeration_keeps t (Some Enumerated) = refuse_goes
+  new_enumeration_keeps t (Some (Recorded n)) = refuse_goes
+
+  named_enumeration_keeps : (t : Lexeme) (o : Option Tagging) → Keeps js Any (named_enumeration t o)
+  named_enumeration_keeps t None = refuse_goes
+  named_enumeration_keeps t (Some Enumerated) = give_keeps tt
+  named_enumeration_keeps t (Some (Recorded n)) = refuse_goes
+
+  enum_keeps : (xs : Syns) (rs : List Reading) → AllReads rs → Keeps js Any (enum_specifier xs rs)
+  unfolding enum_specifier
+  enum_keeps (more (node Kinds.Tag n ys) nil) rs h =
+      going λ b s at.
+      run_next ((named_enumeration_keeps n (find_tag s.scopes n.text)).run b s at) λ q at. run_give at tt
+  enum_keeps (more (node Kinds.Tag n ys) (more x xs)) (r ∷ rs) h =
+      going λ b s at.
+      run_next (run_next ((new_enumeration_keeps n (find_in (innermost s.scopes).tags n.text)).run b s at) λ q at.
+      (enumerators_keep rs (pos 0) h.1).run b q at) λ q at. run_give at tt
+  enum_keeps xs rs h = goes_next (enumerators_keep rs (pos 0) h) (give_keeps tt)
+
+  -- ---- declarators
+
+  array_length_keeps : (r : Reading) → Reads r → Keeps js Any (array_length r)
+  array_length_keeps r h = goes_then (constant_keeps r h) λ c i. some_keeps _ _ _
+
+  pub declarator_keeps : (k : NodeKind) (t : Lexeme) (xs : Syns) (rs : List Reading) → AllReads rs →
+      Keeps js (DerivedOpen js) (declarator_of k t xs rs)
+  unfolding declarator_of
+  declarator_keeps Kinds.DeclaredName t xs rs h = give_keeps tt
+  declarator_keeps Kinds.ParenthesizedDeclarator t xs (r ∷ rs) h = h.0.derived js
+  declarator_keeps Kinds.Pointer t xs (q ∷ []) h = give_keeps tt
+  declarator_keeps Kinds.Pointer t xs (q ∷ r ∷ rs) h = goes_then (h.1.0.derived js) λ d i. give_keeps i
+  declarator_keeps Kinds.OpenArray t xs [] h = give_keeps tt
+  declarator_keeps Kinds.OpenArray t xs (r ∷ rs) h = goes_then (h.0.derived js) λ d i. give_keeps i
+  declarator_keeps Kinds.Array t xs (r ∷ []) h = goes_then (array_length_keeps r h.0) λ n i. give_keeps tt
+  declarator_keeps Kinds.Array t xs (r ∷ q ∷ rs) h =
+      goes_then (h.0.derived js) λ d i. goes_then (array_length_keeps q h.1.0) λ n j. give_keeps i
+  declarator_keeps Kinds.Function t xs (r ∷ []) h = goes_then (h.0.prototype js) λ p i. give_keeps (i, tt)
+  declarator_keeps Kinds.Function t xs (r ∷ q ∷ rs) h =
+      goes_then (h.0.derived js) λ d i. goes_then (h.1.0.prototype js) λ p j. give_keeps (j, i)
+  declarator_keeps k t xs rs h = refuse_goes
+
+  -- ---- type names
+
+  abstract_keeps : (r : Reading) (rs : List Reading) → AllReads rs → Keeps js Any (abstract r rs)
+  abstract_keeps r [] h = give_keeps tt
+  abstract_keeps r (q ∷ qs) h = going λ b s at.
+      let y = (h.0.derived js).run b s at in record { state = y.state; post = λ x e. tt }
+
+  named_type_keeps : (t : Lexeme) (p : Specified) (d : Derived) → Keeps js Any (look >>= λ st.
+      let f = formed st p.of d.wraps in judge f false false t.pos >> give f.of)
+  named_type_keeps t p d =
+      going λ b s at. run_next ((judge_keeps (formed s p.of d.wraps) false false t.pos).run b s at) λ q at.
+      run_give at tt
+
+  type_name_keeps : (t : Lexeme) (xs : Syns) (rs : List Reading) → AllReads rs → Keeps js Any (type_name t xs rs)
+  unfolding type_name
+  type_name_keeps t xs [] h = refuse_goes
+  type_name_keeps t xs (r ∷ rs) h =
+      goes_then (h.0.specified js false) λ p i.
+      goes_then (goes_next (need_keeps _ _ _) (abstract_keeps r rs h.1)) λ d j. named_type_keeps t p d
+
+  pub kind_keeps : (k : NodeKind) (t : Lexeme) (xs : Syns) (rs : List Reading) (alone : Bool) → AllReads rs →
+      Keeps js Any (type_of_kind k t xs rs alone)
+  kind_keeps Kinds.TypedefName t xs rs alone h =
+      going λ b s at. (alias_keeps (find_name s.scopes t.text) t.pos).run b s at
+  kind_keeps (Kinds.Record k) t xs rs alone h = record_keeps k alone t xs rs h
+  kind_keeps Kinds.Enum t xs rs alone h = enum_keeps xs rs h
+  kind_keeps Kinds.TypeName t xs rs alone h = type_name_keeps t xs rs h
+  kind_keeps k t xs rs alone h = refuse_goes
+
+  -- ---- members
+
+  add_member_keeps : (s : Specified) (stored : Bool) (name : Option Lexeme) (ws : List Wrap) (ms : List Part) →
+      Keeps js Any (add_member s stored name ws ms)
+  add_member_keeps s stored None ws ms = refuse_goes
+  add_member_keeps s stored (Some t) ws ms =
+      going λ b st at. let f = formed st s.of ws in
+      run_next (run_next (run_need (not (has_part ms t.text)) 131 t.pos at) λ q at.
+      (judge_keeps f (not (is_function f.of || is_complete st f.of)) (is_function f.of) t.pos).run b q at) λ q at.
+      run_give at tt
+
+  member_declarators_keep : (s : Specified) (rs : List Reading) (ms : List Part) → AllReads rs →
+      Keeps js Any (member_declarators s rs ms)
+  member_declarators_keep s [] ms h = give_keeps tt
+  member_declarators_keep s (r ∷ rs) ms h =
+      goes_then (h.0.derived js) λ d i.
+      goes_then (add_member_keeps s s.stored d.name d.wraps ms) λ ns j. member_declarators_keep s rs ns h.1
+
+  pub member_of_keeps : (t : Lexeme) (xs : Syns) (rs : List Reading) (ms : List Part) → AllReads rs →
+      Keeps js Any (member_of t xs rs ms)
+  unfolding member_of
+  member_of_keeps t xs [] ms h = refuse_goes
+  member_of_keeps t xs (r ∷ rs) ms h =
+      goes_then (h.0.specified js false) λ s i.
+      goes_next (need_keeps _ _ _) (member_declarators_keep s rs ms h.1)
+
+  -- ---- parameters
+
+  parameter_from_keeps : (only : Bool) (s : Specified) (first : Lexeme) (d : Derived) →
+      Keeps js Any (parameter_from only s first d)
+  parameter_from_keeps only s first d =
+      going λ b st at. let f = formed st s.of d.wraps in let p = (place_of d.name first).pos in
+      run_next (run_next (run_need (is_free st d.name) 131 p at) λ q at.
+      (judge_keeps f false false p).run b q at) λ q at. run_give at tt
+
+  pub parameter_of_keeps : (t : Lexeme) (rs : List Reading) (only : Bool) → AllReads rs →
+      Keeps js Any (parameter_of t rs only)
+  unfolding parameter_of
+  parameter_of_keeps t [] only h = refuse_goes
+  parameter_of_keeps t (r ∷ rs) only h =
+      goes_then (h.0.specified js false) λ s i.
+      goes_then (goes_next (need_keeps _ _ _) (abstract_keeps r rs h.1)) λ d j. parameter_from_keeps only s t d
+
+-- a parameter's name
+at_parameter : (js : List ℕ) (k : ℕ) (p : Param) (b s : State) → At js b s → At (k ∷ js) b (bind_parameter k p s)
+at_parameter js k p b s at = by p.name
+  where
+    by : (n : Option Lexeme) → At (k ∷ js) b (bind_local k p.of n s)
+    by None = at_more (λ i h. inr h) at
+    by (Some t) = bound t.text (Local k p.of) (at_more (λ i h. inr h) at) (inl refl) refl (λ c. c)
+
+around : (js : List ℕ) (k : ℕ) (ns : List ℕ) → More (ns ++ k ∷ js) (k ∷ ns ++ js)
+around js k ns i m =
+    ⊎_elim (λ a. inr (among_left ns js i a))
+    (λ b. ⊎_elim (λ e. inl e) (λ c. inr (among_right ns js i c)) b) (among_either ns (k ∷ js) i m)
+
+-- the parameters from a number on
+parameters_goes : (js : List ℕ) (k : ℕ) (only : Bool) (rs : List Reading) → AllReads rs →
+    Goes js (λ ps. numbers_from k (length ps) ++ js) Any (parameter_list k only rs)
+parameters_goes js k only [] h = give_goes (λ i m. m) tt
+parameters_goes js k only (r ∷ rs) h =
+    goes_then (h.0.parameter js only) λ p i. if_goes p.nothing _ _ (give_goes (λ i m. m) tt)
+    (going λ b s at. run_then ((parameters_goes (k ∷ js) (k + 1) only rs h.1).run b (bind_parameter k p s)
+    (at_parameter js k p b s at)) λ ps q at j.
+    run_give (at_more (around js k (numbers_from (k + 1) (length ps))) at) tt)
+
+innermost_open : (js : List ℕ) (cs : List Scope) → NamesOpen js cs → AllNames (EntityOpen js) (innermost cs).names
+innermost_open js [] h = tt
+innermost_open js (c ∷ cs) h = h.0
+
+-- what is made of the parameters
+made_prototype : List Param → Doing Prototype
+made_prototype ps = look >>= λ s. leave >> give (record { params = ps; scope = innermost s.scopes })
+
+prototype_runs : (js : List ℕ) (b q : State) (r : Result (List Param × State) Fault) → At js b q →
+    Runs (λ ps. numbers_from 0 (length ps) ++ js) Any (entered q) r →
+    Runs (λ _. js) (PrototypeOpen js) b (continued r made_prototype)
+unfolding made_prototype
+prototype_runs js b q (Ok y) at h =
+    let z = h.state y refl in
+    run_give (at_left at z) (innermost_open (numbers_from 0 (length y.0) ++ js) y.1.scopes z.opened.names)
+prototype_runs js b q (Err f) at h = run_refuse
+
+pub prototype_keeps : (js : List ℕ) (rs : List Reading) → AllReads rs → Keeps js (PrototypeOpen js) (prototype_of rs)
+unfolding prototype_of made_prototype
+prototype_keeps js rs h =
+    going λ b q at. prototype_runs js b q (parameter_list 0 (length rs == 1) rs (entered q)) at
+    ((parameters_goes js 0 (length rs == 1) rs h).run (entered q) (entered q) (at_entered at))
