@@ -8,9 +8,9 @@
 
 ghost use Rattle.each_file.specs.Each.{EachFile};
 
-use typing_laws::codes::typing_codes;
 use c_lex::token_count;
 use c_parse::{one_file, readings_are_trees};
+use typing_laws::codes::typing_codes;
 
 /// A file is accepted as some program or refused by some code, and not both. Typing refuses by 130 to 136 or 140 alone.
 pub fn each_file(file: &[u8])
