@@ -21,4 +21,5 @@ pub use ends::{epilogue, first_store, prologue};
 pub use frames::frame;
 pub use offsets::Saved;
 pub use saving::saved;
+pub use taking::Way;
 pub use words::{load_capability, moved, number, store_capability};
