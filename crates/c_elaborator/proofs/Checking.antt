@@ -8,7 +8,8 @@ use Rattle.c_operators.specs.Rules.{compound_of, stepped_of}
 use Rattle.ck_base.specs.declared.positions.Pos.{Pos}
 use Rattle.ck_base.specs.declared.refusal.Refusal.{Refusal}
 use Rattle.c_tree.specs.Types.{Ty, bare, is_scalar, unsigned_long}
-use Rattle.cap_layout.specs.Answers.{Layout, Fits, Exceeds, IsLayout}
+use Rattle.cap_layout.specs.Answers.{Fits, Exceeds, IsLayout}
+use Rattle.cap_layout.specs.declared.answers.Layout.{Layout}
 use Rattle.cap_layout.specs.declared.answers.LayoutFault.{LayoutFault}
 use Rattle.cap_layout.specs.declared.answers.LayoutFault.TheVariants.{TooLarge}
 use Rattle.c_tree.specs.Layout.{Extent}

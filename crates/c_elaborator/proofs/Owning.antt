@@ -2,7 +2,8 @@
 use Rattle.std.proofs.Common.{◌≡◌, ℕ, Option, Some, None, refl, sym, ap, ◌∙◌}
 use Rattle.std.specs.Prelude.{slice_get, if◌then◌else◌}
 use Rattle.cap_concentrate.specs.Rounding.{owned}
-use Rattle.cap_layout.specs.Answers.{Layout, Fits, Exceeds}
+use Rattle.cap_layout.specs.Answers.{Fits, Exceeds}
+use Rattle.cap_layout.specs.declared.answers.Layout.{Layout}
 use Rattle.c_tree.specs.Layout.{Extent, size_of}
 use Rattle.c_tree.specs.Scopes.{State, type_extent, has_extent}
 use Rattle.c_tree.specs.Statics.{static_length}

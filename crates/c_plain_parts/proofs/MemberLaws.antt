@@ -8,7 +8,8 @@ use Rattle.ck_base.specs.declared.refusal.NoMemory.{NoMemory}
 use Rattle.std.proofs.lemmas.Bool.{cases_lt}
 use Rattle.std.proofs.lemmas.Grind.{common_steps}
 use Rattle.std.proofs.lemmas.List.{map_push}
-use Rattle.cap_layout.specs.Answers.{Layout, extent_is}
+use Rattle.cap_layout.specs.Answers.{extent_is}
+use Rattle.cap_layout.specs.declared.answers.Layout.{Layout}
 use Rattle.c_tree.specs.declared.syntax.RecordKind.{RecordKind}
 use Rattle.c_tree.specs.declared.syntax.RecordKind.TheVariants.{Struct, Union}
 use Rattle.c_tree.specs.declared.typed.Member.{Member}

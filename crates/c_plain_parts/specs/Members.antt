@@ -9,7 +9,8 @@ use Rattle.c_tree.specs.Layout.{Extent, member_offset, behind, no_members, withi
 use Rattle.c_tree.specs.declared.syntax.RecordKind.{RecordKind}
 use Rattle.c_tree.specs.declared.syntax.RecordKind.TheVariants.{Struct, Union}
 use Rattle.c_tree.specs.declared.typed.Member.{Member}
-use Rattle.cap_layout.specs.Answers.{Layout, extent_is}
+use Rattle.cap_layout.specs.Answers.{extent_is}
+use Rattle.cap_layout.specs.declared.answers.Layout.{Layout}
 use Rattle.c_expressions.specs.Nodes.{type_in, type_count}
 use Rattle.c_elaborator.specs.declared.work.Work.{Work}
 use Rattle.c_elaborator.specs.Work.{Shows}

@@ -2,7 +2,8 @@
 use Rattle.std.proofs.Common.{◌≡◌, ℕ, Bool, List, Option, Result, Err, ap, subst, ◌∙◌}
 use Rattle.c_tree.specs.Layout.{Extent, members, no_members, whole, with_extent}
 use Rattle.c_tree.specs.declared.typed.Member.{Member}
-use Rattle.cap_layout.specs.Answers.{Layout, Exceeds, IsLayout}
+use Rattle.cap_layout.specs.Answers.{Exceeds, IsLayout}
+use Rattle.cap_layout.specs.declared.answers.Layout.{Layout}
 use Rattle.cap_layout.specs.Walks.{placing}
 use Rattle.cap_layout.specs.declared.answers.LayoutFault.{LayoutFault}
 use Rattle.cap_layout.specs.declared.answers.LayoutFault.TheVariants.{TooLarge}

@@ -1,7 +1,8 @@
 -- The size of a type, level by level, and that of a struct or union.
 use Rattle.std.specs.Prelude.{◌≡◌, ℕ, ◌<◌, ◌≤◌, List, Option, Some, None, Result, Ok, Err, option_map, slice_get}
 use Rattle.c_tree.specs.declared.typed.CType.{CType}
-use Rattle.cap_layout.specs.Answers.{Layout, greatest_align, Exceeds}
+use Rattle.cap_layout.specs.Answers.{greatest_align, Exceeds}
+use Rattle.cap_layout.specs.declared.answers.Layout.{Layout}
 use Rattle.cap_layout.specs.declared.answers.LayoutFault.{LayoutFault}
 use Rattle.c_tree.specs.Layout.{Extent, size_limit, scalar, with_extent, times}
 use Rattle.c_tree.specs.Views.{type_at, types_of}

@@ -3,7 +3,7 @@ use Rattle.std.specs.Prelude.{ℕ, ◌+◌, ◌-◌, ◌^◌, min, Bool, nat_lt,
 use Rattle.c_tree.specs.Layout.{size_limit}
 use Rattle.c_tree.specs.declared.typed.CType.{CType}
 use Rattle.c_tree.specs.declared.typed.FunDef.{FunDef}
-use Rattle.cap_layout.specs.Answers.{Owned}
+use Rattle.cap_layout.specs.declared.answers.Owned.{Owned}
 use Rattle.obj_mem.specs.Legal.{ObjectNeed, owned_of, alignment_of, room_of}
 use Rattle.obj_mem.specs.Needs.{local_needs}
 use Rattle.program_needs.specs.declared.needs.Need.{Need}

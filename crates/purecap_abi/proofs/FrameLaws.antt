@@ -7,7 +7,7 @@ use Rattle.std.proofs.lemmas.List.{length-map}
 use Rattle.std.proofs.lemmas.Bool.Decides.{nat_tests}
 use Rattle.std.proofs.lemmas.List.Sums.{sum_by-cons}
 use Rattle.std.proofs.lemmas.Option.{slice_get_within, get_or_from_slice_get, slice_get-map, same_Some}
-use Rattle.cap_layout.specs.Answers.{Owned}
+use Rattle.cap_layout.specs.declared.answers.Owned.{Owned}
 use Rattle.reg_alloc.specs.declared.places.Home.{Home}
 use Rattle.obj_mem.specs.declared.map.Frame.{Frame}
 use Rattle.obj_mem.specs.declared.map.Slot.{Slot}

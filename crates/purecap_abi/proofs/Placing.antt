@@ -10,7 +10,7 @@ use Rattle.std.proofs.lemmas.List.Sums.{sum_by-cons, sum_by_more, sum_by-take-le
 use Rattle.std.proofs.Math.ListN.{length-set}
 use Rattle.cap_concentrate.specs.Rounding.{rounded_up}
 use Rattle.cap_concentrate.proofs.Least.{rounded_up_ge, rounded_up_near, rounded_up_multiple}
-use Rattle.cap_layout.specs.Answers.{Owned}
+use Rattle.cap_layout.specs.declared.answers.Owned.{Owned}
 use Rattle.obj_mem.specs.Legal.{Apart}
 use Rattle.purecap_abi.specs.Placing.{greatest_of, object, Lies, ArePlaced, IsAny}
 use Rattle.purecap_abi.specs.Frames.{IsLocal, AreLocals, room}

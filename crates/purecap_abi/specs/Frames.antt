@@ -1,7 +1,7 @@
 -- The frame of a function.
 use Rattle.std.specs.Prelude.{ℕ, ◌≡◌, ◌+◌, ◌*◌, ◌%◌, ◌^◌, ◌<◌, ◌≤◌, List, length, map, sum_by, slice_get, Some}
 use Rattle.std.specs.List.{All}
-use Rattle.cap_layout.specs.Answers.{Owned}
+use Rattle.cap_layout.specs.declared.answers.Owned.{Owned}
 use Rattle.reg_alloc.specs.declared.places.Home.{Home}
 use Rattle.obj_mem.specs.declared.map.Frame.{Frame}
 use Rattle.obj_mem.specs.declared.map.Slot.{Slot}

@@ -1,7 +1,7 @@
 -- How objects are placed in a frame, one alignment after the other.
 use Rattle.std.specs.Prelude.{ℕ, ◌≡◌, ◌+◌, ◌%◌, ◌<◌, ◌≤◌, max, List, [], ◌∷◌, length, slice_get, slice_index}
 use Rattle.std.specs.Prelude.{slice_index_or, Some}
-use Rattle.cap_layout.specs.Answers.{Owned}
+use Rattle.cap_layout.specs.declared.answers.Owned.{Owned}
 use Rattle.obj_mem.specs.declared.map.Slot.{Slot}
 use Rattle.obj_mem.specs.Legal.{Apart}
 

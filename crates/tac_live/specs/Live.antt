@@ -1,6 +1,6 @@
 -- The live intervals of a function's temps.
 use Rattle.std.specs.Prelude.{◌≡◌, ℕ, ◌&&◌, nat_lt, Bool, List, Some, length, slice_get}
-use Rattle.reg_alloc.specs.Placed.{Interval}
+use Rattle.reg_alloc.specs.declared.intervals.Interval.{Interval}
 use Rattle.tac_ir.specs.Intervals.{IsLive}
 use Rattle.tac_ir.specs.Temps.{names}
 use Rattle.tac_ir.specs.WellFormed.{all_of, labels_differ}

@@ -24,7 +24,8 @@ use Rattle.c_tree.specs.declared.typed.ExprKind.TheVariants as exprs
 use Rattle.c_tree.specs.declared.typed.Typed.{Typed}
 use Rattle.c_tree.specs.declared.typed.VarDef.{VarDef}
 use Rattle.cap_concentrate.specs.Rounding.{owned, rounded_up}
-use Rattle.cap_layout.specs.Answers.{Layout, Fits}
+use Rattle.cap_layout.specs.Answers.{Fits}
+use Rattle.cap_layout.specs.declared.answers.Layout.{Layout}
 use Rattle.cap_layout.proofs.Places.{offset_later}
 use Rattle.lower_runs.proofs.Units.{copies_fit}
 use Rattle.tac_ir.specs.WellFormed.{is_unit, units_fit}

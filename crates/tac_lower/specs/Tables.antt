@@ -8,7 +8,8 @@ use Rattle.c_tree.specs.declared.typed.CType.{CType}
 use Rattle.c_tree.specs.declared.typed.CType.TheVariants as types
 use Rattle.c_tree.specs.declared.typed.Typed.{Typed}
 use Rattle.c_tree.specs.declared.typed.VarDef.{VarDef}
-use Rattle.cap_layout.specs.Answers.{Layout, Fits}
+use Rattle.cap_layout.specs.Answers.{Fits}
+use Rattle.cap_layout.specs.declared.answers.Layout.{Layout}
 use Rattle.cheri_c_sem.specs.Expressions.{type_of, narrowing_of}
 use Rattle.cheri_c_sem.specs.Tree.{Narrowing}
 use Rattle.cheri_c_sem.specs.Types.{is_record, is_pointer, pointee_of, size_in, size_of_extent}

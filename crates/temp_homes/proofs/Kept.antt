@@ -5,7 +5,8 @@ use Rattle.std.specs.Prelude.{Contains, slice_get}
 use Rattle.std.proofs.lemmas.Bool.{cases_lt}
 use Rattle.std.proofs.lemmas.Option.{slice_get-get_or, slice_get_within}
 use Rattle.std.proofs.Math.Nat.{eq-or-lt_of_le}
-use Rattle.reg_alloc.specs.Placed.{Interval, IsCrossed, IsKept, IsPlaced, IsUsable, StaysClearAt}
+use Rattle.reg_alloc.specs.Placed.{IsCrossed, IsKept, IsPlaced, IsUsable, StaysClearAt}
+use Rattle.reg_alloc.specs.declared.intervals.Interval.{Interval}
 use Rattle.reg_alloc.specs.declared.places.Home.{Home}
 use Rattle.reg_alloc.specs.declared.places.Home.TheVariants.{Register}
 use Rattle.select_words.specs.Services.{IsAside}

@@ -1,6 +1,7 @@
 -- What homes keep of a function's temps, along the ways that control takes through its code.
 use Rattle.std.specs.Prelude.{◌≡◌, ◌⊎◌, ℕ, ◌+◌, ◌<◌, ◌≤◌, true, List, ◌∷◌, length, slice_get, Some}
-use Rattle.reg_alloc.specs.Placed.{Interval, IsKept, IsPlaced, IsUsable, StaysClearAt}
+use Rattle.reg_alloc.specs.Placed.{IsKept, IsPlaced, IsUsable, StaysClearAt}
+use Rattle.reg_alloc.specs.declared.intervals.Interval.{Interval}
 use Rattle.reg_alloc.specs.declared.places.Home.{Home}
 use Rattle.reg_alloc.specs.declared.places.Home.TheVariants.{Register}
 use Rattle.tac_ir.specs.Temps.{Awaits, IsIn, WritesFirst, behind, falls, goes_to, reads, writes}

@@ -6,7 +6,8 @@ use Rattle.std.specs.List.{All}
 use Rattle.std.proofs.lemmas.Bool.{cases_lt}
 use Rattle.std.proofs.lemmas.List.{same_lists}
 use Rattle.std.proofs.lemmas.Option.{slice_get-get_or}
-use Rattle.reg_alloc.specs.Placed.{Interval, Fits, IsCrossed, IsPlaced, IsRegister, IsRelaxed, IsSlotBelow}
+use Rattle.reg_alloc.specs.Placed.{Fits, IsCrossed, IsPlaced, IsRegister, IsRelaxed, IsSlotBelow}
+use Rattle.reg_alloc.specs.declared.intervals.Interval.{Interval}
 use Rattle.reg_alloc.specs.declared.places.Home.{Home}
 use Rattle.reg_alloc.specs.declared.places.Home.TheVariants.{Register, Slot}
 use Rattle.reg_alloc.specs.declared.places.Places.{Places}

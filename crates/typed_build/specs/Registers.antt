@@ -5,7 +5,8 @@ use Rattle.c_tree.specs.declared.typed.Typed.{Typed}
 use Rattle.image_load.specs.Loading.{Loaded, loading}
 use Rattle.obj_mem.specs.declared.map.Map.{Map}
 use Rattle.plain_functions.specs.Keeping.{PlainFunctionsKeep}
-use Rattle.reg_alloc.specs.Placed.{Interval, IsPlaced, IsRegister, IsRelaxed, IsSlotBelow}
+use Rattle.reg_alloc.specs.Placed.{IsPlaced, IsRegister, IsRelaxed, IsSlotBelow}
+use Rattle.reg_alloc.specs.declared.intervals.Interval.{Interval}
 use Rattle.reg_alloc.specs.declared.places.Home.{Home}
 use Rattle.reg_alloc.specs.declared.places.Places.{Places}
 use Rattle.rv_instr.specs.declared.instr.Instr.{Instr}

@@ -1,6 +1,6 @@
 use Rattle.std.proofs.Common.{◌≡◌, ◌++◌, [], ◌∷◌, true, Some, inl, inr, sym, subst, arith}
 use Rattle.std.specs.Prelude.{slice_get}
-use Rattle.reg_alloc.specs.Placed.{Interval}
+use Rattle.reg_alloc.specs.declared.intervals.Interval.{Interval}
 use Rattle.tac_ir.specs.Intervals.{NamesAt, IsLive}
 use Rattle.tac_ir.specs.WellFormed.{labels_differ}
 use Rattle.tac_live.proofs.Numbered.{names_its_temps, labels_once}

@@ -1,6 +1,6 @@
 use Rattle.std.proofs.Common.{◌≡◌, ℕ, Some, vec_len}
 use Rattle.std.specs.Prelude.{slice_get}
-use Rattle.reg_alloc.specs.Placed.{Interval}
+use Rattle.reg_alloc.specs.declared.intervals.Interval.{Interval}
 use Rattle.tac_ir.specs.Intervals.{IsLive}
 use Rattle.tac_live.proofs.live.intervals.Given as goal
 

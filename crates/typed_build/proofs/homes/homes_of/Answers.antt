@@ -3,7 +3,8 @@ use Rattle.std.specs.Prelude.{IfOk}
 use Rattle.std.specs.List.{All}
 use Rattle.std.proofs.lemmas.List.Elements.{All-weaker}
 use Rattle.reg_alloc.specs.Placed as alloc
-use Rattle.reg_alloc.specs.Placed.{Interval, IsPlaced, StaysClearAt}
+use Rattle.reg_alloc.specs.Placed.{IsPlaced, StaysClearAt}
+use Rattle.reg_alloc.specs.declared.intervals.Interval.{Interval}
 use Rattle.reg_alloc.specs.declared.places.Home.{Home}
 use Rattle.reg_alloc.specs.declared.places.Home.TheVariants.{Register, Slot}
 use Rattle.reg_alloc.specs.declared.places.Places.{Places}
