@@ -1,7 +1,7 @@
 -- What the calls of files by name do.
 use Rattle.std.specs.Prelude.{◌≡◌, ◌≢◌, ℕ, ◌<◌, ◌≤◌, List, length, Option, Some, None, Result, Ok, Err, Vec, ⊤}
 use Rattle.std.specs.declared.alloc.Global.{Global}
-pub use Rattle.file_table.specs.Named.{FileMap}
+pub use Rattle.ck_base.specs.Named.{FileMap}
 use Rattle.ck_base.specs.Outside.{Rises}
 use Rattle.ck_base.specs.declared.outside.FileError.{FileError}
 use Rattle.ck_base.specs.declared.outside.FileError.TheVariants.{Failed, Missing, TooLong, NoMemory}

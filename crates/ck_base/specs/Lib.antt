@@ -9,3 +9,4 @@ pub mod Agreement
 pub mod Tokens
 pub mod Literals
 pub mod Lexes
+pub mod Named

@@ -1,6 +1,6 @@
 -- What is known of the outside in memory.
 use Rattle.std.specs.Prelude.{ℕ, ◌+◌, ◌-◌, ◌^◌, List, min}
-pub use Rattle.file_table.specs.Named.{NamedBytes, named_bytes, place_of, file_named, PutsFile}
+pub use Rattle.ck_base.specs.Named.{NamedBytes, named_bytes, place_of, file_named, PutsFile}
 
 -- A source: the bytes that are left, the numbers of the calls that fail, how many calls there were and how many failed.
 pub record SourceInMemory : Type 0 where

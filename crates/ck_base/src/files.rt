@@ -5,7 +5,7 @@ ghost use Rattle.ck_base.specs.Memory.{NamedBytes, FilesInMemory, named_bytes, f
 
 use crate::adapters::LONGEST_FILE;
 use crate::outside::{FileError, Files, PutError};
-use file_table::Table;
+use crate::table::Table;
 use std::alloc::Global;
 use std::marker::Model;
 

@@ -2,10 +2,9 @@
 //! system; the places and refusals of a C file; and its tokens, as definitions.
 //!
 //! Promise: a source, sink or file in memory fails exactly in the calls that are named; a count of faults never
-//! falls.
-//! Definitions (`specs/`): `Named` of `file_table`; here `World`, `Runs`, `Calls`, `Agreement`, `Outside`, `Files`,
-//! `Lexes`.
-//! Main lemmas (`proofs/`): `Fronts`.
+//! falls; of files in memory the bytes that were put last stand under a name, and every other name stays as it was.
+//! Definitions (`specs/`): `Named`, `World`, `Runs`, `Calls`, `Agreement`, `Outside`, `Files`, `Lexes`.
+//! Main lemmas (`proofs/`): `Fronts`, `NamedFiles`.
 #![tactic(auto)]
 
 mod adapters;
@@ -17,6 +16,7 @@ mod refusal;
 mod sequence;
 mod sinks;
 mod sources;
+mod table;
 mod tokens;
 
 pub use adapters::{HostFiles, LONGEST_FILE, StdError, StdInput, StdOutput};

@@ -1,7 +1,7 @@
 use Rattle.std.proofs.Common.{string_bytes}
 use Rattle.std.specs.Prelude.{bytes_eq}
-use Rattle.file_table.proofs.NamedFiles.{position-map}
-use Rattle.file_table.proofs.table.Table.place.Goals as goal
+use Rattle.ck_base.proofs.NamedFiles.{position-map}
+use Rattle.ck_base.proofs.table.Table.place.Goals as goal
 
 pub returns-clause-first : goal.returns-clause-first
 returns-clause-first c = rw (

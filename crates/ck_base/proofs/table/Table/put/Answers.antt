@@ -1,6 +1,6 @@
 use Rattle.std.proofs.Common.{sym}
-use Rattle.file_table.proofs.NamedFiles.{PutsFile-set, PutsFile-push}
-use Rattle.file_table.proofs.table.Table.put.Goals as goal
+use Rattle.ck_base.proofs.NamedFiles.{PutsFile-set, PutsFile-push}
+use Rattle.ck_base.proofs.table.Table.put.Goals as goal
 
 pub returns-in-Some-clause-puts : goal.returns-in-Some-clause-puts
 returns-in-Some-clause-puts c =

@@ -9,7 +9,7 @@ use Rattle.std.proofs.lemmas.List.Quantifiers.{position-Some}
 use Rattle.std.proofs.lemmas.List.Folds.{position_or_len_push, length-prefix_len}
 use Rattle.std.proofs.lemmas.Bool.{false_from_ne_true}
 use Rattle.std.proofs.lemmas.Slice.Eq.{bytes_eq-Decides}
-use Rattle.file_table.specs.Named.{NamedBytes, PutsFile, place_of}
+use Rattle.ck_base.specs.Named.{NamedBytes, PutsFile, place_of}
 
 position_or_len-map : {A B : Type 0} (f : A → B) (p : B → Bool) (xs : List A) →
     position_or_len p (map f xs) ≡ position_or_len (λ x. p (f x)) xs

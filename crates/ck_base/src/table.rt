@@ -1,7 +1,7 @@
 //! A table of files in memory.
 ghost use Rattle.std.specs.Prelude.{◌≡◌, ◌<◌, [], ◌∷◌, ◌++◌, length, position, bytes_eq, slice_set, option_map};
 ghost use Rattle.std.specs.Prelude.{string_bytes, OnOk, OnErr, vec_len};
-ghost use Rattle.file_table.specs.Named.{NamedBytes, PutsFile, named_bytes, place_of, file_named};
+ghost use Rattle.ck_base.specs.Named.{NamedBytes, PutsFile, named_bytes, place_of, file_named};
 
 use std::alloc::{AllocError, Global};
 use std::marker::Model;
