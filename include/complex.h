@@ -1,0 +1,1 @@
+#error "complex.h: the language has no complex numbers"

@@ -1,0 +1,1 @@
+#error "fenv.h: the language has no floating point"

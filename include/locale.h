@@ -1,0 +1,12 @@
+/* C11 7.11: the C locale alone. */
+#ifndef __CHERIC_LOCALE_H
+#define __CHERIC_LOCALE_H
+#include <stddef.h>
+#define LC_CTYPE 0
+#define LC_NUMERIC 1
+#define LC_TIME 2
+#define LC_COLLATE 3
+#define LC_MONETARY 4
+#define LC_ALL 6
+char *setlocale(int, const char *);
+#endif

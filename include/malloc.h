@@ -1,0 +1,2 @@
+/* An old name of stdlib.h. */
+#include <stdlib.h>

@@ -1,0 +1,1 @@
+#error "pthread.h: there is one thread"

@@ -1,0 +1,1 @@
+#error "stdatomic.h: the language has no atomic types; there is one thread"

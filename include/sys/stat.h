@@ -1,0 +1,1 @@
+#error "sys/stat.h: there are no files"

@@ -1,0 +1,1 @@
+#error "termios.h: there is no terminal"

@@ -1,0 +1,1 @@
+#error "tgmath.h: the language has no floating point"

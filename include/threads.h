@@ -1,0 +1,1 @@
+#error "threads.h: there is one thread"

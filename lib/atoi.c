@@ -1,0 +1,8 @@
+/* defines: atoi */
+/* C11 7.22.1.2. */
+unsigned long __cheric_ato(const char *);
+
+int atoi(const char *s)
+{
+    return __cheric_ato(s);
+}

@@ -1,0 +1,6 @@
+/* defines: isascii */
+/* POSIX. */
+int isascii(int c)
+{
+    return c >= 0 && c < 128;
+}

@@ -1,0 +1,11 @@
+/* defines: __cheric_scan_3 */
+/* `scanf` and its kin with 3 arguments behind the format. */
+#include <stdio.h>
+
+int __cheric_scan(const char *, FILE *, const char *, const uintptr_t *);
+
+int __cheric_scan_3(const char *s, FILE *f, const char *t, uintptr_t a, uintptr_t b, uintptr_t c)
+{
+    uintptr_t to[3] = {a, b, c};
+    return __cheric_scan(s, f, t, to);
+}

@@ -1,0 +1,12 @@
+/* defines: __cheric_scan_4 */
+/* `scanf` and its kin with 4 arguments behind the format. */
+#include <stdio.h>
+
+int __cheric_scan(const char *, FILE *, const char *, const uintptr_t *);
+
+int __cheric_scan_4(const char *s, FILE *f, const char *t, uintptr_t a, uintptr_t b, uintptr_t c,
+    uintptr_t d)
+{
+    uintptr_t to[4] = {a, b, c, d};
+    return __cheric_scan(s, f, t, to);
+}

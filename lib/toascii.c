@@ -1,0 +1,6 @@
+/* defines: toascii */
+/* POSIX. */
+int toascii(int c)
+{
+    return c & 127;
+}
