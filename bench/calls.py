@@ -41,20 +41,26 @@ def parser(text):
     return words
 
 
+def program_of(cheric):
+    """The program that ./cheric calls, built without a proof where there is none yet; another command is one itself."""
+    if os.path.abspath(cheric) != f"{ROOT}/cheric":
+        return os.path.abspath(cheric)
+    run = subprocess.run([f"{ROOT}/cheric", "--program"], stdin=subprocess.DEVNULL, stdout=subprocess.PIPE, check=False)
+    if run.returncode:
+        raise SystemExit("the command is not there")
+    return run.stdout.decode().rstrip("\n")
+
+
 def prepared(cheric=f"{ROOT}/cheric"):
-    """The command, as a path that holds in every folder. An unproved one, built for each call, is too slow for many."""
-    path = os.path.abspath(cheric)
-    run = subprocess.run([path], stdin=subprocess.DEVNULL, capture_output=True, check=False)
-    if b"unproved" in run.stderr:
-        raise SystemExit("the command is not built yet: rt ci proves and builds it")
-    return path
+    """The command, as a path that holds in every folder; what it calls is built."""
+    program_of(cheric)
+    return os.path.abspath(cheric)
 
 
 def timed(cheric=f"{ROOT}/cheric"):
     """The command for what is timed: in place of ./cheric the program that it calls, as the search of that
     script for newer sources takes longer than a small file."""
-    path, own = prepared(cheric), os.path.abspath(f"{ROOT}/cheric")
-    return f"{ROOT}/crates/cheric_cli/out/cheric_cli" if path == own else path
+    return program_of(cheric)
 
 
 def each(work, items, jobs):
