@@ -7,7 +7,6 @@ ghost use Rattle.c_parse.specs.Parsed.{IsTreeOf, IsRefused};
 ghost use Rattle.ck_base.specs.Tokens.{Lexeme};
 ghost use Rattle.c_tree.specs.Syntax.{Syn, height};
 ghost use Rattle.c_tree.specs.Parses.{DerivesFile};
-ghost use Rattle.c_tree.specs.File.{OneFile};
 ghost use Rattle.c_externals.specs.Statements.{read_file};
 
 use c_lex::one_reading;
@@ -41,9 +40,3 @@ pub fn one_answer()
 {
     one_reading();
 }
-
-/// A file is at most one program, whatever the numbers of its nodes and types, or it is refused by one code, at one
-/// position but for 120, and never both.
-pub fn one_file()
-    ensures { (bytes : List ℕ) → OneFile bytes }
-{}

@@ -9,4 +9,4 @@ mod files;
 mod laws;
 
 pub use files::parse;
-pub use laws::{one_answer, one_file, one_tree, readings_are_trees};
+pub use laws::{one_answer, one_tree, readings_are_trees};

@@ -7,5 +7,4 @@ pub mod Weighed
 pub mod ViewLayout
 pub mod ViewRoom
 pub mod Sizes
-pub mod OneFile
 pub mod Examples

@@ -18,7 +18,7 @@ use Rattle.c_tree.specs.Types.{Ty}
 use Rattle.c_tree.specs.Terms.{Term, terms, Action, actions, Program}
 use Rattle.c_tree.specs.Weight.{kind_weight, expr_weight, labels_of, stmt_weight, fun_weight, weight}
 use Rattle.c_tree.specs.TreeWeight.{term_weight, terms_weight, action_weight, actions_weight, function_weight}
-use Rattle.c_tree.specs.TreeWeight.{routine_weight, program_weight}
+use Rattle.c_tree.specs.TreeWeight.{expression_weight, statement_weight, routine_weight, program_weight}
 use Rattle.c_tree.specs.Views.{types_of, type_at, kind_term, expr_from, no_term, terms_of, term_at, kind_action}
 use Rattle.c_tree.specs.Views.{stmt_from, no_action, actions_of, action_at, operands, values, parts, expression_uses}
 use Rattle.c_tree.specs.Views.{statement_uses, routine_of, Shows, IsOrdered}
@@ -109,80 +109,77 @@ stmt_weighs es stmts.Empty p go = omega arith
 
 -- ---- the expressions
 
-abbrev W : Typed → ℕ → ℕ
-W p k = term_weight (term_at (terms_of p) k)
-
-expr_is : (p : Typed) (o : IsOrdered p) (k : ℕ) (e : Expr) → slice_get p.exprs k ≡ Some e →
-    expr_weight e + sum_by (W p) (operands e.kind) ≡ W p k
+pub expr_is : (p : Typed) (o : IsOrdered p) (k : ℕ) (e : Expr) → slice_get p.exprs k ≡ Some e →
+    expr_weight e + sum_by (expression_weight p) (operands e.kind) ≡ expression_weight p k
 expr_is p o k e g =
     let ts = types_of p.types in
     let r = forest_reads (expr_from ts) no_term p.exprs k e g in
     let go : ℕ → Term = λ j. slice_index_or r.seen j no_term in
     let w = kind_weighs ts e.kind (type_at ts e.of) e.pos go in
-    let is : W p k ≡ term_weight (expr_from ts e go) = ap term_weight r.is in
-    let same = sum_same (λ j. term_weight (go j)) (W p) (operands e.kind)
-    (each_of (λ j. term_weight (go j) ≡ W p j) (operands e.kind)
+    let is : expression_weight p k ≡ term_weight (expr_from ts e go) = ap term_weight r.is in
+    let same = sum_same (λ j. term_weight (go j)) (expression_weight p) (operands e.kind)
+    (each_of (λ j. term_weight (go j) ≡ expression_weight p j) (operands e.kind)
     (λ i j h. ap term_weight (r.before j (o.operands_before k i j e g h)))) in
     omega (arith, w, is, same)
 
 expressions_sum : (p : Typed) → IsOrdered p →
-    sum_by expr_weight p.exprs ≡ sum_by (W p) (flat_map (λ (s : Stmt). values s.kind) p.stmts)
+    sum_by expr_weight p.exprs ≡ sum_by (expression_weight p) (flat_map (λ (s : Stmt). values s.kind) p.stmts)
 expressions_sum p o =
     let n = length p.exprs in
-    let nodes = sum_upto (λ e. expr_weight e + sum_by (W p) (operands e.kind)) (W p) p.exprs 0
-    (λ k e g. let z : 0 + k ≡ k = omega arith in rw z (expr_is p o k e g)) in
-    let split = sum_both expr_weight (λ (e : Expr). sum_by (W p) (operands e.kind)) p.exprs in
-    let flat = sum_flat (W p) (λ (e : Expr). operands e.kind) p.exprs in
+    let nodes = sum_upto (λ e. expr_weight e + sum_by (expression_weight p) (operands e.kind)) (expression_weight p)
+    p.exprs 0 (λ k e g. let z : 0 + k ≡ k = omega arith in rw z (expr_is p o k e g)) in
+    let split = sum_both expr_weight (λ (e : Expr). sum_by (expression_weight p) (operands e.kind)) p.exprs in
+    let flat = sum_flat (expression_weight p) (λ (e : Expr). operands e.kind) p.exprs in
     let inner = each_flat (λ x. x < n) (λ (e : Expr). operands e.kind) p.exprs
     (λ k e g. each_of (λ x. x < n) (operands e.kind)
     (λ j a h. let b = o.operands_before k j a e g h in let c = slice_get_below p.exprs k e g in omega arith)) in
     let outer = each_flat (λ x. x < n) (λ (s : Stmt). values s.kind) p.stmts
     (λ k s g. each_of (λ x. x < n) (values s.kind) (λ j a h. o.values_there k j a s g h)) in
-    let uses = used_once (W p) n (expression_uses p) (each_append (λ x. x < n) _ _ inner outer) o.expressions_once in
-    let sum = sum_by-append (W p) (flat_map (λ (e : Expr). operands e.kind) p.exprs)
+    let uses = used_once (expression_weight p) n (expression_uses p) (each_append (λ x. x < n) _ _ inner outer)
+    o.expressions_once in
+    let sum = sum_by-append (expression_weight p) (flat_map (λ (e : Expr). operands e.kind) p.exprs)
     (flat_map (λ (s : Stmt). values s.kind) p.stmts) in
     omega (arith, nodes, split, flat, uses, sum)
 
 -- ---- the statements
 
-abbrev V : Typed → ℕ → ℕ
-V p k = action_weight (action_at (actions_of p) k)
+-- a statement with its expressions, without its parts
+abbrev pub own : Typed → Stmt → ℕ
+own p s = stmt_weight s + sum_by (expression_weight p) (values s.kind)
 
-abbrev own : Typed → Stmt → ℕ
-own p s = stmt_weight s + sum_by (W p) (values s.kind)
-
-stmt_is : (p : Typed) (o : IsOrdered p) (k : ℕ) (s : Stmt) → slice_get p.stmts k ≡ Some s →
-    own p s + sum_by (V p) (parts s.kind) ≡ V p k
+pub stmt_is : (p : Typed) (o : IsOrdered p) (k : ℕ) (s : Stmt) → slice_get p.stmts k ≡ Some s →
+    own p s + sum_by (statement_weight p) (parts s.kind) ≡ statement_weight p k
 stmt_is p o k s g =
     let es = terms_of p in
     let r = forest_reads (stmt_from es) no_action p.stmts k s g in
     let go : ℕ → Action = λ j. slice_index_or r.seen j no_action in
     let w = stmt_weighs es s.kind s.pos go in
-    let is : V p k ≡ action_weight (stmt_from es s go) = ap action_weight r.is in
-    let same = sum_same (λ j. action_weight (go j)) (V p) (parts s.kind)
-    (each_of (λ j. action_weight (go j) ≡ V p j) (parts s.kind)
+    let is : statement_weight p k ≡ action_weight (stmt_from es s go) = ap action_weight r.is in
+    let same = sum_same (λ j. action_weight (go j)) (statement_weight p) (parts s.kind)
+    (each_of (λ j. action_weight (go j) ≡ statement_weight p j) (parts s.kind)
     (λ i j h. ap action_weight (r.before j (o.parts_before k i j s g h)))) in
     omega (arith, w, is, same)
 
 statements_sum : (p : Typed) → IsOrdered p →
-    sum_by stmt_weight p.stmts + sum_by (W p) (flat_map (λ (s : Stmt). values s.kind) p.stmts)
-    ≡ sum_by (λ (f : FunDef). V p f.body) p.funs
+    sum_by stmt_weight p.stmts + sum_by (expression_weight p) (flat_map (λ (s : Stmt). values s.kind) p.stmts)
+    ≡ sum_by (λ (f : FunDef). statement_weight p f.body) p.funs
 statements_sum p o =
     let n = length p.stmts in
-    let nodes = sum_upto (λ s. own p s + sum_by (V p) (parts s.kind)) (V p) p.stmts 0
+    let nodes = sum_upto (λ s. own p s + sum_by (statement_weight p) (parts s.kind)) (statement_weight p) p.stmts 0
     (λ k s g. let z : 0 + k ≡ k = omega arith in rw z (stmt_is p o k s g)) in
-    let split = sum_both (own p) (λ (s : Stmt). sum_by (V p) (parts s.kind)) p.stmts in
-    let split_own = sum_both stmt_weight (λ (s : Stmt). sum_by (W p) (values s.kind)) p.stmts in
-    let flat = sum_flat (V p) (λ (s : Stmt). parts s.kind) p.stmts in
-    let flat_values = sum_flat (W p) (λ (s : Stmt). values s.kind) p.stmts in
+    let split = sum_both (own p) (λ (s : Stmt). sum_by (statement_weight p) (parts s.kind)) p.stmts in
+    let split_own = sum_both stmt_weight (λ (s : Stmt). sum_by (expression_weight p) (values s.kind)) p.stmts in
+    let flat = sum_flat (statement_weight p) (λ (s : Stmt). parts s.kind) p.stmts in
+    let flat_values = sum_flat (expression_weight p) (λ (s : Stmt). values s.kind) p.stmts in
     let inner = each_flat (λ x. x < n) (λ (s : Stmt). parts s.kind) p.stmts
     (λ k s g. each_of (λ x. x < n) (parts s.kind)
     (λ j a h. let b = o.parts_before k j a s g h in let c = slice_get_below p.stmts k s g in omega arith)) in
     let outer = each_map (λ x. x < n) (λ (f : FunDef). f.body) p.funs (λ k f g. (o.funs k f g).1) in
-    let uses = used_once (V p) n (statement_uses p) (each_append (λ x. x < n) _ _ inner outer) o.statements_once in
-    let sum = sum_by-append (V p) (flat_map (λ (s : Stmt). parts s.kind) p.stmts)
+    let uses = used_once (statement_weight p) n (statement_uses p) (each_append (λ x. x < n) _ _ inner outer)
+    o.statements_once in
+    let sum = sum_by-append (statement_weight p) (flat_map (λ (s : Stmt). parts s.kind) p.stmts)
     (map (λ (f : FunDef). f.body) p.funs) in
-    let bodies = sum_map (V p) (λ (f : FunDef). f.body) p.funs in
+    let bodies = sum_map (statement_weight p) (λ (f : FunDef). f.body) p.funs in
     omega (arith, nodes, split, split_own, flat, flat_values, uses, sum, bodies)
 
 -- ---- the whole program
@@ -190,7 +187,8 @@ statements_sum p o =
 pub weight_of_functions : (p : Typed) → IsOrdered p → weight p ≡ sum_by (function_weight p) p.funs
 unfolding weight
 weight_of_functions p o =
-    omega (arith, expressions_sum p o, statements_sum p o, sum_both fun_weight (λ (f : FunDef). V p f.body) p.funs)
+    let bodies = sum_both fun_weight (λ (f : FunDef). statement_weight p f.body) p.funs in
+    omega (arith, expressions_sum p o, statements_sum p o, bodies)
 
 routines_weigh : (ts : List Ty) (xs : List Action) (fs : List FunDef) →
     sum_by routine_weight (map (routine_of ts xs) fs)

@@ -1,10 +1,11 @@
-// The weight of a program.
+//! The weight of a program.
 ghost use Rattle.std.specs.Prelude.{◌≡◌, sum_by};
 ghost use Rattle.c_tree.specs.Weight.{counted, expr_weight, stmt_weight, fun_weight, weight};
 
 use crate::typed::{Expr, ExprKind, FunDef, Stmt, StmtKind, Typed};
 
-fn expr_weight(e: &Expr) -> u64
+/// The weight of an expression without its operands.
+pub fn expr_weight(e: &Expr) -> u64
     ensures { result ≡ expr_weight e.now }
 {
     match e.kind {
@@ -23,7 +24,8 @@ fn exprs_weight(exprs: &[Expr]) -> u64
     total
 }
 
-fn stmt_weight(s: &Stmt) -> u64
+/// The weight of a statement without its expressions and parts.
+pub fn stmt_weight(s: &Stmt) -> u64
     ensures { result ≡ stmt_weight s.now }
 {
     match &s.kind {
@@ -42,7 +44,8 @@ fn stmts_weight(stmts: &[Stmt]) -> u64
     total
 }
 
-fn fun_weight(f: &FunDef) -> u64
+/// The weight of a function without its body.
+pub fn fun_weight(f: &FunDef) -> u64
     ensures { result ≡ fun_weight f.now }
 {
     8 + f.vars.as_slice().len() as u64

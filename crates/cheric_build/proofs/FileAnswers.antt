@@ -1,14 +1,14 @@
 -- What is built of a file's program is built of the file, and why its program is refused is why the file is.
-use Rattle.std.proofs.Common.{◌≡◌, ℕ, ◌<◌, ◌≤◌, List, Result, Ok, Err, subst, sym, inl, inr}
+use Rattle.std.proofs.Common.{◌≡◌, ℕ, List, Result, Ok, Err, subst, sym, inl, inr}
 use Rattle.std.specs.Prelude.{IfOk, IfErr, OnOk}
 use Rattle.ck_base.specs.declared.positions.Pos.{Pos}
 use Rattle.ck_base.specs.declared.refusal.Refusal.{Refusal}
 use Rattle.ck_base.specs.declared.refusal.Refusal.TheVariants.{Code, NoMemory}
 use Rattle.c_tree.specs.declared.typed.Typed.{Typed}
-use Rattle.c_tree.specs.File.{weight_limit, HasRoom, Accepts, Refused, OneFile}
-use Rattle.c_tree.specs.File as files
+use Rattle.c_tree.specs.File.{HasRoom}
+use Rattle.accepted_files.specs.Accepted.{IsLight, Accepts, Refused, OneFile}
+use Rattle.accepted_files.specs.Accepted as files
 use Rattle.c_tree.specs.Typing.{Sound}
-use Rattle.c_tree.specs.Weight.{weight}
 use Rattle.obj_mem.specs.declared.map.Map.{Map}
 use Rattle.typing_laws.proofs.Sound.{well_typed}
 use Rattle.cheric_build.specs.Front.{IsTyped, IsBroken}
@@ -27,7 +27,7 @@ broken_file file NoMemory r = r
 -- ---- a file that has this program, and one answer
 
 module _ (file : List ℕ) (once : OneFile file) (p : Typed) (t : IsTyped file p) (s : Sound p) where
-  pub accepted : HasRoom p → weight p ≤ weight_limit → Accepts file p
+  pub accepted : HasRoom p → IsLight p → Accepts file p
   accepted room light = record {
     tokens = t.tokens;
     syntax = t.syntax;
@@ -40,7 +40,7 @@ module _ (file : List ℕ) (once : OneFile file) (p : Typed) (t : IsTyped file p
   pub no_room : (HasRoom p → ⊥) → Refused file 141 start
   no_room h = files.room t.tokens t.syntax p t.reads t.types h
 
-  pub heavy : HasRoom p → weight_limit < weight p → Refused file 142 start
+  pub heavy : HasRoom p → (IsLight p → ⊥) → Refused file 142 start
   heavy room h = files.too_heavy t.tokens t.syntax p t.reads t.types room h
 
   each : (elf : List ℕ) (m : Map) (count : ℕ) → IsBuilt p elf m count → Accepts file p → (q : Typed) → Accepts file q →
@@ -50,7 +50,7 @@ module _ (file : List ℕ) (once : OneFile file) (p : Typed) (t : IsTyped file p
       built_same p q both.program (well_typed p s) b.types.ordered both.first both.second elf m count h
 
   pub built_of : (r : Result Built Refusal) → IfOk r (λ b. IsBuilt p b.elf.items b.map b.count) →
-      OnOk r (HasRoom p) → OnOk r (weight p ≤ weight_limit) →
+      OnOk r (HasRoom p) → OnOk r (IsLight p) →
       IfOk r (λ b. IsBuiltFrom file b.elf.items b.map b.count)
   built_of (Ok b) h w light =
       let a = accepted w light in
@@ -58,7 +58,7 @@ module _ (file : List ℕ) (once : OneFile file) (p : Typed) (t : IsTyped file p
   built_of (Err e) h w light = tt
 
   pub made_of : (r : Result Built Refusal) → IfOk r (λ b. UsesRegisters p b.code b.places.items b.elf.items b.map) →
-      OnOk r (HasRoom p) → OnOk r (weight p ≤ weight_limit) →
+      OnOk r (HasRoom p) → OnOk r (IsLight p) →
       IfOk r (λ b. IsMadeOf file b.code b.places.items b.elf.items b.map)
   made_of (Ok b) h w light = record { program = p; accepted = accepted w light; used = h }
   made_of (Err e) h w light = tt

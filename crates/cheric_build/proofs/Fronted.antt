@@ -6,8 +6,9 @@ use Rattle.ck_base.specs.declared.refusal.Refusal.{Refusal}
 use Rattle.ck_base.specs.declared.refusal.Refusal.TheVariants.{Code, NoMemory}
 use Rattle.c_tree.specs.declared.syntax.Tree.{Tree}
 use Rattle.c_tree.specs.declared.typed.Typed.{Typed}
-use Rattle.c_tree.specs.File.{file_limit, IsRead, Refused}
-use Rattle.c_tree.specs.File as files
+use Rattle.c_tree.specs.File.{file_limit, IsRead}
+use Rattle.accepted_files.specs.Accepted.{Refused}
+use Rattle.accepted_files.specs.Accepted as files
 use Rattle.c_tree.specs.Typing.{AreBytes, Reads, Sound}
 use Rattle.c_parse.specs.Parsed.{IsTreeOf, IsRefused, OnCode}
 use Rattle.c_parse.specs.Parsed as parsed

@@ -2,8 +2,8 @@
 use Rattle.std.proofs.Common.{ℕ, List}
 use Rattle.c_lex.proofs.OneReading.{one_lexing, one_refusal, lexing_no_refusal}
 use Rattle.c_externals.proofs.StatementsComplete.{one_tree}
-use Rattle.c_tree.specs.File.{OneFile}
-use Rattle.c_tree.proofs.OneFile as files
+use Rattle.accepted_files.specs.Accepted.{OneFile}
+use Rattle.accepted_files.proofs.OneFile as files
 
 pub once : (file : List ℕ) → OneFile file
 once file = files.one_file file (record {

@@ -2,7 +2,8 @@
 use Rattle.std.specs.Prelude.{ℕ, ◌≤◌, List, length}
 use Rattle.ck_base.specs.declared.refusal.Refusal.{Refusal}
 use Rattle.ck_base.specs.declared.refusal.Refusal.TheVariants.{Code, NoMemory}
-use Rattle.c_tree.specs.File.{file_limit, Accepts, Refused}
+use Rattle.c_tree.specs.File.{file_limit}
+use Rattle.accepted_files.specs.Accepted.{Accepts, Refused}
 use Rattle.c_tree.specs.declared.typed.Typed.{Typed}
 use Rattle.obj_mem.specs.declared.map.Map.{Map}
 use Rattle.reg_alloc.specs.declared.places.Places.{Places}

@@ -5,7 +5,8 @@ use Rattle.ck_base.specs.Tokens.{Lexeme}
 use Rattle.ck_base.specs.declared.refusal.Refusal.{Refusal}
 use Rattle.ck_base.specs.declared.refusal.Refusal.TheVariants.{Code, NoMemory}
 use Rattle.c_tree.specs.declared.typed.Typed.{Typed}
-use Rattle.c_tree.specs.File.{file_limit, IsRead, Refused, room, too_heavy}
+use Rattle.c_tree.specs.File.{file_limit, IsRead}
+use Rattle.accepted_files.specs.Accepted.{Refused, room, too_heavy}
 use Rattle.c_tree.specs.Syntax.{Syn}
 use Rattle.c_tree.specs.Typing.{TypesSyntax}
 

@@ -2,7 +2,7 @@
 //! are what the file means.
 //!
 //! Promise: a file is built as the typed program that it is accepted as, or refused by the first rule that it breaks.
-//! Definitions (`specs/`): `FromFile`; `File` of `c_tree`, `Built` of `typed_build`.
+//! Definitions (`specs/`): `FromFile`; `Accepted` of `accepted_files`, `Built` of `typed_build`.
 //! Main lemmas (`proofs/`): `FileAnswers`, `Once`.
 #![tactic(auto)]
 

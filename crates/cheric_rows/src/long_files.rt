@@ -273,6 +273,73 @@ const CALLED: [Called; 9] = [
     ),
 ];
 
+const HEAVY: [Called; 5] = [
+    // the limit is each function's: two of the most weight, and one that weighs one more than it may
+    (
+        "cheric run a.c",
+        &[
+            ("int f(void){", 1),
+            ("7;", 3_885),
+            (";}int main(void){", 1),
+            ("7;", 3_885),
+            (";}", 1),
+        ],
+        0,
+        &[],
+        "exit 0\n",
+    ),
+    (
+        "cheric run a.c",
+        &[
+            ("int f(void){", 1),
+            ("7;", 3_886),
+            ("}int main(void){return 0;}", 1),
+        ],
+        10,
+        &[],
+        "refused 142 1:1\n",
+    ),
+    // and one for all together: 10,000 functions of 25, and one unit more
+    (
+        "cheric run a.c",
+        &[
+            ("int f#(void){7;7;7;7;7;7;7;7;}", 9_999),
+            ("int main(void){7;7;7;7;7;7;7;7;}", 1),
+        ],
+        0,
+        &[],
+        "exit 0\n",
+    ),
+    (
+        "cheric run a.c",
+        &[
+            ("int f#(void){7;7;7;7;7;7;7;7;}", 9_999),
+            ("int main(void){7;7;7;7;7;7;7;7;;}", 1),
+        ],
+        10,
+        &[],
+        "refused 142 1:1\n",
+    ),
+    // calls both ways across a text of more than 1,048,576 bytes
+    (
+        "cheric run a.c",
+        &[
+            ("long last(void);long f0(void){return last();}", 1),
+            (
+                "long f#(void){return f@()+0x7123456789abcdef-0x7123456789abcdef;}",
+                10_000,
+            ),
+            (
+                "long last(void){return 7;}int main(void){return f10000();}",
+                1,
+            ),
+        ],
+        1,
+        &[],
+        "exit 7\n",
+    ),
+];
+
 const EQUAL: [Called; 6] = [
     // brackets that are never closed
     (
@@ -399,6 +466,11 @@ fn are_called(rt: &impl Abort, alloc: Global, rows: &[Called]) {
 #[test]
 fn long_files_are_called(rt: HostRuntime) {
     are_called(&rt, rt.alloc(), &CALLED);
+}
+
+#[test]
+fn heavy_files_are_called(rt: HostRuntime) {
+    are_called(&rt, rt.alloc(), &HEAVY);
 }
 
 #[test]

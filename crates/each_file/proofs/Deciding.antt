@@ -7,7 +7,6 @@ use Rattle.std.proofs.lemmas.Option.{none-some, same_Some}
 use Rattle.ck_base.specs.declared.positions.Pos.{Pos}
 use Rattle.ck_base.specs.Tokens.{Lexeme}
 use Rattle.ck_base.specs.Lexes.{Lexes, Refuses, position_after}
-use Rattle.c_tree.specs.declared.typed.CType.{CType}
 use Rattle.c_tree.specs.declared.typed.FunDef.{FunDef}
 use Rattle.c_tree.specs.declared.typed.Typed.{Typed}
 use Rattle.c_tree.specs.Syntax.{Syn, height}
@@ -15,12 +14,13 @@ use Rattle.c_tree.specs.Terms.{Program}
 use Rattle.c_tree.specs.Scopes.{Fault}
 use Rattle.c_tree.specs.Programs.{typing}
 use Rattle.c_tree.specs.Brackets.{excess}
+use Rattle.c_tree.specs.TreeWeight.{function_weight, function_limit}
 use Rattle.c_tree.specs.Weight.{weight}
 use Rattle.c_tree.specs.Parses.{DerivesFile}
 use Rattle.c_tree.specs.Typing.{AreBytes, TypesSyntax, RefusesSyntax}
-use Rattle.c_tree.specs.File.{file_limit, room_limit, weight_limit, static_room, local_room, HasRoom, IsCut, IsRead}
-use Rattle.c_tree.specs.File.{beginning, too_long, lexical, brackets, no_tree, typing as refused_typing, room}
-use Rattle.c_tree.specs.File.{too_heavy, OneFile}
+use Rattle.c_tree.specs.File.{file_limit, room_limit, static_room, local_room, HasRoom, IsCut, IsRead}
+use Rattle.accepted_files.specs.Accepted.{weight_limit, IsLight, beginning, too_long, lexical, brackets, no_tree}
+use Rattle.accepted_files.specs.Accepted.{typing as refused_typing, room, too_heavy, OneFile}
 use Rattle.c_externals.specs.Statements.{read_file}
 use Rattle.typing_laws.proofs.Accepted.{fit_of_tokens}
 use Rattle.written_programs.proofs.Written.{written}
@@ -29,34 +29,48 @@ use Rattle.written_programs.proofs.Tagged.{typed_tags}
 use Rattle.typing_laws.specs.Codes.{IsTypingCode}
 use Rattle.each_file.specs.Each.{IsAccepted, IsRefused, EachFile}
 
--- ---- the room of objects
+-- ---- a number of each function, at most a limit
 
-abbrev RoomsFit : List CType → List FunDef → Type 0
-RoomsFit types fs = (f : FunDef) → (k : ℕ) → slice_get fs k ≡ Some f → local_room types f ≤ room_limit
+abbrev AreWithin : (FunDef → ℕ) → ℕ → List FunDef → Type 0
+AreWithin size limit fs = (k : ℕ) (f : FunDef) → slice_get fs k ≡ Some f → size f ≤ limit
 
-rooms_fit : (types : List CType) (fs : List FunDef) → RoomsFit types fs ⊎ (RoomsFit types fs → ⊥)
-rooms_fit types [] = inl (λ f k e. absurd (none-some f e))
-rooms_fit types (g ∷ fs) = by_first (cases_lt room_limit (local_room types g)) (rooms_fit types fs)
+are_within : (size : FunDef → ℕ) (limit : ℕ) (fs : List FunDef) →
+    AreWithin size limit fs ⊎ (AreWithin size limit fs → ⊥)
+are_within size limit [] = inl (λ k f e. absurd (none-some f e))
+are_within size limit (g ∷ fs) = by_first (cases_lt limit (size g)) (are_within size limit fs)
   where
-    all : local_room types g ≤ room_limit → RoomsFit types fs → RoomsFit types (g ∷ fs)
-    all le h f zero e = subst (λ (x : FunDef). local_room types x ≤ room_limit) (same_Some g f e) le
-    all le h f (suc k) e = h f k e
+    all : size g ≤ limit → AreWithin size limit fs → AreWithin size limit (g ∷ fs)
+    all le h zero f e = subst (λ (x : FunDef). size x ≤ limit) (same_Some g f e) le
+    all le h (suc k) f e = h k f e
 
-    by_first : (room_limit < local_room types g) ⊎ (local_room types g ≤ room_limit) →
-        RoomsFit types fs ⊎ (RoomsFit types fs → ⊥) →
-        RoomsFit types (g ∷ fs) ⊎ (RoomsFit types (g ∷ fs) → ⊥)
-    by_first (inl lt) r = inr (λ h. let le = h g 0 refl in absurd (omega arith))
+    by_first : (limit < size g) ⊎ (size g ≤ limit) → AreWithin size limit fs ⊎ (AreWithin size limit fs → ⊥) →
+        AreWithin size limit (g ∷ fs) ⊎ (AreWithin size limit (g ∷ fs) → ⊥)
+    by_first (inl lt) r = inr (λ h. let le = h 0 g refl in absurd (omega arith))
     by_first (inr le) (inl h) = inl (all le h)
-    by_first (inr le) (inr n) = inr (λ h. n (λ f k e. h f (suc k) e))
+    by_first (inr le) (inr n) = inr (λ h. n (λ k f e. h (suc k) f e))
+
+-- ---- the limits
 
 has_room : (p : Typed) → HasRoom p ⊎ (HasRoom p → ⊥)
-has_room p = by_statics (cases_lt room_limit (static_room p)) (rooms_fit p.types p.funs)
+has_room p = by_statics (cases_lt room_limit (static_room p)) (are_within (local_room p.types) room_limit p.funs)
   where
     by_statics : (room_limit < static_room p) ⊎ (static_room p ≤ room_limit) →
-        RoomsFit p.types p.funs ⊎ (RoomsFit p.types p.funs → ⊥) → HasRoom p ⊎ (HasRoom p → ⊥)
+        AreWithin (local_room p.types) room_limit p.funs ⊎ (AreWithin (local_room p.types) room_limit p.funs → ⊥) →
+        HasRoom p ⊎ (HasRoom p → ⊥)
     by_statics (inl lt) r = inr (λ h. let le = h.statics in absurd (omega arith))
-    by_statics (inr le) (inl h) = inl (record { statics = le; locals = h })
-    by_statics (inr le) (inr n) = inr (λ h. n h.locals)
+    by_statics (inr le) (inl h) = inl (record { statics = le; locals = λ f k. h k f })
+    by_statics (inr le) (inr n) = inr (λ h. n (λ k f. h.locals f k))
+
+is_light : (p : Typed) → IsLight p ⊎ (IsLight p → ⊥)
+is_light p = by_all (cases_lt weight_limit (weight p)) (are_within (function_weight p) function_limit p.funs)
+  where
+    by_all : (weight_limit < weight p) ⊎ (weight p ≤ weight_limit) →
+        AreWithin (function_weight p) function_limit p.funs
+        ⊎ (AreWithin (function_weight p) function_limit p.funs → ⊥) →
+        IsLight p ⊎ (IsLight p → ⊥)
+    by_all (inl lt) r = inr (λ h. let le = h.all in absurd (omega arith))
+    by_all (inr le) (inl h) = inl (record { each = record { each = h }; all = le })
+    by_all (inr le) (inr n) = inr (λ h. n h.each.each)
 
 -- ---- rule by rule
 
@@ -71,13 +85,13 @@ module _ (bytes : List ℕ) (small : AreBytes bytes)
   of_program : (tokens : List Lexeme) (x : Syn) (p : Typed) → IsRead bytes tokens x → TypesSyntax x p → Answer
   of_program tokens x p r t = by_room (has_room p)
     where
-      by_weight : HasRoom p → (weight_limit < weight p) ⊎ (weight p ≤ weight_limit) → Answer
-      by_weight h (inl lt) = inr (142, beginning, too_heavy tokens x p r t h lt)
-      by_weight h (inr le) =
-          inl (p, record { tokens = tokens; syntax = x; reads = r; types = t; room = h; light = le })
+      by_weight : HasRoom p → IsLight p ⊎ (IsLight p → ⊥) → Answer
+      by_weight h (inr heavy) = inr (142, beginning, too_heavy tokens x p r t h heavy)
+      by_weight h (inl light) =
+          inl (p, record { tokens = tokens; syntax = x; reads = r; types = t; room = h; light = light })
 
       by_room : HasRoom p ⊎ (HasRoom p → ⊥) → Answer
-      by_room (inl h) = by_weight h (cases_lt weight_limit (weight p))
+      by_room (inl h) = by_weight h (is_light p)
       by_room (inr n) = inr (141, beginning, room tokens x p r t n)
 
   of_typing : (tokens : List Lexeme) (x : Syn) (q : Program) → IsRead bytes tokens x → typing x ≡ Ok q → Answer

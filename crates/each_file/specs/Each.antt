@@ -5,7 +5,8 @@ use Rattle.ck_base.specs.Tokens.{Lexeme}
 use Rattle.c_tree.specs.declared.typed.Typed.{Typed}
 use Rattle.c_tree.specs.Syntax.{Syn}
 use Rattle.c_tree.specs.Typing.{RefusesSyntax}
-use Rattle.c_tree.specs.File.{IsRead, Accepts, Refused}
+use Rattle.c_tree.specs.File.{IsRead}
+use Rattle.accepted_files.specs.Accepted.{Accepts, Refused}
 use Rattle.typing_laws.specs.Codes.{IsTypingCode}
 
 -- it is accepted, as some program

@@ -28,11 +28,18 @@ segments_of i = text_of i ∷ initial_of i ∷ i.heap ∷ i.stack ∷ []
 unfoldable pub lies_well : Extent → Bool
 lies_well e = e.0 % 16 == 0 && e.1 % 16 == 0 && nat_le 65536 e.0 && nat_le (end_of e) (2 ^ 40)
 
--- each segment lies well, the text has at most 1,048,576 bytes, and all together at most 268,435,456
+-- the most bytes of a text, and of all segments together
+abbrev pub text_limit : ℕ
+text_limit = 33554432
+
+abbrev pub segments_limit : ℕ
+segments_limit = 268435456
+
+-- each segment lies well, and neither the text nor all together are too long
 unfoldable pub segments_fit : Extent → Extent → Extent → Extent → Bool
 segments_fit text initial heap stack =
-    lies_well text && lies_well initial && lies_well heap && lies_well stack && nat_le text.1 1048576
-    && nat_le (text.1 + initial.1 + heap.1 + stack.1) 268435456
+    lies_well text && lies_well initial && lies_well heap && lies_well stack && nat_le text.1 text_limit
+    && nat_le (text.1 + initial.1 + heap.1 + stack.1) segments_limit
 
 -- some address lies in both: neither is empty, and each begins before the other ends
 unfoldable pub overlap : Extent → Extent → Bool

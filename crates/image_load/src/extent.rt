@@ -72,7 +72,7 @@ pub fn segments_fit(text: Extent, initial: Extent, heap: Extent, stack: Extent) 
         && lies_well(initial)
         && lies_well(heap)
         && lies_well(stack)
-        && text.1 <= 1_048_576
+        && text.1 <= 33_554_432
         && u128::from(text.1) + u128::from(initial.1) + u128::from(heap.1) + u128::from(stack.1)
             <= 268_435_456
 }

@@ -1,17 +1,15 @@
 -- The form of lowered code gives what is asked of a program's code alone.
-use Rattle.std.proofs.Common.{◌≡◌, ℕ, zero, suc, true, List, [], ◌∷◌, ◌++◌, length, Some, refl, ap, ◌∙◌}
+use Rattle.std.proofs.Common.{◌≡◌, List, [], ◌∷◌, ◌++◌, length, Some, refl, ap, ◌∙◌}
 use Rattle.std.specs.Prelude.{slice_get}
 use Rattle.ck_int.specs.declared.kinds.IntKind.{IntKind}
 use Rattle.ck_int.specs.declared.kinds.IntOp.{IntOp}
 use Rattle.ck_int.specs.declared.kinds.IntOp.TheVariants.{Add, Sub}
 use Rattle.c_tree.specs.Typing.{Sound}
 use Rattle.cheri_c_sem.specs.Programs.{program_tree}
-use Rattle.tac_ir.specs.WellFormed.{int_result, is_well_formed}
-use Rattle.tac_ir.specs.Within.{Within}
+use Rattle.tac_ir.specs.WellFormed.{int_result}
 use Rattle.tac_ir.specs.declared.code.TacFun.{TacFun}
 use Rattle.tac_ir.specs.declared.code.TacInstr.{TacInstr}
 use Rattle.tac_ir.specs.declared.code.TacInstr.TheVariants as instr
-use Rattle.lower_runs.specs.Programs.{IsProgram}
 use Rattle.lower_runs.proofs.Programs.{programs_run}
 use Rattle.lower_forms.specs.Forms as forms
 use Rattle.lower_forms.specs.Forms.{IsMade, IsWide, TakesParameters}
@@ -21,7 +19,7 @@ use Rattle.select_words.specs.Operations.{AtKind}
 use Rattle.select_runs.specs.Instructions.{IsOperation}
 use Rattle.select_whole.specs.Runs.{IsInteger}
 use Rattle.select_whole.specs.Visited.{Whole, gives_at, gives_by, main_of}
-use Rattle.image_runs.specs.Asked.{Has, IsAt, IsCode}
+use Rattle.image_runs.specs.Asked.{Has, IsAt}
 use Rattle.image_runs.specs.Lowered.{LoweredCode}
 
 at_kind : (k : IntKind) (op : IntOp) → IsWide k op → AtKind k op

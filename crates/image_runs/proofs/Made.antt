@@ -1,12 +1,14 @@
 -- Functions of what was made of a program stand as they were selected.
-use Rattle.std.proofs.Common.{◌≡◌, ℕ, ◌+◌, ◌-◌, ◌*◌, ◌%◌, ◌<◌, ◌≤◌, List, [], length, Option, Some, None, refl}
-use Rattle.std.proofs.Common.{arith, sym, ap, ◌∙◌, subst}
+use Rattle.std.proofs.Common.{◌≡◌, ℕ, ◌+◌, ◌-◌, ◌*◌, ◌%◌, ◌<◌, ◌≤◌, pos, List, [], ◌∷◌, ◌++◌, length, Option, Some}
+use Rattle.std.proofs.Common.{None, refl, arith, sym, ap, ◌∙◌, subst}
 use Rattle.std.specs.Prelude.{◌/◌, slice_get, slice_index, slice_index_or}
 use Rattle.std.specs.List.{Contains}
 use Rattle.std.specs.Option.{option_map}
+use Rattle.std.proofs.lemmas.List.{append_assoc}
 use Rattle.std.proofs.lemmas.Option.{get_or_from_slice_get, slice_get-get_or, slice_get-map, slice_get_within}
 use Rattle.ck_base.specs.declared.positions.Pos.{Pos}
 use Rattle.rv_instr.specs.declared.instr.Instr.{Instr}
+use Rattle.rv_instr.specs.declared.instr.Instr.TheVariants.{Cjalr}
 use Rattle.obj_mem.specs.declared.map.Frame.{Frame}
 use Rattle.cheri_c_sem.specs.Programs.{program_tree}
 use Rattle.reg_alloc.specs.declared.places.Home.{Home}
@@ -20,15 +22,18 @@ use Rattle.tac_live.specs.Calls.{arguments}
 use Rattle.place_inject.specs.Frames.{homes_of}
 use Rattle.select_words.specs.Entries.{stack_place}
 use Rattle.select_words.specs.Selecting.{Selecting}
-use Rattle.select_words.specs.Services.{KeepSome}
-use Rattle.select_whole.specs.Visited.{main_of}
+use Rattle.select_words.specs.Services.{KeepSome, ask}
+use Rattle.select_words.specs.Standing.{HasAt}
+use Rattle.select_runs.proofs.Acts.{has_back, has_front}
 use Rattle.rv_emit.specs.Growing.{line_at}
 use Rattle.rv_emit.specs.Leading.{IsHop}
-use Rattle.rv_select.specs.Selected.{FunctionStands, in_function, is_entered, is_said, is_sunk}
+use Rattle.rv_select.specs.Selected.{Far, FunctionStands, Near, StartWords, in_function, is_entered, is_said, is_sunk}
 use Rattle.image_runs.specs.Asked.{Enters, FunctionIs, IsAt, Says, Sinks, called_to}
 use Rattle.image_runs.specs.Made.{AreMade, AreSelected, AreStanding, Made, SelectedFunctions, before_rest, behind_call}
 use Rattle.image_runs.specs.Made.{homes_in, keep_length, result_by, result_of, selecting_in, setting_of, table_in}
-use Rattle.image_runs.specs.Made.{whole_of}
+use Rattle.image_runs.specs.Made.{stub_by, stub_of, whole_of}
+use Rattle.image_runs.specs.Starting.{CallsFirst}
+use Rattle.image_runs.specs.Starting as first
 use Rattle.image_runs.proofs.Kept.{before_rest_is, kept_length, passed_places}
 use Rattle.image_runs.proofs.Turned.{function_turned}
 
@@ -164,21 +169,40 @@ module _ (m : Made) (s : AreSelected m) (a : AreMade m s) where
       back = back;
     }
 
-  leads : (at : ℕ) → Enters (whole_of m s) (main_of (whole_of m s)) at → IsHop 0 at s.offset
+  -- ---- the start
+
+  abbrev StartsBy : List Instr → Type 0
+  StartsBy = StartWords (λ z. (at : ℕ) → is_entered m.entries m.program.main at → IsHop 0 at z)
+      ((table_in m).functions + m.program.main)
+
+  begun : (words : List Instr) (x : StartsBy words) → HasAt m.words 0 words → stub_of m s ≡ stub_by x
+      → HasAt m.words (stub_by x) (ask 3) × CallsFirst (whole_of m s)
   unfolding program_tree
-  leads at e = s.leads at (enters_so m.program.main at e)
+  begun words (Near offset leads are) has same =
+      let q = subst (HasAt m.words 0) are has in (
+        q.1,
+        first.Near offset q.0 (λ at e. leads at (enters_so m.program.main at e)) (ap (λ n. base + 4 * n) same),
+      )
+  begun words (Far finds found are) has same =
+      let q = subst (HasAt m.words 0) are has in
+      let call = Cjalr 1 31 (pos 0) ∷ [] in
+      let later = has_back m.words 0 finds (Cjalr 1 31 (pos 0) ∷ ask 3) q in
+      let place : 0 + length finds + 1 ≡ length finds + 1 = omega arith in (
+        subst (λ n. HasAt m.words n (ask 3)) place later.1,
+        first.Far finds found
+            (has_front m.words 0 (finds ++ call) (ask 3)
+            (subst (HasAt m.words 0) (sym (append_assoc finds call (ask 3))) q)) (ap (λ n. base + 4 * n) same),
+      )
+
+  starting : HasAt m.words (stub_of m s) (ask 3) × CallsFirst (whole_of m s)
+  starting = begun s.start s.starts s.begins refl
 
   standing : AreStanding m s
   standing = record {
     functions = function_is;
     numbers = λ fun f is. s.numbered fun f is;
-    stub = record { is = refl; words = s.begins.1 };
-    first = record {
-      offset = s.offset;
-      calls = s.begins.0;
-      leads = leads;
-      stub = refl;
-    };
+    stub = record { is = refl; words = starting.0 };
+    first = starting.1;
   }
 
 pub selected_functions_law : SelectedFunctions

@@ -7,7 +7,7 @@ use Rattle.place_inject.specs.Frames.{homes_of}
 use Rattle.temp_homes.specs.Keeping.{KeepsTemps}
 use Rattle.image_runs.specs.Asked.{IsAsked, IsSelected}
 use Rattle.image_runs.specs.Counted.{AreCounted}
-use Rattle.image_runs.specs.Made.{AreSelected, AreStanding, Made, setting_of, whole_of}
+use Rattle.image_runs.specs.Made.{AreSelected, AreStanding, Made, setting_of, stub_of, whole_of}
 use Rattle.image_runs.specs.Running.{IsRunnable, MadeCodeRuns}
 use Rattle.image_runs.proofs.Counts.{counted_code_law}
 use Rattle.image_runs.proofs.Made.{homes_are, own, own_is, selected_functions_law}
@@ -31,7 +31,7 @@ module _ (m : Made) (s : AreSelected m) (x : IsRunnable m s) where
     functions = stand.functions;
     homes = keeps;
     numbers = stand.numbers;
-    stub = 1;
+    stub = stub_of m s;
     ends = stand.stub;
     dear = counts.dear;
   }

@@ -62,7 +62,7 @@ use Rattle.select_heap.specs.Heap.{IsBeside}
 use Rattle.lower_runs.proofs.Fitting.{sound_calls_fit}
 use Rattle.select_whole.specs.Chosen.{Stand, EachStands, ZeroStands, AccessStands, CopyStands, ServiceStands}
 use Rattle.select_whole.specs.Chosen.{BranchStands, CalleeStands, CallStands, JumpStands, ReturnStands, ValueCallStands}
-use Rattle.select_whole.specs.Chosen.{MallocStands, LastStands, Chosen, copying}
+use Rattle.select_whole.specs.Chosen.{CallLeads, Chosen, Far, LastStands, MallocStands, Near, copying}
 use Rattle.select_whole.specs.Runs.{CallersKept, Each, Here, IsInteger, IsStrange, here}
 use Rattle.select_whole.specs.Runs.{searched}
 use Rattle.select_whole.specs.Visited.{Whole, kinds_at, locals_of, tac_at}
@@ -102,12 +102,19 @@ record CalledWith (s : Selecting) (to : Option ℕ) (all : List Instr) : Type 0 
 
 call_words : (y : Ways) (s : Selecting) (i : TacInstr) (to : Option ℕ) → called_to i ≡ Some to → (all : List Instr)
     → WordsOf y s i all → CalledWith s to all
-call_words y s (instr.Call to' fun args) to e all h =
+call_words y s (instr.Call to' fun args) to e all (inl h) =
     record {
       call = h.passes ++ Cjal 1 h.offset ∷ [];
       keep = h.keep;
       kept = subst (λ z. KeepSome s z h.keep) (same_some to' to e) h.kept;
       are = h.are;
+    }
+call_words y s (instr.Call to' fun args) to e all (inr h) =
+    record {
+      call = h.1.finds ++ (h.1.passes ++ Cjalr 1 31 (pos 0) ∷ []);
+      keep = h.1.keep;
+      kept = subst (λ z. KeepSome s z h.1.keep) (same_some to' to e) h.1.kept;
+      are = h.1.are;
     }
 call_words y s (instr.CallValue to' v of args source) to e all h =
     record {
@@ -660,6 +667,51 @@ module _ (g : Whole) (a : IsSelected g) (c : IsCode g) (l : IsLoaded g) (w : Wor
       → AreAside (selecting g.setting fun) (arguments i)
   aside fun i rest x v q among home = (a.homes fun x.f x.is).aside i rest x.reached v q among home
 
+  -- the words of a call of a function that stands at a word
+  module _ (to : Option ℕ) (fun : ℕ) (args : List ℕ) (r : Running) (rest : List TacInstr)
+      (x : Stood r.fun (instr.Call to fun args) rest) (f : TacFun) (is : Has g fun f) where
+    abbrev the_call : TacInstr
+    the_call = instr.Call to fun args
+
+    abbrev from : ℕ
+    from = g.word r.fun (the_call ∷ rest)
+
+    abbrev own : Selecting
+    own = selecting g.setting r.fun
+
+    abbrev ways_here : Ways
+    ways_here = ways g.code (Says g) (Enters g) own x.f (g.word r.fun) from
+
+    abbrev entry : ℕ
+    entry = (a.functions fun f is).entry
+
+    call_leads : (ws : List Instr) (h : WordsOf ways_here own the_call ws) → from + length ws ≤ length g.code
+        → CallLeads g w fun args r from entry (call_words ways_here own the_call to refl ws h).call
+    unfolding call_words
+    call_leads ws (inl h) inside =
+        let q = a.functions fun f is in
+        let long = ap length h.are ∙ length-append (h.passes ++ Cjal 1 h.offset ∷ []) h.keep in
+        let size = length-append h.passes (Cjal 1 h.offset ∷ []) in
+        let body = q.stands.inside [] f.code refl in
+        let begins = q.stands.first in
+        let room = l.text.room in
+        let top = l.text.legal.in_range.1 in
+        Near h.offset (record { passes = h.passes; passed = h.passed (aside r.fun the_call rest x); are = refl })
+        (record {
+          from = omega (arith, inside, long, size);
+          inside = omega (arith, begins, body);
+          there = hops g.setting.map.text.0 (from + length h.passes) entry h.offset
+              (omega (arith, inside, long, size)) (omega (arith, begins, body)) (h.leads entry q.enters);
+        })
+    call_leads ws (inr h) inside =
+        Far (record {
+          finds = h.1.finds;
+          found = h.1.found;
+          passes = h.1.passes;
+          passed = h.1.passed (aside r.fun the_call rest x);
+          are = refl;
+        }) (get_or_from_slice_get g.setting.map.entries fun _ 0 (a.functions fun f is).enters)
+
   calls : (to : Option ℕ) (fun : ℕ) (args : List ℕ) (r : Running) (rest : List TacInstr) (t : State Store)
       (m : Machine) → Here g w r false (instr.Call to fun args ∷ rest) t m → CallStands g w to fun args r rest t
   unfolding callee
@@ -671,33 +723,20 @@ module _ (g : Whole) (a : IsSelected g) (c : IsCode g) (l : IsLoaded g) (w : Wor
       let z = taken g.program s.d (kinds_at g r.fun) (tac_at g r.fun) (signature_of_function g.program fun) to args
       s.fits in
       let f = code_there g.program g.setting.code fun z.of c.formed z.is in
-      let q = a.functions fun f.f f.is in
-      let from = g.word r.fun (i ∷ rest) in
-      let call = y.are.passes ++ Cjal 1 y.are.offset ∷ [] in
-      let whole = subst (HasAt g.code from) y.are.are y.has in
-      let long = ap length y.are.are ∙ length-append call y.are.keep in
-      let size = length-append y.are.passes (Cjal 1 y.are.offset ∷ []) in
+      let at = g.word r.fun (i ∷ rest) in
+      let p = call_words (ways_here to fun args r rest x f.f f.is) (selecting g.setting r.fun) i to refl y.words
+      y.are in
+      let long = ap length p.are ∙ length-append p.call p.keep in
       let next = y.next in
       let after = (a.functions r.fun x.f x.is).stands.inside (x.at.before ++ i ∷ []) rest
       (x.at.is ∙ sym (append_assoc x.at.before (i ∷ []) rest)) in
-      let body = q.stands.inside [] f.f.code refl in
-      let begins = q.stands.first in
-      let room = l.text.room in
-      let top = l.text.legal.in_range.1 in
       record {
         callee = callee fun f.f f.is args (c.counts fun f.f z.of f.is z.is ∙ sym z.same) to r rest t;
-        offset = y.are.offset;
-        words = call;
-        form = record { passes = y.are.passes; passed = y.are.passed (aside r.fun i rest x); are = refl };
-        has = has_front g.code from call y.are.keep whole;
-        leads = record {
-          from = omega (arith, next, long, size);
-          inside = omega (arith, begins);
-          there = hops g.setting.map.text.0 (from + length y.are.passes) q.entry y.are.offset
-              (omega (arith, next, long, size)) (omega (arith, begins)) (y.are.leads q.entry q.enters);
-        };
-        may = may_call r i rest x to args refl refl refl t (keeps_of r.fun t.first r.callers h.callers) y.are.keep
-            y.are.kept (from + length call) (omega (arith, next, long));
+        words = p.call;
+        leads = call_leads to fun args r rest x f.f f.is y.words y.are (omega (arith, next, after));
+        has = has_front g.code at p.call p.keep (subst (HasAt g.code at) p.are y.has);
+        may = may_call r i rest x to args refl refl refl t (keeps_of r.fun t.first r.callers h.callers) p.keep p.kept
+            (at + length p.call) (omega (arith, next, long));
         cheap = a.dear.each r.fun i;
       }
 

@@ -1,8 +1,8 @@
 -- The machine comes to the first function, or finds no room for its frame.
-use Rattle.std.proofs.Common.{◌≡◌, ℕ, ◌+◌, ◌<◌, List, [], length, Option, Some, None, refl, sym, ap, ◌∙◌}
+use Rattle.std.proofs.Common.{◌≡◌, ℕ, ◌+◌, ◌<◌, ℤ, List, [], length, Option, Some, None, refl, sym, ap, ◌∙◌}
 use Rattle.std.proofs.Common.{subst, arith}
 use Rattle.std.specs.Prelude.{slice_get}
-use Rattle.std.proofs.lemmas.Option.{slice_get_within}
+use Rattle.std.proofs.lemmas.Option.{get_or_from_slice_get, slice_get_within}
 use Rattle.ck_base.specs.World.{World, GivesBytes, nothing_done}
 use Rattle.cap_ops.specs.declared.access.Cause.{Cause}
 use Rattle.cap_machine.specs.declared.end.End.TheVariants as end
@@ -19,6 +19,7 @@ use Rattle.tac_ir.specs.declared.code.TacInstr.{TacInstr}
 use Rattle.place_inject.specs.Entering.{entered, first_of}
 use Rattle.place_inject.specs.Frames.{IsLive}
 use Rattle.select_runs.proofs.Calling.{first_is_entered_law}
+use Rattle.select_runs.proofs.FarCalls.{far_first_is_entered_law}
 use Rattle.select_runs.specs.Acts.{place}
 use Rattle.select_runs.specs.Calling.{Begins, EntersWithin, begin_words}
 use Rattle.select_runs.specs.Jumps.{LeadsTo}
@@ -26,8 +27,9 @@ use Rattle.select_runs.specs.Operands.{IsAtPoint, ground_of}
 use Rattle.select_whole.specs.Matching.{Started, Starts}
 use Rattle.select_whole.specs.Visited.{Whole, entry_of, gives_by, locals_of, main_of, ops_of, tac_at}
 use Rattle.select_whole.proofs.Moves.{has_words}
-use Rattle.image_runs.specs.Asked.{FunctionIs, IsCode, IsLoaded, IsSelected}
-use Rattle.image_runs.specs.Starting.{CallsFirst, FirstStarts, IsFirst}
+use Rattle.rv_emit.specs.Leading.{IsHop}
+use Rattle.image_runs.specs.Asked.{Enters, FunctionIs, IsCode, IsLoaded, IsSelected}
+use Rattle.image_runs.specs.Starting.{CallsFirst, Far, FirstStarts, IsFirst, Near}
 use Rattle.image_runs.proofs.Formed.{Coded, code_there}
 use Rattle.image_runs.proofs.Labels.{hops}
 use Rattle.image_runs.proofs.Standing.{begins_with}
@@ -75,8 +77,9 @@ module _ (g : Whole) (a : IsSelected g) (c : IsCode g) (l : IsLoaded g) (calls :
   unfolding operations
   enter_is n = ap (frame_within g.setting.map.stack.0 (state n).frame) q.framed.is
 
-  leads : LeadsTo g.setting g.code 0 begins.entry calls.offset
-  leads =
+  leads_to : (offset : ℤ) → ((at : ℕ) → Enters g main at → IsHop 0 at offset)
+      → LeadsTo g.setting g.code 0 begins.entry offset
+  leads_to offset leads =
       let room = l.text.room in
       let top = l.text.legal.in_range.1 in
       let last = q.stands.inside [] f.f.code refl in
@@ -84,8 +87,8 @@ module _ (g : Whole) (a : IsSelected g) (c : IsCode g) (l : IsLoaded g) (calls :
       record {
         from = omega arith;
         inside = omega (arith, last, first);
-        there = hops g.setting.map.text.0 0 q.entry calls.offset (omega arith) (omega (arith, last, first))
-            (calls.leads q.entry q.enters);
+        there = hops g.setting.map.text.0 0 q.entry offset (omega arith) (omega (arith, last, first))
+            (leads q.entry q.enters);
       }
 
   few : prologue_cost 0 < g.setup main
@@ -101,6 +104,18 @@ module _ (g : Whole) (a : IsSelected g) (c : IsCode g) (l : IsLoaded g) (calls :
   EntersAs n o =
       EntersWithin g.setting g.code (prologue_cost 0) begins.entry entry_end begins.frame (first_of main body)
       (λ place. entered g.setting main place begins.lengths (entry_temps begins.kinds []) (state n)) m o
+
+  enters_by : (n : ℕ) → CallsFirst g
+      → EntersAs n (frame_within g.setting.map.stack.0 (state n).frame (Some begins.frame))
+  enters_by n (Near offset calls leads stub) =
+      first_is_entered_law g.setting g.code l.text l.stack main 0 body (state n) m (x.fits w n) x.counter
+      (has_words w m nothing_done (x.addresses w bytes)) begins offset calls (leads_to offset leads) stub
+  enters_by n (Far finds found has stub) =
+      let word : length finds + 1 ≡ 0 + length finds + 1 = omega arith in
+      far_first_is_entered_law g.setting g.code l.text l.stack l.table main 0 body (state n) m (x.fits w n) x.counter
+      (has_words w m nothing_done (x.addresses w bytes)) begins finds found has
+      (get_or_from_slice_get g.setting.map.entries main _ 0 q.enters)
+      (stub ∙ ap (place (ground_of g.setting g.code)) word)
 
   started : (n : ℕ) (o : Option ℕ) → EntersAs n o → Started g w (0 + g.setup main) n o m
   started n (Some place) k =
@@ -128,8 +143,7 @@ module _ (g : Whole) (a : IsSelected g) (c : IsCode g) (l : IsLoaded g) (calls :
     main = slice_get_within g.setting.code.funs main f.f f.is;
     each = λ n. subst (λ o. Started g w (0 + g.setup main) n o m) (sym (enter_is n))
         (started n (frame_within g.setting.map.stack.0 (state n).frame (Some begins.frame))
-        (first_is_entered_law g.setting g.code l.text l.stack main 0 body (state n) m (x.fits w n) x.counter
-        (has_words w m nothing_done (x.addresses w bytes)) begins calls.offset calls.calls leads calls.stub));
+        (enters_by n calls));
     addresses = x.addresses w bytes;
   }
 

@@ -1,5 +1,5 @@
 -- Words of a function stand there with other readings of its lines and entries.
-use Rattle.std.proofs.Common.{ℕ, zero, suc, ◌+◌, ◌/◌, List, ◌∷◌}
+use Rattle.std.proofs.Common.{ℕ, zero, suc, ◌+◌, ◌/◌, List, ◌∷◌, inl, inr}
 use Rattle.ck_base.specs.declared.positions.Pos.{Pos}
 use Rattle.rv_instr.specs.declared.instr.Instr.{Instr}
 use Rattle.obj_mem.specs.declared.map.Frame.{Frame}
@@ -41,7 +41,7 @@ module _ (code : List Instr) (Says Says' Sinks Sinks' : (word : ℕ) → Pos →
   words_turned at (instr.Jump l) ws h = record { offset = h.offset; leads = h.leads; are = h.are }
   words_turned at (instr.Branch on when l) ws h =
       record { offset = h.offset; finds = h.finds; branches = h.branches; leads = h.leads }
-  words_turned at (instr.Call to fun args) ws h = record {
+  words_turned at (instr.Call to fun args) ws (inl h) = inl (record {
     offset = h.offset;
     passes = h.passes;
     passed = h.passed;
@@ -49,7 +49,8 @@ module _ (code : List Instr) (Says Says' Sinks Sinks' : (word : ℕ) → Pos →
     keep = h.keep;
     kept = h.kept;
     are = h.are;
-  }
+  })
+  words_turned at (instr.Call to fun args) ws (inr h) = inr h
   words_turned at (instr.CallValue to v of args p) ws h = record {
     finds = h.finds;
     found = h.found;

@@ -1,5 +1,5 @@
 -- What is made of a program: code, homes, words and a map, and what runs of its machine are compared with.
-use Rattle.std.specs.Prelude.{◌≡◌, ℕ, suc, ◌+◌, ◌-◌, ◌*◌, ◌==◌, ◌≤◌, List, [], length, map, Option, Some, None}
+use Rattle.std.specs.Prelude.{◌≡◌, ℕ, suc, ◌+◌, ◌-◌, ◌*◌, ◌==◌, ◌≤◌, ℤ, List, [], length, map, Option, Some, None}
 use Rattle.std.specs.Prelude.{slice_get, slice_index_or, if◌then◌else◌}
 use Rattle.std.specs.List.{Contains}
 use Rattle.ck_base.specs.declared.positions.Pos.{Pos}
@@ -39,7 +39,7 @@ use Rattle.select_words.specs.Zeroing as zeroing
 use Rattle.select_whole.specs.Visited.{Whole, locals_of}
 use Rattle.select_runs.specs.Returning.{StubAt}
 use Rattle.rv_emit.specs.Growing.{AreEntries}
-use Rattle.rv_select.specs.Selected.{AreNumbers, Before, IsSelected}
+use Rattle.rv_select.specs.Selected.{AreNumbers, Before, Far, IsSelected, Near, StartWords}
 use Rattle.image_runs.specs.Asked.{FunctionIs, Has, called_to}
 use Rattle.image_runs.specs.Starting.{CallsFirst}
 
@@ -107,6 +107,11 @@ setup_by (Some f) = prologue_cost f.params + 1
 
 -- ---- the setting of its runs
 
+-- the word behind the call of the first function
+abbrev pub stub_by : {Leads : ℤ → Type 0} {entry : ℕ} {words : List Instr} → StartWords Leads entry words → ℕ
+stub_by (Near offset leads are) = 1
+stub_by (Far finds found are) = length finds + 1
+
 abbrev pub needs_in : Made → Needs
 needs_in m = needs_of (weight_in m.program) m.program
 
@@ -141,6 +146,9 @@ module _ (m : Made) (s : AreSelected m) where
       s.word fun rest
       - keep_length (selecting_in fun) (result_of (before_rest (code_of (slice_get m.code.funs fun)) rest))
 
+  abbrev pub stub_of : ℕ
+  stub_of = stub_by s.starts
+
   abbrev pub setting_of : Setting
   setting_of = record {
     needs = needs_in m;
@@ -150,7 +158,7 @@ module _ (m : Made) (s : AreSelected m) where
     numbers = s.numbers;
     loaded = m.machine;
     back = λ fun rest. m.map.text.0 + 4 * behind_call fun rest;
-    stub = m.map.text.0 + 4;
+    stub = m.map.text.0 + 4 * stub_of;
   }
 
   abbrev pub whole_of : Whole
@@ -196,7 +204,7 @@ pub record AreMade (m : Made) (s : AreSelected m) : Type 0 where
 pub record AreStanding (m : Made) (s : AreSelected m) : Type 0 where
   pub functions : (fun : ℕ) (f : TacFun) → Has (whole_of m s) fun f → FunctionIs (whole_of m s) fun f
   pub numbers : (fun : ℕ) (f : TacFun) → Has (whole_of m s) fun f → AreNumbers f (s.numbers fun)
-  pub stub : StubAt (setting_of m s) m.words 1
+  pub stub : StubAt (setting_of m s) m.words (stub_of m s)
   pub first : CallsFirst (whole_of m s)
 
 -- Functions stand as they were selected

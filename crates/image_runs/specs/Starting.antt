@@ -1,12 +1,16 @@
 -- The machine that was loaded comes to the first function.
-use Rattle.std.specs.Prelude.{◌≡◌, ℕ, ℤ, None, Some, slice_get}
+use Rattle.std.specs.Prelude.{◌≡◌, ℕ, ◌+◌, ℤ, pos, List, [], ◌∷◌, ◌++◌, length, None, Some, slice_get}
 use Rattle.ck_base.specs.World.{World, GivesBytes, nothing_done}
-use Rattle.rv_instr.specs.declared.instr.Instr.TheVariants.{Cjal}
+use Rattle.rv_instr.specs.declared.instr.Instr.{Instr}
+use Rattle.rv_instr.specs.declared.instr.Instr.TheVariants.{Cjal, Cjalr}
 use Rattle.cap_machine.specs.declared.machine.Machine.{Machine}
 use Rattle.cheri_c_sem.specs.Programs.{program_tree}
+use Rattle.obj_mem.specs.Table.{function_entry}
 use Rattle.tac_ir.specs.Meaning.{first_state}
 use Rattle.place_inject.specs.Fits.{Fits}
 use Rattle.tracked_runs.specs.Tracking.{moment}
+use Rattle.select_words.specs.Calling.{FindsEntry}
+use Rattle.select_words.specs.Standing.{HasAt}
 use Rattle.select_runs.specs.Acts.{counter_at, place}
 use Rattle.select_runs.specs.Operands.{ground_of}
 use Rattle.select_whole.specs.Matching.{Starts}
@@ -23,12 +27,15 @@ pub record IsFirst (g : Whole) (m : Machine) : Type 0 where
   pub counter : m.pc ≡ counter_at (ground_of g.setting g.code) 0
   pub addresses : (w : World) → GivesBytes w → AreWords w (moment m nothing_done)
 
--- The first word calls the first function, and behind it the run ends
-pub record CallsFirst (g : Whole) : Type 0 where
-  pub offset : ℤ
-  pub calls : slice_get g.code 0 ≡ Some (Cjal 1 offset)
-  pub leads : (at : ℕ) → Enters g (main_of g) at → IsHop 0 at offset
-  pub stub : g.setting.stub ≡ place (ground_of g.setting g.code) 1
+-- The first words call the first function, which lies so many bytes ahead, or whose sentry the table has, and behind
+-- the call the run ends
+pub data CallsFirst (g : Whole) : Type 0 where
+  Near : (offset : ℤ) → slice_get g.code 0 ≡ Some (Cjal 1 offset)
+      → ((at : ℕ) → Enters g (main_of g) at → IsHop 0 at offset)
+      → g.setting.stub ≡ place (ground_of g.setting g.code) 1 → CallsFirst g
+  Far : (finds : List Instr) → FindsEntry (function_entry g.setting.needs (main_of g)) finds
+      → HasAt g.code 0 (finds ++ Cjalr 1 31 (pos 0) ∷ [])
+      → g.setting.stub ≡ place (ground_of g.setting g.code) (length finds + 1) → CallsFirst g
 
 -- In no act beside those with which the first function is entered the machine is there, or finds no room for its frame
 abbrev pub FirstStarts : Type 0

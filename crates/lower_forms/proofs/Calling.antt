@@ -1,15 +1,11 @@
 -- Code that is within its program calls with few arguments: those past eight have places in its function's frame.
 use Rattle.std.proofs.Common.{◌≡◌, ℕ, zero, suc, ◌-◌, ◌≤◌, List, [], ◌∷◌, length, Option, Some, None}
 use Rattle.std.proofs.Common.{refl, ap, subst, arith}
-use Rattle.std.specs.Prelude.{slice_get, sum_by}
+use Rattle.std.specs.Prelude.{slice_get}
 use Rattle.std.proofs.lemmas.Option.{same_Some}
-use Rattle.std.proofs.lemmas.List.Sums.{sum_by-cons}
-use Rattle.c_tree.specs.TreeWeight.{function_weight}
-use Rattle.c_tree.specs.Views.{IsOrdered}
-use Rattle.c_tree.specs.Weight.{weight}
+use Rattle.c_tree.specs.TreeWeight.{HasLightFunctions, function_limit}
 use Rattle.c_tree.specs.declared.typed.FunDef.{FunDef}
 use Rattle.c_tree.specs.declared.typed.Typed.{Typed}
-use Rattle.c_tree.proofs.Weighed.{weight_of_functions}
 use Rattle.obj_mem.specs.Needs.{weight_in, weight_by}
 use Rattle.tac_ir.specs.Costs.{outgoing, outgoing_by}
 use Rattle.tac_ir.specs.declared.code.TacInstr.{TacInstr}
@@ -23,17 +19,12 @@ outgoing_at (x ∷ is) zero i e =
     subst (λ i. outgoing_by i ≤ outgoing (x ∷ is)) (same_Some x i e) (omega arith)
 outgoing_at (x ∷ is) (suc j) i e = let h = outgoing_at is j i e in omega (arith, h)
 
-item_within : (f : FunDef → ℕ) (xs : List FunDef) (k : ℕ) (x : FunDef) → slice_get xs k ≡ Some x → f x ≤ sum_by f xs
-item_within f [] k x e = absurd cc
-item_within f (y ∷ ys) zero x e = omega (arith, sum_by-cons f y ys, ap f (same_Some y x e))
-item_within f (y ∷ ys) (suc k) x e = omega (arith, sum_by-cons f y ys, item_within f ys k x e)
-
-function_light : (p : Typed) → IsOrdered p → (k : ℕ) → weight_in p k ≤ weight p
-function_light p o k = by (slice_get p.funs k) refl
+function_light : (p : Typed) → HasLightFunctions p → (k : ℕ) → weight_in p k ≤ function_limit
+function_light p light k = by (slice_get p.funs k) refl
   where
-    by : (m : Option FunDef) → slice_get p.funs k ≡ m → weight_by p m ≤ weight p
+    by : (m : Option FunDef) → slice_get p.funs k ≡ m → weight_by p m ≤ function_limit
     by None e = omega arith
-    by (Some d) e = omega (arith, weight_of_functions p o, item_within (function_weight p) p.funs k d e)
+    by (Some d) e = light.each k d e
 
 few : (i : TacInstr) → outgoing_by i ≤ 15560 → IsShortCall i
 few (instr.Call to fun args) h = let g : length args - 8 ≤ 15560 = h in omega (arith, g)
@@ -41,8 +32,8 @@ few (instr.CallValue to v of args pos) h = let g : length args - 8 ≤ 15560 = h
 few i h = tt
 
 pub calls_are_short : CallsAreShort
-calls_are_short p o light t costs k f e i at =
+calls_are_short p light t costs k f e i at =
     let c = (costs.functions k f e).temps in
-    let l = function_light p o k in
+    let l = function_light p light k in
     let b = outgoing_at f.code at.0 i at.1 in
-    few i (omega (arith, c, l, b, light))
+    few i (omega (arith, c, l, b))

@@ -1,9 +1,9 @@
 -- What well formed code names is there.
-use Rattle.std.proofs.Common.{◌≡◌, ℕ, zero, suc, ◌≤◌, Bool, true, List, [], ◌∷◌, length, Some}
-use Rattle.std.proofs.Common.{refl, ap, subst}
+use Rattle.std.proofs.Common.{◌≡◌, ℕ, zero, suc, ◌<◌, ◌≤◌, Bool, true, false, List, [], ◌∷◌, length, Option, Some}
+use Rattle.std.proofs.Common.{None, get_or, refl, ap, subst, ◌⊎◌, inl, inr}
 use Rattle.std.specs.Prelude.{◌==◌, ◌&&◌, nat_le, slice_get}
 use Rattle.std.proofs.lemmas.Bool.{and_parts, eqb-true, leb-true, ltb-true}
-use Rattle.std.proofs.lemmas.Option.{same_Some}
+use Rattle.std.proofs.lemmas.Option.{same_Some, slice_get_cases}
 use Rattle.c_tree.specs.declared.typed.FunDef.{FunDef}
 use Rattle.c_tree.specs.declared.typed.Typed.{Typed}
 use Rattle.cheri_c_sem.specs.Kinds.{Kind}
@@ -11,6 +11,7 @@ use Rattle.cheri_c_sem.specs.Programs.{lengths_of}
 use Rattle.tac_ir.specs.WellFormed as form
 use Rattle.tac_ir.specs.WellFormed.{all_have, all_of, functions_fit, function_fits, begins_with, param_kinds}
 use Rattle.tac_ir.specs.WellFormed.{instruction_fits, labels_differ, ends_well, turns_fit, is_well_formed, word}
+use Rattle.tac_ir.specs.WellFormed.{signature_of_def, signature_of_function}
 use Rattle.tac_ir.specs.declared.code.LibOp.TheVariants as lib
 use Rattle.tac_ir.specs.declared.code.TacFun.{TacFun}
 use Rattle.tac_ir.specs.declared.code.TacInstr.{TacInstr}
@@ -93,11 +94,25 @@ have_length has (t ∷ ts) [] h = absurd cc
 have_length has (t ∷ ts) (k ∷ ks) h = ap suc (have_length has ts ks (and_parts (has t k) _ h).1)
 
 module _ (p : Typed) (d : FunDef) (f : TacFun) where
+  -- what is called is a function of the program
+  called : (to : Option ℕ) (fun : ℕ) (args : List ℕ) →
+      form.call_fits p d f.kinds f.code (signature_of_function p fun) to args ≡ true → fun < length p.funs
+  called to fun args h = by_function (slice_get_cases p.funs fun).1
+    where
+      by_function : ((x : FunDef) × (fun < length p.funs) × (slice_get p.funs fun ≡ Some x) ×
+          (get_or p.funs fun x ≡ x)) ⊎ ((length p.funs ≤ fun) × (slice_get p.funs fun ≡ None)) → fun < length p.funs
+      by_function (inl x) = x.1
+      by_function (inr past) =
+          let none : false ≡ true = subst
+          (λ (o : Option FunDef). form.call_fits p d f.kinds f.code (signature_of_def p o) to args ≡ true) past.1 h in
+          absurd cc
+
   is_there : (i : TacInstr) → instruction_fits p d f.kinds f.code i ≡ true → IsThere p d i
   is_there (instr.Local to var) h = ltb-true var (length (lengths_of p d.vars)) (and_parts _ _ h).1
   is_there (instr.Zero var) h = ltb-true var (length (lengths_of p d.vars)) h
   is_there (instr.Global to number literal) h = ltb-true number (objects_of p literal) (and_parts _ _ h).1
   is_there (instr.Function to fun) h = ltb-true fun (length p.funs) (and_parts _ _ h).1
+  is_there (instr.Call to fun args) h = called to fun args h
   is_there (instr.Lib lib.Malloc to args) h =
       have_length (form.has p d f.kinds f.code) args (word ∷ []) (and_parts _ _ h).0
   is_there i h = tt

@@ -142,5 +142,5 @@ code_has_form p h light t is formed within = record {
   main = main_gives_int p h;
   made = code_is_made p h t is;
   counted = copies_are_counted p h t is formed;
-  short = calls_are_short p (o p h) light t within.costs;
+  short = calls_are_short p light t within.costs;
 }

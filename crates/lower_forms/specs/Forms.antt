@@ -39,6 +39,7 @@ IsThere p d (instr.Local to var) = var < length (lengths_of p d.vars)
 IsThere p d (instr.Zero var) = var < length (lengths_of p d.vars)
 IsThere p d (instr.Global to number literal) = number < objects_of p literal
 IsThere p d (instr.Function to fun) = fun < length p.funs
+IsThere p d (instr.Call to fun args) = fun < length p.funs
 IsThere p d (instr.Lib lib.Malloc to args) = length args ≡ 1
 IsThere p d i = Unit {0}
 

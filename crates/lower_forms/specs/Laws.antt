@@ -1,8 +1,7 @@
 -- Which premises each of these facts has.
 use Rattle.std.specs.Prelude.{◌≡◌, ℕ, ◌<◌, ◌≤◌, true, length}
 use Rattle.c_tree.specs.Typing.{Sound}
-use Rattle.c_tree.specs.Views.{IsOrdered}
-use Rattle.c_tree.specs.Weight.{weight}
+use Rattle.c_tree.specs.TreeWeight.{HasLightFunctions}
 use Rattle.c_tree.specs.declared.typed.Typed.{Typed}
 use Rattle.cheri_c_sem.specs.Programs.{lengths_of}
 use Rattle.tac_ir.specs.WellFormed.{is_well_formed}
@@ -33,14 +32,15 @@ CopiesAreCounted = (p : Typed) → Sound p → (t : Tac) → IsProgram p t → I
 
 abbrev pub CallsAreShort : Type 0
 CallsAreShort =
-    (p : Typed) → IsOrdered p → weight p ≤ 7780 → (t : Tac) → WithinCosts t p → EachInstruction t IsShortCall
+    (p : Typed) → HasLightFunctions p → (t : Tac) → WithinCosts t p → EachInstruction t IsShortCall
 
 -- each object of a function becomes zero in its code
 abbrev pub ObjectsBecomeZero : Type 0
 ObjectsBecomeZero = (p : Typed) → Sound p → (t : Tac) → IsProgram p t →
     EachFunction p t (λ d f. (var : ℕ) → var < length (lengths_of p d.vars) → Has f (instr.Zero var))
 
--- all of them, of the code of a program of a weight
+-- all of them, of the code of a program of light functions
 abbrev pub CodeHasForm : Type 0
 CodeHasForm =
-    (p : Typed) → Sound p → weight p ≤ 7780 → (t : Tac) → IsProgram p t → IsWellFormed t p → Within t p → HasForm p t
+    (p : Typed) → Sound p → HasLightFunctions p → (t : Tac) → IsProgram p t → IsWellFormed t p → Within t p →
+    HasForm p t

@@ -1,6 +1,6 @@
 //! The count of instructions for each turn.
 ghost use Rattle.std.specs.Prelude.{◌≡◌, ◌≤◌};
-ghost use Rattle.c_tree.specs.File.{weight_limit};
+ghost use Rattle.accepted_files.specs.Accepted.{weight_limit};
 ghost use Rattle.c_tree.specs.Weight.{weight};
 ghost use Rattle.cap_layout.specs.Kept.{AreLayoutsOf};
 ghost use Rattle.obj_mem.specs.Counted.{count_of};

@@ -1,5 +1,5 @@
 -- The code that selection makes, as it grows.
-use Rattle.std.specs.Prelude.{◌≡◌, ℕ, ◌+◌, ◌*◌, ◌%◌, ◌<◌, ◌≤◌, true, List, [], ◌∷◌, ◌++◌, length}
+use Rattle.std.specs.Prelude.{◌≡◌, ℕ, ◌+◌, ◌*◌, ◌%◌, ◌^◌, ◌<◌, ◌≤◌, Bool, true, List, [], ◌∷◌, ◌++◌, length}
 use Rattle.std.specs.Prelude.{slice_index}
 use Rattle.std.specs.List.{All}
 use Rattle.ck_base.specs.declared.positions.Pos.{Pos}
@@ -27,13 +27,15 @@ pub record AreEntries (words : ℕ) (entries : List ℕ) : Type 0 where
 -- ---- what is seen of it
 
 -- What is noted of words: the labels of the function at hand, the jumps to them, the calls, where functions are
--- entered, in bytes, and the places in the source of the words that may trap
+-- entered, in bytes, and the places in the source of the words that may trap; and whether the calls are far ones,
+-- which take what they call from the table, and are not noted
 pub record Links : Type 0 where
   pub marks : List Mark
   pub jumps : List Jump
   pub calls : List Jump
   pub entered : List ℕ
   pub lines : List Line
+  pub far : Bool
 
 -- the number of its words, the words, what leads elsewhere, and the word with which the loop at hand begins
 pub record Size : Type 0 where
@@ -107,7 +109,6 @@ pub record IsLongNumber (to value : ℕ) (words : List Instr) : Type 0 where
   pub makes : MakesNumber to value words
   pub few : length words ≤ number_cost value
 
--- the words that a text has at most: those of 128 bytes for each unit of the greatest weight, 7,780, and of 4,096
--- more are fewer
+-- the words that a text has at most, so that 32 bits hold its places
 abbrev pub room : ℕ
-room = 262144
+room = 2 ^ 29

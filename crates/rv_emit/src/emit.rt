@@ -1,5 +1,5 @@
-// The code as it grows.
-ghost use Rattle.std.specs.Prelude.{◌≡◌, ◌+◌, ◌*◌, ◌<◌, ◌≤◌, pos, [], ◌∷◌, ◌++◌, length};
+//! The code as it grows.
+ghost use Rattle.std.specs.Prelude.{◌≡◌, ◌+◌, ◌*◌, ◌<◌, ◌≤◌, pos, true, false, [], ◌∷◌, ◌++◌, length};
 ghost use Rattle.std.specs.Prelude.{OnOk, IfOk, vec_len};
 ghost use Rattle.std.specs.List.{All};
 ghost use Rattle.cap_machine.specs.Integers.{extended};
@@ -26,7 +26,7 @@ use std::marker::Model;
 /// The code so far, with the places in the source of its accesses and calls, and the jumps that lead nowhere yet. A
 /// clause sees its words, its labels and jumps, and where it enters functions. Each word is one of the machine, and
 /// all of them obey the rules of contained code, where they may lead to the next word; the lines ascend and lie in the
-/// code.
+/// code; and of code with far calls none is noted.
 #[derive(Drop)]
 pub struct Code {
     alloc: Global,
@@ -36,6 +36,8 @@ pub struct Code {
     marks: Vec<Mark>,
     jumps: Vec<Jump>,
     calls: Vec<Jump>,
+    /// Whether calls take what they call from the table.
+    far: bool,
     /// Where each function is entered, in bytes.
     entries: Vec<u32>,
     /// The word with which the loop at hand begins.
@@ -43,7 +45,7 @@ pub struct Code {
 }
 
 impl Model for Code {
-    ghost use Rattle.std.specs.Prelude.{vec_len};
+    ghost use Rattle.std.specs.Prelude.{◌≡◌, true, [], vec_len};
     ghost use Rattle.rv_emit.specs.Growing.{Size, Links};
     ghost use Rattle.rv_emit.specs.Leading.{IsGrowing};
 
@@ -58,11 +60,13 @@ impl Model for Code {
         calls = c.calls.items;
         entered = c.entries.items;
         lines = c.lines.items;
+        far = c.far;
       };
       top = c.top;
     } };
 
-    ghost invariant = { λ c. IsGrowing c.words.items c.lines.items c.marks.items c.entries.items c.top };
+    ghost invariant = { λ c. IsGrowing c.words.items c.lines.items c.marks.items c.entries.items c.top
+        × (c.far ≡ true → c.calls.items ≡ []) };
 }
 
 /// The whole code, the places in the source of its accesses and calls, and where its functions are entered.
@@ -74,12 +78,12 @@ pub struct Complete {
 }
 
 impl Code {
-    /// No code.
-    pub fn new(alloc: Global) -> Code
+    /// No code, with far calls or with near ones.
+    pub fn new(alloc: Global, far: bool) -> Code
         ensures { result ≡ record {
           words = 0;
           text = [];
-          links = record { marks = []; jumps = []; calls = []; entered = []; lines = [] };
+          links = record { marks = []; jumps = []; calls = []; entered = []; lines = []; far = far };
           top = 0;
         } }
     {
@@ -90,6 +94,7 @@ impl Code {
             marks: Vec::new(alloc),
             jumps: Vec::new(alloc),
             calls: Vec::new(alloc),
+            far,
             entries: Vec::new(alloc),
             top: 0,
         }
@@ -100,6 +105,20 @@ impl Code {
         ensures { result ≡ self.now.words }
     {
         self.words.len()
+    }
+
+    /// The number of words is how many words there are.
+    pub fn counted(&self)
+        ensures { self.now.words ≡ length self.now.text }
+    {
+        let _words = &self.words;
+    }
+
+    /// Whether calls take what they call from the table.
+    pub fn is_far(&self) -> bool
+        ensures { result ≡ self.now.links.far }
+    {
+        self.far
     }
 
     /// Appends an instruction.
@@ -319,6 +338,7 @@ impl Code {
 
     /// Calls a function by its number.
     pub fn call(&mut self, fun: u32) -> Result<(), NoMemory>
+        requires { self.old.links.far ≡ false }
         ensures size { OnOk result (self.new.words ≡ self.old.words + 1) }
         ensures text { OnOk result (self.new.text ≡ self.old.text ++ Cjal 1 (pos 0) ∷ []) }
         ensures links { OnOk result (self.new.links ≡ calling self.old.links (length self.old.text) fun) }
@@ -356,6 +376,7 @@ impl Code {
         ensures entries { IfOk result (λ c. AreEntries (vec_len c.words) c.entries.items) }
         ensures contained { IfOk result (λ c. IsContainedCode c.words.items c.entries.items 0) }
         ensures led { IfOk result (λ c. IsCompleted self c.words.items) }
+        ensures far { self.links.far ≡ true → self.links.calls ≡ [] }
     {
         let Code {
             alloc: _,
@@ -364,6 +385,7 @@ impl Code {
             marks,
             jumps,
             calls,
+            far: _,
             entries,
             top: _,
         } = self;

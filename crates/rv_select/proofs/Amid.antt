@@ -1,6 +1,6 @@
 -- The words of an instruction amid others, once jumps and calls are led.
 use Rattle.std.proofs.Common.{◌≡◌, ℕ, zero, suc, ◌+◌, ◌/◌, ◌<◌, ◌≤◌, ⊎_elim, ℤ, pos, Bool, true, List, [], ◌∷◌, ◌++◌}
-use Rattle.std.proofs.Common.{length, Option, Some, refl, sym, ap, ◌∙◌, subst, arith, append_assoc}
+use Rattle.std.proofs.Common.{inl, inr, length, Option, Some, refl, sym, ap, ◌∙◌, subst, arith, append_assoc}
 use Rattle.std.specs.Prelude.{slice_get}
 use Rattle.std.specs.List.{All, Contains}
 use Rattle.std.proofs.lemmas.Bool.{cases_eq}
@@ -23,7 +23,7 @@ use Rattle.rv_select.specs.Following.{Continues, Appends, LeadsTo}
 use Rattle.rv_emit.specs.Growing.{Size, Links, line_at, trapping, jumping}
 use Rattle.rv_emit.specs.Leading.{IsHop, JumpsTo, NoJump}
 use Rattle.rv_select.specs.Noting.{noting}
-use Rattle.rv_select.specs.Selected.{WordsOf, noted_copy, ways}
+use Rattle.rv_select.specs.Selected.{CallsBy, FarCallsBy, WordsOf, noted_copy, ways}
 use Rattle.rv_emit.specs.Jump.{Jump}
 use Rattle.rv_emit.proofs.Contained.{get_left, get_right}
 use Rattle.rv_emit.proofs.Landed.{at_seam, off_seam}
@@ -307,7 +307,7 @@ module _ (code : List Instr) (Says : (word : ℕ) → Pos → Type 0) (Entered :
           long = length-append pre (Cjal 0 h.by ∷ []) ∙ sym (ap length form ∙ length-append pre (Cjal 0 w.offset ∷ []));
         }
 
-    calls : (to : Option ℕ) (fun : ℕ) (args : List ℕ) → WordsOf (noting old new) s (instr.Call to fun args) ws
+    calls : (to : Option ℕ) (fun : ℕ) (args : List ℕ) → CallsBy ((noting old new).Calls fun) s to args ws
         → StandsAs (length old.text) (length ws) (instr.Call to fun args)
     calls to fun args w =
         let form : ws ≡ w.passes ++ Cjal 1 w.offset ∷ w.keep =
@@ -318,7 +318,7 @@ module _ (code : List Instr) (Says : (word : ℕ) → Pos → Type 0) (Entered :
         let h = call_leads Labels Entered old new whole code amid comes ws is w.passes w.keep 1 w.offset fun form j c in
         record {
           words = w.passes ++ Cjal 1 h.by ∷ w.keep;
-          are = record {
+          are = inl (record {
             offset = h.by;
             passes = w.passes;
             passed = w.passed;
@@ -326,7 +326,7 @@ module _ (code : List Instr) (Says : (word : ℕ) → Pos → Type 0) (Entered :
             keep = w.keep;
             kept = w.kept;
             are = sym (append_assoc w.passes (Cjal 1 h.by ∷ []) w.keep);
-          };
+          });
           has = has_call Labels Entered old new whole code amid comes ws is w.passes w.keep 1 w.offset fun form j c;
           long = length-append w.passes (Cjal 1 h.by ∷ w.keep)
               ∙ sym (ap length form ∙ length-append w.passes (Cjal 1 w.offset ∷ w.keep));
@@ -372,7 +372,11 @@ module _ (code : List Instr) (Says : (word : ℕ) → Pos → Type 0) (Entered :
         stays (instr.Label l) (ap (λ (x : Links). x.jumps) w.0) (ap (λ (x : Links). x.calls) w.0) (tt, w.1)
     stands_as (instr.Jump l) w = jumps l w
     stands_as (instr.Branch on when l) w = branches on when l w
-    stands_as (instr.Call to fun args) w = calls to fun args w
+    stands_as (instr.Call to fun args) w = ⊎_elim
+        (λ (w : CallsBy ((noting old new).Calls fun) s to args ws). calls to fun args w)
+        (λ (w : (new.links ≡ old.links) × FarCallsBy fun s to args ws).
+        passes (instr.Call to fun args) w.0 (inr (tt, w.1)))
+        w
     stands_as (instr.CallValue to v of args place) w =
         traps (instr.CallValue to v of args place) (length old.text + (length w.finds + length w.passes)) place
         w.reports

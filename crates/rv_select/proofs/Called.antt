@@ -1,9 +1,10 @@
 -- What is appended for calls.
-use Rattle.std.proofs.Common.{◌≡◌, ℕ, ◌+◌, pos, List, [], ◌∷◌, ◌++◌, length, Option, refl, ap, ◌∙◌, subst}
+use Rattle.std.proofs.Common.{◌≡◌, inl, inr, ℕ, ◌+◌, pos, List, [], ◌∷◌, ◌++◌, length, Option, refl, ap, ◌∙◌, subst}
 use Rattle.std.proofs.lemmas.List.{length-append}
 use Rattle.ck_base.specs.declared.positions.Pos.{Pos}
 use Rattle.rv_instr.specs.declared.instr.Instr.TheVariants.{Cjal, Cjalr}
 use Rattle.tac_ir.specs.declared.code.TacInstr.TheVariants as instr
+use Rattle.select_words.specs.Calling.{FindsEntry}
 use Rattle.select_words.specs.Selecting.{Selecting}
 use Rattle.select_words.specs.Passing.{ArgumentWords}
 use Rattle.select_words.specs.Services.{KeepSome}
@@ -23,7 +24,7 @@ module _ (s : Selecting) (to : Option ℕ) (args : List ℕ) (old passed called 
     added = (p.added ++ Cjal 1 (pos 0) ∷ []) ++ k.added;
     is = more old.text (p.added ++ Cjal 1 (pos 0) ∷ []) k.added called.text new.text
         (more old.text p.added (Cjal 1 (pos 0) ∷ []) passed.text called.text p.is t) k.is;
-    are = record {
+    are = inl (record {
       offset = pos 0;
       passes = p.added;
       passed = p.are;
@@ -35,8 +36,36 @@ module _ (s : Selecting) (to : Option ℕ) (args : List ℕ) (old passed called 
       keep = k.added;
       kept = k.are;
       are = refl;
-    };
+    });
   }
+
+module _ (s : Selecting) (to : Option ℕ) (way : ℕ) (args : List ℕ) (old found passed called new : Size) where
+  pub far_selected : (fun : ℕ) → way ≡ 31 → Puts (FindsEntry (s.functions + fun)) old found → found.links ≡ old.links
+      → Puts (λ ws. AreAside s args → ArgumentWords s args ws) found passed → passed.links ≡ found.links
+      → called.text ≡ passed.text ++ Cjalr 1 way (pos 0) ∷ [] → called.links ≡ passed.links
+      → Puts (KeepSome s to) called new → new.links ≡ called.links → Selects s (instr.Call to fun args) old new
+  far_selected fun w b g p l t n k m =
+      let jumps : called.text ≡ passed.text ++ Cjalr 1 31 (pos 0) ∷ [] =
+      t ∙ ap (λ x. passed.text ++ Cjalr 1 x (pos 0) ∷ []) w in
+      let call = b.added ++ (p.added ++ Cjalr 1 31 (pos 0) ∷ []) in
+      record {
+        added = call ++ k.added;
+        is = more old.text call k.added called.text new.text
+            (more old.text b.added (p.added ++ Cjalr 1 31 (pos 0) ∷ []) found.text called.text b.is
+            (more found.text p.added (Cjalr 1 31 (pos 0) ∷ []) passed.text called.text p.is jumps)) k.is;
+        are = inr (
+          m ∙ n ∙ l ∙ g,
+          record {
+            finds = b.added;
+            found = b.are;
+            passes = p.added;
+            passed = p.are;
+            keep = k.added;
+            kept = k.are;
+            are = refl;
+          },
+        );
+      }
 
 module _ (s : Selecting) (to : Option ℕ) (v way : ℕ) (args : List ℕ) (place : Pos)
     (old found passed called new : Size) where

@@ -22,7 +22,7 @@ use Rattle.rv_select.specs.Following.{Continues, Appends}
 use Rattle.rv_emit.specs.Growing.{Size, Links, line_at, trapping, marking, jumping, calling}
 use Rattle.rv_emit.specs.Leading.{StandsAt}
 use Rattle.rv_select.specs.Noting.{noting, Selects, SelectsAll}
-use Rattle.rv_select.specs.Selected.{WordsOf, noted_copy}
+use Rattle.rv_select.specs.Selected.{CallsBy, FarCallsBy, WordsOf, noted_copy}
 use Rattle.rv_emit.specs.Jump.{Jump}
 use Rattle.rv_emit.specs.Mark.{Mark}
 
@@ -89,6 +89,7 @@ pub record Notes (marks : List Mark) (old new : Size) : Type 0 where
   pub calls : Appends (length old.text) (length new.text) old.links.calls new.links.calls
   pub marked : new.links.marks ≡ old.links.marks ++ marks
   pub entered : new.links.entered ≡ old.links.entered
+  pub far : new.links.far ≡ old.links.far
 
 pub notes_none : (old new : Size) → new.text ≡ old.text → new.links ≡ old.links → Notes [] old new
 notes_none old new e f = record {
@@ -100,6 +101,7 @@ notes_none old new e f = record {
       (ap (λ (x : Links). x.calls) f);
   marked = ap (λ (x : Links). x.marks) f ∙ sym (append-nil old.links.marks);
   entered = ap (λ (x : Links). x.entered) f;
+  far = ap (λ (x : Links). x.far) f;
 }
 
 pub notes_then : (ms ns : List Mark) (old mid new : Size) → Notes ms old mid → Notes ns mid new
@@ -116,6 +118,7 @@ notes_then ms ns old mid new a b =
           new.links.calls a.calls b.calls low high;
       marked = b.marked ∙ ap (λ x. x ++ ns) a.marked ∙ append_assoc old.links.marks ms ns;
       entered = b.entered ∙ a.entered;
+      far = b.far ∙ a.far;
     }
 
 -- ---- one instruction
@@ -137,14 +140,16 @@ module _ (s : Selecting) (old new : Size) where
 
     notes : (links : Links) (ms : List Mark) → new.links ≡ links → Continues old.links.lines links.lines
         → Appends start end old.links.jumps links.jumps → Appends start end old.links.calls links.calls
-        → links.marks ≡ old.links.marks ++ ms → links.entered ≡ old.links.entered → Notes ms old new
-    notes links ms e ls js cs m h = record {
+        → links.marks ≡ old.links.marks ++ ms → links.entered ≡ old.links.entered → links.far ≡ old.links.far
+        → Notes ms old new
+    notes links ms e ls js cs m h g = record {
       text = record { added = ws; is = is };
       lines = subst (λ (x : Links). Continues old.links.lines x.lines) (sym e) ls;
       jumps = subst (λ (x : Links). Appends start end old.links.jumps x.jumps) (sym e) js;
       calls = subst (λ (x : Links). Appends start end old.links.calls x.calls) (sym e) cs;
       marked = ap (λ (x : Links). x.marks) e ∙ m;
       entered = ap (λ (x : Links). x.entered) e ∙ h;
+      far = ap (λ (x : Links). x.far) e ∙ g;
     }
 
     no_jumps : Appends start end old.links.jumps old.links.jumps
@@ -158,19 +163,19 @@ module _ (s : Selecting) (old new : Size) where
 
     nothing : new.links ≡ old.links → Notes [] old new
     nothing e =
-        notes old.links [] e (continues_none old.links.lines old.links.lines refl) no_jumps no_calls no_marks refl
+        notes old.links [] e (continues_none old.links.lines old.links.lines refl) no_jumps no_calls no_marks refl refl
 
     a_trap : (at : ℕ) (place : Pos) → new.links ≡ trapping old.links at place 0 → Notes [] old new
     a_trap at place e =
         notes (trapping old.links at place 0) [] e (record { added = line_at at place 0 ∷ []; is = refl }) no_jumps
-        no_calls no_marks refl
+        no_calls no_marks refl refl
 
     two_traps : (at to : ℕ) (a b : Pos) → new.links ≡ trapping (trapping old.links at a 0) to b 0 → Notes [] old new
     two_traps at to a b e =
         notes (trapping (trapping old.links at a 0) to b 0) [] e (record {
           added = line_at at a 0 ∷ line_at to b 0 ∷ [];
           is = append_assoc old.links.lines (line_at at a 0 ∷ []) (line_at to b 0 ∷ []);
-        }) no_jumps no_calls no_marks refl
+        }) no_jumps no_calls no_marks refl refl
 
     a_copy : (units skip : ℕ) (a b : Pos) → noted_copy (noting old new) units skip a b → Notes [] old new
     a_copy zero skip a b e = nothing e
@@ -179,21 +184,21 @@ module _ (s : Selecting) (old new : Size) where
     a_label : (l : ℕ) → new.links ≡ marking old.links start l → Notes ((record { label = l; at = start }) ∷ []) old new
     a_label l e =
         notes (marking old.links start l) ((record { label = l; at = start }) ∷ []) e
-        (continues_none old.links.lines old.links.lines refl) no_jumps no_calls refl refl
+        (continues_none old.links.lines old.links.lines refl) no_jumps no_calls refl refl refl
 
     a_jump : (skip l : ℕ) → skip < length ws → new.links ≡ jumping old.links (start + skip) l → Notes [] old new
     a_jump skip l lt e =
         notes (jumping old.links (start + skip) l) [] e (continues_none old.links.lines old.links.lines refl)
         (appends_one start end (start + skip) l old.links.jumps
         (old.links.jumps ++ (record { at = start + skip; to = l }) ∷ [])
-        refl (omega arith) (omega (arith, lt, long))) no_calls no_marks refl
+        refl (omega arith) (omega (arith, lt, long))) no_calls no_marks refl refl
 
     a_call : (skip l : ℕ) → skip < length ws → new.links ≡ calling old.links (start + skip) l → Notes [] old new
     a_call skip l lt e =
         notes (calling old.links (start + skip) l) [] e (continues_none old.links.lines old.links.lines refl) no_jumps
         (appends_one start end (start + skip) l old.links.calls
         (old.links.calls ++ (record { at = start + skip; to = l }) ∷ [])
-        refl (omega arith) (omega (arith, lt, long))) no_marks refl
+        refl (omega arith) (omega (arith, lt, long))) no_marks refl refl
 
     -- the word behind some
     behind_some : (pre post : List Instr) (i : Instr) → ws ≡ pre ++ i ∷ post → length pre < length ws
@@ -225,10 +230,13 @@ module _ (s : Selecting) (old new : Size) where
         let lt = behind_some pre [] (Cjal 0 w.offset)
         (b.are ∙ sym (append_assoc w.finds (Branch (inverted when) b.a 0 (pos 8) ∷ []) (Cjal 0 w.offset ∷ []))) in
         a_jump (length w.finds + 1) l (omega (arith, lt, size)) w.leads.1
-    noted (instr.Call to fun args) w =
+    noted (instr.Call to fun args) w = ⊎_elim
+        (λ (w : CallsBy ((noting old new).Calls fun) s to args ws).
         a_call (length w.passes) fun
         (behind_some w.passes w.keep (Cjal 1 w.offset) (w.are ∙ append_assoc w.passes (Cjal 1 w.offset ∷ []) w.keep))
-        w.leads.1
+        w.leads.1)
+        (λ (w : (new.links ≡ old.links) × FarCallsBy fun s to args ws). nothing w.0)
+        w
     noted (instr.CallValue to v of args place) w =
         a_trap (start + (length w.finds + length w.passes)) place w.reports
     noted (instr.Lib o to args) w = nothing w.0
@@ -336,6 +344,19 @@ module _ (s : Selecting) where
       let l = place_most is h.0 new h.2 n in
       let here = if_other n (suc (length is)) (length old.text) (place is h.0 new h.2 n) d in
       omega (arith, l, here))
+      (cases_eq n (suc (length is)))
+
+  pub place_least : (is : List TacInstr) (old new : Size) (h : SelectsAll s is old new) (n : ℕ)
+      → length old.text ≤ place is old new h n
+  place_least [] old new h n = let e = ap length h.0 in omega (arith, e)
+  place_least (i ∷ is) old new h n = ⊎_elim
+      (λ (e : n ≡ suc (length is)).
+      let here = if_same n (suc (length is)) (length old.text) (place is h.0 new h.2 n) e in omega (arith, here))
+      (λ (d : n ≡ suc (length is) → ⊥).
+      let l = place_least is h.0 new h.2 n in
+      let first = continues_more old.text (let m : Size = h.0 in m.text) (noted_one s old h.0 i h.1).text in
+      let here = if_other n (suc (length is)) (length old.text) (place is h.0 new h.2 n) d in
+      omega (arith, l, first, here))
       (cases_eq n (suc (length is)))
 
   -- an instruction amid them

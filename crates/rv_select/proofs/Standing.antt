@@ -6,7 +6,7 @@ use Rattle.std.specs.List.{All, Contains}
 use Rattle.std.proofs.lemmas.Bool.{cases_lt}
 use Rattle.std.proofs.lemmas.Int.{ints}
 use Rattle.std.proofs.lemmas.List.{length-append, take_all}
-use Rattle.std.proofs.lemmas.List.Elements.{All-nil, All-weaker, Contains-push}
+use Rattle.std.proofs.lemmas.List.Elements.{All-contains, All-nil, All-weaker, Contains-push}
 use Rattle.std.proofs.lemmas.Option.{same_Some, slice_get_within}
 use Rattle.elf_file.specs.declared.image.Line.{Line}
 use Rattle.obj_mem.specs.declared.map.Frame.{Frame}
@@ -16,6 +16,7 @@ use Rattle.rv_instr.specs.declared.instr.Instr.TheVariants.{Cjal}
 use Rattle.select_words.specs.Entries.{ParameterWords}
 use Rattle.select_words.specs.Selecting.{Selecting}
 use Rattle.select_words.specs.Standing.{HasAt}
+use Rattle.tac_ir.specs.Costs.{function_cost}
 use Rattle.tac_ir.specs.Temps.{behind}
 use Rattle.tac_ir.specs.declared.code.TacFun.{TacFun}
 use Rattle.tac_ir.specs.declared.code.TacInstr.{TacInstr}
@@ -34,7 +35,7 @@ use Rattle.rv_select.proofs.Amid.{IsAmid, ComesTo, Labels, stands_as, has_kept}
 use Rattle.rv_emit.proofs.Contained.{get_left}
 use Rattle.rv_select.proofs.Noted.{continues_then, continues_more, continues_keeps, appends_then, appends_below}
 use Rattle.rv_select.proofs.Noted.{appends_none, Notes, all_marks, noted_all, place, place_first, place_most, splits}
-use Rattle.rv_select.proofs.Noted.{label_at, place_last}
+use Rattle.rv_select.proofs.Noted.{label_at, place_last, place_least}
 use Rattle.rv_emit.proofs.Appended.{more}
 
 -- the bytes from one word to another
@@ -82,6 +83,7 @@ pub record Begins (s : Selecting) (frame : Frame) (t : TacFun) (old ready : Size
 
 module _ (s : Selecting) (frame : Frame) (t : TacFun) (old ready whole new : Size) (b : Begins s frame t old ready)
     (h : SelectsAll s t.code ready whole) (ends : new.links ≡ ended whole)
+    (few : length whole.text < length old.text + 262144)
     (led : AreLedTo (StandsAt whole.links.marks) whole.links.jumps whole.text new.text) where
   abbrev word : List TacInstr → ℕ
   word rest = place s t.code ready whole h (length rest)
@@ -110,6 +112,15 @@ module _ (s : Selecting) (frame : Frame) (t : TacFun) (old ready whole new : Siz
       (All-weaker (λ (j : Jump). j.at < length old.text) (λ (j : Jump). j.at < length ready.text)
       (λ j lt. omega (arith, lt, long)) old.links.calls b.between.calls)
 
+  -- the jumps are from words behind the parameters
+  from_behind : (at l : ℕ) → JumpsTo whole.links.jumps at l → length ready.text ≤ at
+  from_behind at l j =
+      All-contains (λ (j : Jump). length ready.text ≤ j.at) whole.links.jumps (record { at = at; to = l })
+      (let a = notes.jumps in
+      subst (All (λ (j : Jump). length ready.text ≤ j.at)) (sym (a.is ∙ ap (λ js. js ++ a.added) ready_jumps))
+      (All-weaker (λ (j : Jump). (length ready.text ≤ j.at) × (j.at < length whole.text))
+      (λ (j : Jump). length ready.text ≤ j.at) (λ j b. b.0) a.added a.inside)) j.some
+
   grown : length ready.text ≤ length whole.text
   grown = continues_more ready.text whole.text notes.text
 
@@ -120,9 +131,6 @@ module _ (s : Selecting) (frame : Frame) (t : TacFun) (old ready whole new : Siz
     same_calls : new.links.calls ≡ whole.links.calls
     same_calls = ap (λ (x : Links). x.calls) ends
 
-    few : length whole.text < 262144
-    few = let l = led.len in let a = becomes.longer in let c = becomes.short in omega (arith, l, a, c)
-
     lands : (at l link to : ℕ) (z y : ℤ) → slice_get whole.text at ≡ Some (Cjal link z)
         → JumpsTo whole.links.jumps at l → slice_get new.text at ≡ Some (Cjal link y) → Lands l to → IsHop at to y
     lands at l link to z y e j now q =
@@ -130,10 +138,12 @@ module _ (s : Selecting) (frame : Frame) (t : TacFun) (old ready whole new : Siz
         let stands : StandsAt whole.links.marks l to =
         subst (StandsAt whole.links.marks l) (sym q.2) (label_at s l t.code ready whole h ready_marks q.0 q.1) in
         let most = place_most s t.code ready whole h (length (behind l t.code)) in
+        let least = place_least s t.code ready whole h (length (behind l t.code)) in
         let is = q.2 in
         let lt = slice_get_within whole.text at (Cjal link z) e in
+        let low = from_behind at l j in
         let there = led.led at l to (Cjal link z) x.0 j stands e
-        (record { ahead = omega (arith, few, most, is); back = omega (arith, few, lt) }) x.1 in
+        (record { ahead = omega (arith, few, most, is, low, long); back = omega (arith, few, lt, least, is, long) }) x.1 in
         let same : x.0 ≡ y = same_Some x.0 y
         (ap offset_of (same_Some (Cjal link x.0) (Cjal link y) (sym there ∙ now))) in
         subst (IsHop at to) same x.1
@@ -234,6 +244,7 @@ module _ (s : Selecting) (frame : Frame) (t : TacFun) (old ready whole new : Siz
           text = begins_as old.text new.text (omega (arith, long, grown, len)) kept_items;
           lines = subst (λ (x : Links). Continues old.links.lines x.lines) (sym ends) lines;
           calls = calls;
+          far = ap (λ (x : Links). x.far) ends ∙ notes.far ∙ ap (λ (x : Links). x.far) b.links;
         };
         between = record {
           marks = ap (λ (x : Links). x.marks) ends;
@@ -255,9 +266,11 @@ pub function_put : (f : Function) (t : TacFun) (old begun ready whole new : Size
     → (TakesParameters f t.params → Puts (ParameterWords (chosen f) t.params) begun ready) → ready.links ≡ begun.links
     → (AllSuit f all → SelectsAll (chosen f) (take n all) ready whole) → new.links ≡ ended whole
     → AreLedTo (StandsAt whole.links.marks) whole.links.jumps whole.text new.text
-    → IsBetween old → AllSuit f t.code → TakesParameters f t.params
+    → (function_cost t < 262144 → length whole.text < length old.text + 262144)
+    → IsBetween old → AllSuit f t.code → TakesParameters f t.params → function_cost t < 262144
     → FunctionIsPut (chosen f) f.frame.now t old new
-function_put f t old begun ready whole new all n is le text links words same selects ends led between suit takes =
+function_put f t old begun ready whole new all n is le text links words same selects ends led few between suit takes
+    short =
     let p = words takes in
     let every = subst (AllSuit f) (sym is) suit in
     let front = prologue_code f.places.now.homes f.frame.now in
@@ -267,4 +280,4 @@ function_put f t old begun ready whole new all n is le text links words same sel
       parameter_words = p.are;
       text = more old.text front p.added begun.text ready.text text p.is;
       links = same ∙ links;
-    }) (subst (λ xs. SelectsAll (chosen f) xs ready whole) (take_all n all le ∙ is) (selects every)) ends led
+    }) (subst (λ xs. SelectsAll (chosen f) xs ready whole) (take_all n all le ∙ is) (selects every)) ends (few short) led

@@ -222,7 +222,8 @@ module _ (f : Function) (t : TacFun) (is : IsSelectable (table_of f.entries) t f
       by (instr.Call to fun args) c h =
           let i = instr.Call to fun args in (
             some_chosen to (λ k e. below i c k (in_first (in_option to) args k e)),
-            arguments_chosen args h (λ k e. below i c k (in_second (in_option to) args k e)),
+            arguments_chosen args h.0 (λ k e. below i c k (in_second (in_option to) args k e)),
+            h.1,
           )
       by (instr.CallValue to v of args pos) c h =
           let i = instr.CallValue to v of args pos in (

@@ -6,23 +6,26 @@ use Rattle.std.specs.Prelude.{slice_get, ◌-◌, ◌==◌}
 use Rattle.std.specs.List.{All, Contains}
 use Rattle.std.proofs.lemmas.Bool.{cases_eq, cases_lt, ne_eqb}
 use Rattle.std.proofs.lemmas.List.{length-append, length-take-le, take_more}
-use Rattle.std.proofs.lemmas.List.Elements.{All-append, All-nil, All-push, All-weaker, Contains-append_left}
+use Rattle.std.proofs.lemmas.List.Elements.{All-append, All-nil, All-push, All-weaker, All-contains, Contains-append_left}
 use Rattle.std.proofs.lemmas.List.Elements.{Contains-push}
 use Rattle.std.proofs.lemmas.Option.{same_Some, slice_get_within, get_or_from_slice_get}
 use Rattle.elf_file.specs.declared.image.Line.{Line}
 use Rattle.obj_mem.specs.declared.map.Frame.{Frame}
 use Rattle.reg_alloc.specs.declared.places.Places.{Places}
 use Rattle.rv_instr.specs.declared.instr.Instr.{Instr}
-use Rattle.rv_instr.specs.declared.instr.Instr.TheVariants.{Cjal}
+use Rattle.rv_instr.specs.declared.instr.Instr.TheVariants.{Cjal, Cjalr}
 use Rattle.select_words.specs.Services.{ask}
+use Rattle.select_words.specs.Standing.{HasAt}
+use Rattle.tac_ir.specs.Costs.{function_cost}
 use Rattle.tac_ir.specs.declared.code.TacFun.{TacFun}
 use Rattle.tac_ir.specs.declared.code.TacInstr.{TacInstr}
 use Rattle.select_words.specs.ContainedCode.{offset_of}
 use Rattle.rv_select.specs.Following.{Continues, Follows, LeadsTo, Becomes, IsBetween, FunctionIsPut, IsPut, ArePut}
-use Rattle.rv_emit.specs.Growing.{Size, Links, AreEntries, calling}
-use Rattle.rv_emit.specs.Leading.{IsHop, JumpsTo, NoJump, IsEnteredAt, IsCompleted}
+use Rattle.rv_select.specs.Following.{Begins, ByJump, ByEntry}
+use Rattle.rv_emit.specs.Growing.{Size, Links, AreEntries, calling, reach}
+use Rattle.rv_emit.specs.Leading.{IsHop, JumpsTo, NoJump, IsEnteredAt, IsCompleted, AreNear}
 use Rattle.rv_select.specs.Selected.{AreNumbers, Before, EndsAt, FunctionStands, IsSelected, in_function, is_entered}
-use Rattle.rv_select.specs.Selected.{is_said, is_sunk}
+use Rattle.rv_select.specs.Selected.{is_said, is_sunk, StartWords, Near, Far}
 use Rattle.rv_emit.specs.Jump.{Jump}
 use Rattle.rv_select.specs.declared.function.Function.{Function}
 use Rattle.rv_select.specs.Choosing.{chosen, number_in}
@@ -34,6 +37,7 @@ use Rattle.purecap_abi.specs.Saving.{IsFor}
 use Rattle.rv_emit.proofs.Contained.{get_left}
 use Rattle.rv_select.proofs.Noted.{continues_none, continues_then, continues_more, continues_keeps, appends_none}
 use Rattle.rv_select.proofs.Noted.{appends_then}
+use Rattle.rv_select.proofs.Amid.{has_each}
 use Rattle.rv_select.proofs.Standing.{hop}
 use Rattle.rv_select.proofs.Suited.{numbered, suits, takes}
 
@@ -44,6 +48,7 @@ follows_none old = record {
   text = continues_none old.text old.text refl;
   lines = continues_none old.links.lines old.links.lines refl;
   calls = appends_none (length old.text) (length old.text) old.links.calls old.links.calls refl;
+  far = refl;
 }
 
 pub follows_then : (old mid new : Size) → Follows old mid → Follows mid new → Follows old new
@@ -53,6 +58,7 @@ follows_then old mid new a b = record {
   calls = appends_then (length old.text) (length mid.text) (length new.text) old.links.calls mid.links.calls
       new.links.calls a.calls b.calls (continues_more old.text mid.text a.text)
       (continues_more mid.text new.text b.text);
+  far = b.far ∙ a.far;
 }
 
 in_front : {A : Type 0} (xs ys : List A) (k : ℕ) (x : A) → Continues xs ys → slice_get xs k ≡ Some x
@@ -75,7 +81,6 @@ becomes_before old new code lines entries f b = record {
       });
   said = λ l c. b.said l (continues_keeps old.links.lines new.links.lines l f.lines c);
   longer = let m = continues_more old.text new.text f.text in let l = b.longer in omega (arith, m, l);
-  short = b.short;
 }
   where
     none_else : (k : ℕ) (P : ℕ → Type 0) → All (λ j. j.at ≡ k → P j.to) old.links.calls → k < length old.text
@@ -275,10 +280,40 @@ put_next table funs places frames k t l frame old mid new lt is place framed man
 
 -- ---- the whole
 
--- what is completed is what becomes of it
-pub becomes_completed : (c : Size) (code : List Instr) → IsCompleted c code → AreEntries (length code) c.links.entered
-    → length code ≤ 262144 → Becomes c code c.links.lines c.links.entered
-becomes_completed c code d entries short = record {
+-- in code of no more words than a call leads over, calls are near
+near_all : (c : Size) (code : List Instr) → All (λ j. j.at < length c.text) c.links.calls
+    → length c.text < length code → AreEntries (length code) c.links.entered → length code ≤ 262144
+    → AreNear c.links.calls c.links.entered
+near_all c code below longer entries short =
+    All-weaker (λ (j : Jump). j.at < length c.text)
+    (λ (j : Jump). (to : ℕ) → IsEnteredAt c.links.entered j.to to → (to < j.at + 262144) × (j.at ≤ to + 262144))
+    (λ j lt to e.
+    let inside = entries.inside j.to (slice_get_within c.links.entered j.to (4 * to) e) in
+    let is = get_or_from_slice_get c.links.entered j.to (4 * to) 0 e in
+    (omega (arith, inside, is, short), omega (arith, lt, longer, short))) c.links.calls below
+
+-- a word stands behind the text
+text_shorter : (c : Size) (code : List Instr) → IsCompleted c code → length c.text < length code
+text_shorter c code d =
+    let whole = ap length d.are ∙ length-append d.front (Cjal 0 (pos 0) ∷ []) in
+    let l = d.led.len in
+    omega (arith, l, whole)
+
+-- of far calls none is noted, and the others are near where the code is short
+calls_near : (far : Bool) (c : Size) (code : List Instr) → All (λ j. j.at < length c.text) c.links.calls
+    → IsCompleted c code → AreEntries (length code) c.links.entered → (far ≡ true → c.links.calls ≡ [])
+    → (far ≡ false → length code ≤ 262144) → AreNear c.links.calls c.links.entered
+calls_near true c code below d entries none short =
+    subst (λ js. AreNear js c.links.entered) (sym (none refl))
+    (All-nil (λ (j : Jump). (to : ℕ) → IsEnteredAt c.links.entered j.to to
+    → (to < j.at + 262144) × (j.at ≤ to + 262144)))
+calls_near false c code below d entries none short =
+    near_all c code below (text_shorter c code d) entries (short refl)
+
+-- what is completed is what becomes of it, where its calls are near
+pub becomes_completed : (c : Size) (code : List Instr) → IsCompleted c code → AreNear c.links.calls c.links.entered
+    → Becomes c code c.links.lines c.links.entered
+becomes_completed c code d near = record {
   kept = λ k i e none. there k i (d.led.others k none ∙ e);
   called = λ at fun link z e j.
       let y = d.led.kinds at (Cjal link z) e in
@@ -288,13 +323,9 @@ becomes_completed c code d entries short = record {
         leads = λ to q. lands at fun link to z y.0 e j y.1 q;
       };
   said = λ l h. h;
-  longer = let l = d.led.len in omega (arith, l, long);
-  short = short;
+  longer = text_shorter c code d;
 }
   where
-    long : length code ≡ length d.front + 1
-    long = ap length d.are ∙ length-append d.front (Cjal 0 (pos 0) ∷ [])
-
     there : (k : ℕ) (i : Instr) → slice_get d.front k ≡ Some i → slice_get code k ≡ Some i
     there k i e = in_front d.front code k i (record { added = Cjal 0 (pos 0) ∷ []; is = d.are }) e
 
@@ -302,24 +333,28 @@ becomes_completed c code d entries short = record {
         → slice_get d.front at ≡ Some (Cjal link y) → IsEnteredAt c.links.entered fun to → IsHop at to y
     lands at fun link to z y e j now q =
         let x = hop at to in
-        let inside = entries.inside fun (slice_get_within c.links.entered fun (4 * to) q) in
-        let is = get_or_from_slice_get c.links.entered fun (4 * to) 0 q in
-        let lt = slice_get_within c.text at (Cjal link z) e in
-        let len = d.led.len in
+        let reached = All-contains
+        (λ (j : Jump). (to : ℕ) → IsEnteredAt c.links.entered j.to to
+        → (to < j.at + 262144) × (j.at ≤ to + 262144)) c.links.calls (record { at = at; to = fun }) near j.some to q in
         let led = d.led.led at fun to (Cjal link z) x.0 j q e
-        (record { ahead = omega (arith, inside, is, short); back = omega (arith, lt, len, long, short) }) x.1 in
+        (record { ahead = reached.0; back = reached.1 }) x.1 in
         let same : x.0 ≡ y = same_Some x.0 y
         (ap offset_of (same_Some (Cjal link x.0) (Cjal link y) (sym led ∙ now))) in
         subst (IsHop at to) same x.1
 
--- the first call, behind which the run ends
-pub between_begun : (first begun : Size) (main : ℕ) → first.text ≡ [] → first.links.marks ≡ [] → first.links.jumps ≡ []
-    → first.links.calls ≡ [] → begun.text ≡ first.text ++ Cjal 1 (pos 0) ∷ ask 3
-    → begun.links ≡ calling first.links (length first.text) main → IsBetween begun
-between_begun first begun main t m j c text links =
-    let calls : begun.links.calls ≡ (record { at = 0; to = main }) ∷ [] =
+-- the call is the first that is noted
+first_calls : (first begun : Size) (main : ℕ) → first.text ≡ [] → first.links.calls ≡ []
+    → begun.links ≡ calling first.links (length first.text) main
+    → begun.links.calls ≡ (record { at = 0; to = main }) ∷ []
+first_calls first begun main t c links =
     ap (λ (x : Links). x.calls) links ∙ ap (λ js. js ++ (record { at = length first.text; to = main }) ∷ []) c
-    ∙ ap (λ xs. (record { at = length xs; to = main }) ∷ []) t in
+    ∙ ap (λ xs. (record { at = length xs; to = main }) ∷ []) t
+
+-- no function is at hand behind the call with which a text begins
+pub between_begun : (first begun : Size) (entry main : ℕ) → first.text ≡ [] → first.links.marks ≡ []
+    → first.links.jumps ≡ [] → first.links.calls ≡ [] → Begins entry main first begun → IsBetween begun
+between_begun first begun entry main t m j c (ByJump text links) =
+    let calls : begun.links.calls ≡ (record { at = 0; to = main }) ∷ [] = first_calls first begun main t c links in
     let size = ap length text ∙ length-append first.text (Cjal 1 (pos 0) ∷ ask 3) in
     record {
       marks = ap (λ (x : Links). x.marks) links ∙ m;
@@ -328,34 +363,81 @@ between_begun first begun main t m j c text links =
           (All-push (λ (j : Jump). j.at < length begun.text) [] (record { at = 0; to = main })
           (All-nil (λ (j : Jump). j.at < length begun.text)) (omega (arith, size)));
     }
+between_begun first begun entry main t m j c (ByEntry finds found text links) = record {
+  marks = ap (λ (x : Links). x.marks) links ∙ m;
+  jumps = ap (λ (x : Links). x.jumps) links ∙ j;
+  calls = subst (All (λ (j : Jump). j.at < length begun.text)) (sym (ap (λ (x : Links). x.calls) links ∙ c))
+      (All-nil (λ (j : Jump). j.at < length begun.text));
+}
+
+-- it enters no function, and leaves the form of calls
+begun_entered : (first begun : Size) (entry main : ℕ) → Begins entry main first begun
+    → begun.links.entered ≡ first.links.entered
+begun_entered first begun entry main (ByJump text links) = ap (λ (x : Links). x.entered) links
+begun_entered first begun entry main (ByEntry finds found text links) = ap (λ (x : Links). x.entered) links
+
+begun_far : (first begun : Size) (entry main : ℕ) → Begins entry main first begun → begun.links.far ≡ first.links.far
+begun_far first begun entry main (ByJump text links) = ap (λ (x : Links). x.far) links
+begun_far first begun entry main (ByEntry finds found text links) = ap (λ (x : Links). x.far) links
 
 module _ (table : Before) (funs : List TacFun) (places : List Places) (frames : List Frame) (main : ℕ)
-    (begun final : Size) (code : List Instr) (lines : List Line) (entries : List ℕ)
-    (a : ArePut table funs places frames begun final) (text : begun.text ≡ Cjal 1 (pos 0) ∷ ask 3)
-    (calls : begun.links.calls ≡ (record { at = 0; to = main }) ∷ []) (none : begun.links.entered ≡ [])
-    (completed : IsCompleted final code) (few : AreEntries (length code) entries) (short : length code ≤ 262144)
+    (first begun final : Size) (code : List Instr) (lines : List Line) (entries : List ℕ)
+    (a : ArePut table funs places frames begun final) (empty : first.text ≡ []) (no_calls : first.links.calls ≡ [])
+    (begun_by : Begins (table.functions + main) main first begun) (none : begun.links.entered ≡ [])
+    (completed : IsCompleted final code) (near : AreNear final.links.calls final.links.entered)
     (is_lines : lines ≡ final.links.lines) (are_entries : entries ≡ final.links.entered) where
   becomes : Becomes final code lines entries
   becomes =
       subst (λ ls. Becomes final code ls entries) (sym is_lines)
       (subst (λ es. Becomes final code final.links.lines es) (sym are_entries)
-      (becomes_completed final code completed (subst (AreEntries (length code)) are_entries few) short))
+      (becomes_completed final code completed near))
 
   front : Becomes begun code lines entries
   front = becomes_before begun final code lines entries a.follows becomes
 
-  no_call : (k : ℕ) → (0 ≡ k → ⊥) → NoJump begun.links.calls k
-  no_call k n =
-      subst (λ js. NoJump js k) (sym calls)
-      (All-push (λ (j : Jump). j.at ≡ k → ⊥) [] (record { at = 0; to = main }) (All-nil (λ (j : Jump). j.at ≡ k → ⊥)) n)
+  -- the words with which it begins
+  record IsBegun : Type 0 where
+    start : List Instr
+    begins : HasAt code 0 start
+    starts : StartWords (λ z. (at : ℕ) → is_entered entries main at → IsHop 0 at z) (table.functions + main) start
 
-  first_call : LeadsTo (IsEnteredAt entries main) code 0 1
-  first_call = front.called 0 main 1 (pos 0) (ap (λ xs. slice_get xs 0) text)
+  is_begun : Begins (table.functions + main) main first begun → IsBegun
+  is_begun (ByJump text links) =
+      let calls = first_calls first begun main empty no_calls links in
+      let words : begun.text ≡ Cjal 1 (pos 0) ∷ ask 3 = text ∙ ap (λ xs. xs ++ Cjal 1 (pos 0) ∷ ask 3) empty in
+      let no_call : (k : ℕ) → (0 ≡ k → ⊥) → NoJump begun.links.calls k = λ k n.
+      subst (λ js. NoJump js k) (sym calls) (All-push (λ (j : Jump). j.at ≡ k → ⊥) [] (record { at = 0; to = main })
+      (All-nil (λ (j : Jump). j.at ≡ k → ⊥)) n) in
+      let call : LeadsTo (IsEnteredAt entries main) code 0 1 =
+      front.called 0 main 1 (pos 0) (ap (λ xs. slice_get xs 0) words)
       (subst (λ js. JumpsTo js 0 main) (sym calls) (record {
         some = Contains-push [] (record { at = 0; to = main });
         only = All-push (λ (j : Jump). j.at ≡ 0 → j.to ≡ main) [] (record { at = 0; to = main })
             (All-nil (λ (j : Jump). j.at ≡ 0 → j.to ≡ main)) (λ e. refl);
-      }))
+      })) in
+      record {
+        start = Cjal 1 call.by ∷ ask 3;
+        begins = (
+          call.there,
+          (
+            front.kept 1 _ (ap (λ xs. slice_get xs 1) words) (no_call 1 (λ e. omega (arith, e))),
+            (front.kept 2 _ (ap (λ xs. slice_get xs 2) words) (no_call 2 (λ e. omega (arith, e))), tt),
+          ),
+        );
+        starts = Near call.by (λ at e. call.leads at e) refl;
+      }
+  is_begun (ByEntry finds found text links) =
+      let start = finds ++ (Cjalr 1 31 (pos 0) ∷ ask 3) in
+      let words : begun.text ≡ start = text ∙ ap (λ xs. xs ++ start) empty in
+      let calls : begun.links.calls ≡ [] = ap (λ (x : Links). x.calls) links ∙ no_calls in
+      record {
+        start = start;
+        begins = has_each code start 0 (λ k i e.
+            let here : k ≡ 0 + k = omega arith in
+            subst (λ n. slice_get code n ≡ Some i) here (front.kept k i (ap (λ xs. slice_get xs k) words ∙ e)
+            (subst (λ js. NoJump js k) (sym calls) (All-nil (λ (j : Jump). j.at ≡ k → ⊥)))));
+        starts = Far finds found refl;
+      }
 
   -- the words of a function end where those of the next one begin, and those of the last before one word
   all_end : (fun : ℕ) → fun < length funs → EndsAt entries (length code - 1) fun (a.word fun [])
@@ -370,66 +452,71 @@ module _ (table : Before) (funs : List TacFun) (places : List Places) (frames : 
       (subst (λ n. EndsAt final.links.entered (length final.text) n (a.word fun [])) here (a.ends fun lt)))
 
   pub is_selected : IsSelected funs places frames table main code lines entries
-  is_selected = record {
-    offset = first_call.by;
-    begins = (
-      first_call.there,
-      (
-        front.kept 1 _ (ap (λ xs. slice_get xs 1) text) (no_call 1 (λ e. omega (arith, e))),
-        (front.kept 2 _ (ap (λ xs. slice_get xs 2) text) (no_call 2 (λ e. omega (arith, e))), tt),
-      ),
-    );
-    leads = λ at e. first_call.leads at e;
-    numbers = a.numbers;
-    numbered = a.numbered;
-    word = a.word;
-    functions = λ fun at t l frame e p f q.
-        let size = ap length none in
-        let here : fun ≡ length begun.links.entered + fun = omega (arith, size) in
-        a.stand fun at t l frame e p f
-        (subst (λ n. IsEnteredAt final.links.entered n at) here (subst (λ es. IsEnteredAt es fun at) are_entries q))
-        code lines entries becomes;
-    ends = all_end;
-  }
+  is_selected =
+      let b = is_begun begun_by in
+      record {
+        start = b.start;
+        begins = b.begins;
+        starts = b.starts;
+        numbers = a.numbers;
+        numbered = a.numbered;
+        word = a.word;
+        functions = λ fun at t l frame e p f q.
+            let size = ap length none in
+            let here : fun ≡ length begun.links.entered + fun = omega (arith, size) in
+            a.stand fun at t l frame e p f
+            (subst (λ n. IsEnteredAt final.links.entered n at) here (subst (λ es. IsEnteredAt es fun at) are_entries q))
+            code lines entries becomes;
+        ends = all_end;
+      }
 
 -- one of its functions, whose numbers were found
 pub one_put : (f : Function) (t : TacFun) (old new : Size) → IsFor f.places.now.homes f.frame.now
-    → AreWritten t f.written.now → t.params ≤ 4194304
-    → (IsBetween old → AllSuit f t.code → TakesParameters f t.params → FunctionIsPut (chosen f) f.frame.now t old new)
+    → AreWritten t f.written.now
+    → (IsBetween old → AllSuit f t.code → TakesParameters f t.params → function_cost t < 262144
+    → FunctionIsPut (chosen f) f.frame.now t old new)
     → IsBetween old → IsSelectable (table_of f.entries) t f.places.now.homes f.frame.now
     → IsPut (table_of f.entries) t f.places.now.homes f.frame.now old new
-one_put f t old new framed written few put between selectable = record {
-  numbers = λ temp. number_in (slice_get f.written.now temp);
-  numbered = numbered t f.written.now written;
-  put = put between (suits f t selectable framed written) (takes f t selectable framed written few);
-}
+one_put f t old new framed written put between selectable =
+    let short = selectable.short in
+    record {
+      numbers = λ temp. number_in (slice_get f.written.now temp);
+      numbered = numbered t f.written.now written;
+      put = put between (suits f t selectable framed written)
+          (takes f t selectable framed written (omega (arith, short))) short;
+    }
 
 -- all of a program
 pub program_is_selected : (table made : Before) (funs fs : List TacFun) (places ls : List Places)
     (frames gs : List Frame)
-    (main : ℕ) (first begun final : Size) (code : List Instr) (lines : List Line) (entries : List ℕ) → made ≡ table
+    (main : ℕ) (far : Bool) (first begun final : Size) (code : List Instr) (lines : List Line) (entries : List ℕ)
+    → made ≡ table
     → fs ≡ funs → ls ≡ places → gs ≡ frames → first.text ≡ []
-    → first.links ≡ record { marks = []; jumps = []; calls = []; entered = []; lines = [] }
-    → begun.text ≡ first.text ++ Cjal 1 (pos 0) ∷ ask 3 → begun.links ≡ calling first.links (length first.text) main
+    → first.links ≡ record { marks = []; jumps = []; calls = []; entered = []; lines = []; far = far }
+    → (16 * (made.functions + main) < reach → Begins (made.functions + main) main first begun)
     → (IsBetween begun → AreAll made fs ls gs → ArePut made fs ls gs begun final)
-    → IsCompleted final code → AreEntries (length code) entries → length code ≤ 262144 → lines ≡ final.links.lines
-    → entries ≡ final.links.entered → AreAll table funs places frames
+    → IsCompleted final code → AreEntries (length code) entries → (final.links.far ≡ true → final.links.calls ≡ [])
+    → lines ≡ final.links.lines → entries ≡ final.links.entered → (far ≡ false → length code ≤ 262144)
+    → 16 * (table.functions + main) < reach → AreAll table funs places frames
     → IsSelected funs places frames table main code lines entries
-program_is_selected table made funs fs places ls frames gs main first begun final code lines entries m f l g none
-    no_links text links put completed few short is_lines are_entries all =
-    let text_is : begun.text ≡ Cjal 1 (pos 0) ∷ ask 3 = text ∙ ap (λ xs. xs ++ Cjal 1 (pos 0) ∷ ask 3) none in
-    let calls : begun.links.calls ≡ (record { at = 0; to = main }) ∷ [] =
-    ap (λ (x : Links). x.calls) links
-    ∙ ap (λ (x : Links). x.calls ++ (record { at = length first.text; to = main }) ∷ []) no_links
-    ∙ ap (λ xs. (record { at = length xs; to = main }) ∷ []) none in
-    let between = between_begun first begun main none (ap (λ (x : Links). x.marks) no_links)
-    (ap (λ (x : Links). x.jumps) no_links) (ap (λ (x : Links). x.calls) no_links) text links in
+program_is_selected table made funs fs places ls frames gs main far first begun final code lines entries m f l g none
+    no_links begins put completed few unnoted is_lines are_entries short reaches all =
+    let no_calls = ap (λ (x : Links). x.calls) no_links in
+    let begun_by = subst (λ (b : Before). Begins (b.functions + main) main first begun) m
+    (begins (subst (λ (b : Before). 16 * (b.functions + main) < reach) (sym m) reaches)) in
+    let between = between_begun first begun (table.functions + main) main none (ap (λ (x : Links). x.marks) no_links)
+    (ap (λ (x : Links). x.jumps) no_links) no_calls begun_by in
     let same = subst (λ x. AreAll x fs ls gs) (sym m) (subst (λ x. AreAll table x ls gs) (sym f)
     (subst (λ x. AreAll table funs x gs) (sym l) (subst (λ x. AreAll table funs places x) (sym g) all))) in
     let a = subst (λ x. ArePut x funs places frames begun final) m
     (subst (λ x. ArePut made x places frames begun final) f
     (subst (λ x. ArePut made fs x frames begun final) l (subst (λ x. ArePut made fs ls x begun final) g
     (put between same)))) in
-    is_selected table funs places frames main begun final code lines entries a text_is calls
-    (ap (λ (x : Links). x.entered) links ∙ ap (λ (x : Links). x.entered) no_links) completed few short is_lines
-    are_entries
+    let entered = begun_entered first begun (table.functions + main) main begun_by
+    ∙ ap (λ (x : Links). x.entered) no_links in
+    let is_far : final.links.far ≡ far = a.follows.far ∙ begun_far first begun (table.functions + main) main begun_by
+    ∙ ap (λ (x : Links). x.far) no_links in
+    let near = calls_near far final code a.between.calls completed (subst (AreEntries (length code)) are_entries few)
+    (λ e. unnoted (is_far ∙ e)) short in
+    is_selected table funs places frames main first begun final code lines entries a none no_calls begun_by entered
+    completed near is_lines are_entries

@@ -1,16 +1,18 @@
 -- What code keeps as more is appended to it, and what of it stands in the whole code.
-use Rattle.std.specs.Prelude.{◌≡◌, ℕ, ◌+◌, ◌*◌, ◌<◌, ◌≤◌, ℤ, List, [], ◌∷◌, ◌++◌, length, Option, Some, slice_get}
+use Rattle.std.specs.Prelude.{◌≡◌, ℕ, ◌+◌, ◌*◌, ◌<◌, ◌≤◌, ℤ, pos, List, [], ◌∷◌, ◌++◌, length, Option, Some, slice_get}
 use Rattle.std.specs.List.{All, Contains}
 use Rattle.elf_file.specs.declared.image.Line.{Line}
 use Rattle.obj_mem.specs.declared.map.Frame.{Frame}
 use Rattle.rv_instr.specs.declared.instr.Instr.{Instr}
-use Rattle.rv_instr.specs.declared.instr.Instr.TheVariants.{Cjal}
+use Rattle.rv_instr.specs.declared.instr.Instr.TheVariants.{Cjal, Cjalr}
 use Rattle.reg_alloc.specs.declared.places.Home.{Home}
 use Rattle.reg_alloc.specs.declared.places.Places.{Places}
+use Rattle.select_words.specs.Calling.{FindsEntry}
 use Rattle.select_words.specs.Selecting.{Selecting}
+use Rattle.select_words.specs.Services.{ask}
 use Rattle.tac_ir.specs.declared.code.TacFun.{TacFun}
 use Rattle.tac_ir.specs.declared.code.TacInstr.{TacInstr}
-use Rattle.rv_emit.specs.Growing.{Size, room}
+use Rattle.rv_emit.specs.Growing.{Size, calling}
 use Rattle.rv_emit.specs.Leading.{IsHop, JumpsTo, NoJump, IsEnteredAt}
 use Rattle.rv_select.specs.Selected.{AreNumbers, Before, EndsAt, FunctionStands, in_function, is_entered, is_said}
 use Rattle.rv_select.specs.Selected.{is_sunk}
@@ -28,11 +30,12 @@ pub record Appends (from to : ℕ) (old new : List Jump) : Type 0 where
   pub is : new ≡ old ++ added
   pub inside : All (λ j. (from ≤ j.at) × (j.at < to)) added
 
--- words, lines, and calls from these words
+-- words, lines, and calls from these words, if not far ones
 pub record Follows (old new : Size) : Type 0 where
   pub text : Continues old.text new.text
   pub lines : Continues old.links.lines new.links.lines
   pub calls : Appends (length old.text) (length new.text) old.links.calls new.links.calls
+  pub far : new.links.far ≡ old.links.far
 
 -- ---- what becomes of it
 
@@ -50,7 +53,15 @@ pub record Becomes (old : Size) (code : List Instr) (lines : List Line) (entries
       → LeadsTo (IsEnteredAt entries fun) code at link
   pub said : (l : Line) → Contains old.links.lines l → Contains lines l
   pub longer : length old.text < length code
-  pub short : length code ≤ room
+
+-- ---- the call with which a text begins
+
+-- one that is noted, or one by an entry of the table
+pub data Begins (entry main : ℕ) (old new : Size) : Type 0 where
+  ByJump : new.text ≡ old.text ++ Cjal 1 (pos 0) ∷ ask 3 → new.links ≡ calling old.links (length old.text) main
+      → Begins entry main old new
+  ByEntry : (finds : List Instr) → FindsEntry entry finds → new.text ≡ old.text ++ (finds ++ Cjalr 1 31 (pos 0) ∷ ask 3)
+      → new.links ≡ old.links → Begins entry main old new
 
 -- ---- functions
 

@@ -9,6 +9,7 @@ use Rattle.reg_alloc.specs.Placed.{IsUsable}
 use Rattle.reg_alloc.specs.declared.places.Home.{Home}
 use Rattle.reg_alloc.specs.declared.places.Home.TheVariants.{Register}
 use Rattle.reg_alloc.specs.declared.places.Places.{Places}
+use Rattle.tac_ir.specs.Costs.{function_cost}
 use Rattle.tac_ir.specs.Temps.{IsIn, names}
 use Rattle.tac_ir.specs.declared.code.LibOp.TheVariants as lib
 use Rattle.tac_ir.specs.declared.code.TacFun.{TacFun}
@@ -32,14 +33,17 @@ IsFormed table frame (instr.Global to number literal) =
 IsFormed table frame (instr.Function to fun) = 16 * (table.functions + fun) < reach
 IsFormed table frame (instr.CopyUnits from to bytes unit from_pos to_pos) =
     (0 < unit) × (bytes / unit < 2 ^ 31)
-IsFormed table frame (instr.Call to fun args) = length args ≤ 4194304
+IsFormed table frame (instr.Call to fun args) =
+    (length args ≤ 4194304) × (16 * (table.functions + fun) < reach)
 IsFormed table frame (instr.CallValue to v of args pos) = length args ≤ 4194304
 IsFormed table frame (instr.Lib lib.Malloc to args) = (0 < length args) × (16 * table.heap < reach)
 IsFormed table frame i = Unit {0}
 
--- Of a function: a home for each temp, in registers that may be homes. A parameter stands in the register in which it
--- comes or in none of those in which arguments come, and no two stand in one home
+-- Of a function: no more words than a jump leads over, and a home for each temp, in registers that may be homes. A
+-- parameter stands in the register in which it comes or in none of those in which arguments come, and no two stand in
+-- one home
 pub record IsSelectable (table : Before) (t : TacFun) (homes : List Home) (frame : Frame) : Type 0 where
+  pub short : function_cost t < 262144
   pub one_each : length homes ≡ t.temps
   pub named : (i : TacInstr) → Contains t.code i → (k : ℕ) → IsIn k (names i) → k < t.temps
   pub params : t.params ≤ t.temps
@@ -59,6 +63,10 @@ before p = record {
   functions = length p.globals + length p.literals;
   heap = length p.globals + length p.literals + length p.funs;
 }
+
+-- the table's entry of the function with which a run begins is within reach
+abbrev pub ReachesFirst : Typed → Type 0
+ReachesFirst p = let b : Before = before p in 16 * (b.functions + p.main) < reach
 
 abbrev pub AreAll : Before → List TacFun → List Places → List Frame → Type 0
 AreAll table funs places frames =

@@ -1,6 +1,6 @@
 -- Selected code, whole: for each function what it begins with, and then the words of each of its instructions in order,
 -- at ascending places, with jumps and calls that lead to the places of labels and functions.
-use Rattle.std.specs.Prelude.{◌≡◌, ℕ, ◌+◌, ◌-◌, ◌*◌, ◌/◌, ◌<◌, ℤ, Bool, true, List, [], ◌∷◌, ◌++◌, length, zero, suc}
+use Rattle.std.specs.Prelude.{◌≡◌, ◌⊎◌, ℕ, ◌+◌, ◌-◌, ◌*◌, ◌/◌, ◌<◌, ℤ, Bool, true, List, [], ◌∷◌, ◌++◌, length, zero, suc}
 use Rattle.std.specs.Prelude.{pos, Option, Some, None, slice_get}
 use Rattle.std.specs.List.{Contains}
 use Rattle.ck_base.specs.declared.positions.Pos.{Pos}
@@ -21,6 +21,7 @@ use Rattle.tac_ir.specs.declared.code.TacInstr.{TacInstr}
 use Rattle.tac_ir.specs.declared.code.TacInstr.TheVariants as instr
 use Rattle.tac_ir.specs.declared.code.TacKind.{TacKind}
 use Rattle.select_words.specs.Accesses.{AccessWords}
+use Rattle.select_words.specs.Calling.{FindsEntry}
 use Rattle.select_words.specs.Capabilities.{NarrowWords, OffsetWords, CapWords, PointingWords}
 use Rattle.select_words.specs.Copying as copying
 use Rattle.select_words.specs.Entries.{ParameterWords}
@@ -78,6 +79,16 @@ pub record CallsBy (Calls : (skip : ℕ) → ℤ → Type 0) (s : Selecting) (to
   pub kept : KeepSome s to keep
   pub are : words ≡ (passes ++ Cjal 1 offset ∷ []) ++ keep
 
+-- the function's sentry comes from the table to c31, and the word behind that and the arguments jumps to it
+pub record FarCallsBy (fun : ℕ) (s : Selecting) (to : Option ℕ) (args : List ℕ) (words : List Instr) : Type 0 where
+  pub finds : List Instr
+  pub found : FindsEntry (s.functions + fun) finds
+  pub passes : List Instr
+  pub passed : AreAside s args → ArgumentWords s args passes
+  pub keep : List Instr
+  pub kept : KeepSome s to keep
+  pub are : words ≡ (finds ++ (passes ++ Cjalr 1 31 (pos 0) ∷ [])) ++ keep
+
 -- the word behind the value and the arguments jumps to it
 pub record CallsThrough (Traps : (skip : ℕ) → Type 0) (s : Selecting) (to : Option ℕ) (v : ℕ) (args : List ℕ)
     (words : List Instr) : Type 0 where
@@ -131,7 +142,8 @@ WordsOf y s (instr.CopyUnits from to bytes unit from_pos to_pos) words =
 WordsOf y s (instr.Label l) words = y.Labels l × (words ≡ [])
 WordsOf y s (instr.Jump l) words = JumpWords (y.Jumps l) words
 WordsOf y s (instr.Branch on when l) words = BranchesBy (y.Jumps l) s on when words
-WordsOf y s (instr.Call to fun args) words = CallsBy (y.Calls fun) s to args words
+WordsOf y s (instr.Call to fun args) words =
+    CallsBy (y.Calls fun) s to args words ⊎ (y.Passes × FarCallsBy fun s to args words)
 WordsOf y s (instr.CallValue to v of args place) words =
     CallsThrough (λ n. y.Traps n place) s to v args words
 WordsOf y s (instr.Lib o to args) words = y.Passes × LibraryWords s o to args words
@@ -219,14 +231,20 @@ pub record EndsAt (entries : List ℕ) (words fun end : ℕ) : Type 0 where
   pub next : (at : ℕ) → is_entered entries (suc fun) at → end ≡ at
   pub last : suc fun ≡ length entries → end ≡ words
 
--- The words of a program: the first calls the first function, and behind it the run ends; each function stands where it
--- is entered, in the order of its instructions, and nothing stands between two functions, nor behind the last one but
--- one word
+-- The words with which a text begins: they call the first function, which lies so many bytes ahead, or whose sentry is
+-- an entry of the table, and behind the call the run ends
+pub data StartWords (Leads : ℤ → Type 0) (entry : ℕ) (words : List Instr) : Type 0 where
+  Near : (offset : ℤ) → Leads offset → words ≡ Cjal 1 offset ∷ ask 3 → StartWords Leads entry words
+  Far : (finds : List Instr) → FindsEntry entry finds → words ≡ finds ++ (Cjalr 1 31 (pos 0) ∷ ask 3)
+      → StartWords Leads entry words
+
+-- The words of a program: each function stands where it is entered, in the order of its instructions, and nothing stands
+-- between two functions, nor behind the last one but one word
 pub record IsSelected (funs : List TacFun) (places : List Places) (frames : List Frame) (table : Before) (main : ℕ)
     (code : List Instr) (lines : List Line) (entries : List ℕ) : Type 0 where
-  pub offset : ℤ
-  pub begins : HasAt code 0 (Cjal 1 offset ∷ ask 3)
-  pub leads : (at : ℕ) → is_entered entries main at → IsHop 0 at offset
+  pub start : List Instr
+  pub begins : HasAt code 0 start
+  pub starts : StartWords (λ z. (at : ℕ) → is_entered entries main at → IsHop 0 at z) (table.functions + main) start
   pub numbers : (fun temp : ℕ) → Option ℕ
   pub numbered : (fun : ℕ) (t : TacFun) → slice_get funs fun ≡ Some t → AreNumbers t (numbers fun)
   pub word : (fun : ℕ) → List TacInstr → ℕ

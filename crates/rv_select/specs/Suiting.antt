@@ -37,7 +37,8 @@ Suits f (instr.Zero var) = HasObject f.frame.now var
 Suits f (instr.CopyUnits from to bytes unit from_pos to_pos) =
     Chooses f from × Chooses f to × (0 < unit) × (bytes / unit < 2 ^ 31)
 Suits f (instr.Branch on when l) = Chooses f on
-Suits f (instr.Call to fun args) = ChoosesSome f to × ChoosesArguments f args
+Suits f (instr.Call to fun args) =
+    ChoosesSome f to × ChoosesArguments f args × (16 * (f.entries.functions + fun) < reach)
 Suits f (instr.CallValue to v of args pos) = ChoosesSome f to × Chooses f v × ChoosesArguments f args
 Suits f (instr.Lib op to args) = ReachesHeap f op args × ChoosesFirst f args × ChoosesSome f to
 Suits f (instr.Return v) = ChoosesSome f v

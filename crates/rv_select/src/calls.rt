@@ -1,8 +1,9 @@
-// Calls and returns.
-ghost use Rattle.std.specs.Prelude.{◌≡◌, true, [], ◌∷◌, ◌++◌, ◌+◌, ◌-◌, ◌*◌, ◌≤◌, ◌<◌, min, length};
+//! Calls and returns.
+ghost use Rattle.std.specs.Prelude.{◌≡◌, true, false, [], ◌∷◌, ◌++◌, ◌+◌, ◌-◌, ◌*◌, ◌≤◌, ◌<◌, min, length};
 ghost use Rattle.std.specs.Prelude.{OnOk, IfOk, vec_len};
 ghost use Rattle.purecap_abi.specs.Saving.{IsFor};
 ghost use Rattle.tac_ir.specs.Temps.{in_option};
+ghost use Rattle.select_words.specs.Calling.{FindsEntry};
 ghost use Rattle.select_words.specs.Returning.{ReturnWords};
 ghost use Rattle.select_words.specs.Services.{Argument};
 ghost use Rattle.tac_ir.specs.declared.code.TacInstr.TheVariants.{Call};
@@ -12,14 +13,14 @@ ghost use Rattle.rv_select.specs.Selected.{AreAside, CallsThrough};
 ghost use Rattle.select_words.specs.Entries.{ForEach, stack_place};
 ghost use Rattle.select_words.specs.Passing.{ArgumentWords, StackedWords, IsPassing};
 ghost use Rattle.rv_select.specs.Passed.{StandsAside, ChoosesArguments, AreChosen, ArePlaced};
-ghost use Rattle.rv_emit.specs.Growing.{Grows, Extends, Puts, room};
+ghost use Rattle.rv_emit.specs.Growing.{Grows, Extends, Puts, reach, room};
 ghost use Rattle.tac_ir.specs.Costs.{places_cost};
 
-use crate::function::Function;
+use crate::function::{Entries, Function};
 use crate::homes::{Place, bring, keep_some, operand, register};
 use ck_base::{NoMemory, Pos};
 use rv_emit::{Code, instructions as instr};
-use rv_idioms::{Move, left, move_all, right, way};
+use rv_idioms::{Move, left, move_all, right, table_entry, way};
 use rv_instr::Reg;
 use std::alloc::Global;
 
@@ -122,6 +123,54 @@ fn arguments(alloc: Global, code: &mut Code, f: &Function<'_>, args: &[u32]) -> 
     Ok(())
 }
 
+/// Brings the sentry of a function from the table to c31.
+pub fn find(code: &mut Code, table: Entries, fun: u32) -> Result<(), NoMemory>
+    ensures size { OnOk result (Grows 3 code.old code.new) }
+    ensures words { let entry = table.functions + fun in
+        OnOk result (16 * entry < reach → Puts (FindsEntry entry) code.old code.new) }
+{
+    table_entry(code, way(), table.functions.saturating_add(u64::from(fun)))
+}
+
+/// A call of a function that a jump reaches.
+fn near_call(
+    alloc: Global,
+    code: &mut Code,
+    f: &Function<'_>,
+    to: Option<u32>,
+    fun: u32,
+    args: &[u32],
+) -> Result<(), NoMemory>
+    requires { code.old.links.far ≡ false }
+    ensures size { OnOk result (Extends (4 + places_cost (length args.now)) code.old code.new) }
+    ensures words { OnOk result (ChoosesArguments f.now args.now → ChoosesSome f.now to →
+        Selects (chosen f.now) (Call to fun args.now) code.old code.new) }
+{
+    arguments(alloc, code, f, args)?;
+    code.call(fun)?;
+    keep_some(code, f, to, Reg::RESULT)
+}
+
+/// A call of a function by its sentry.
+fn far_call(
+    alloc: Global,
+    code: &mut Code,
+    f: &Function<'_>,
+    to: Option<u32>,
+    fun: u32,
+    args: &[u32],
+) -> Result<(), NoMemory>
+    ensures size { OnOk result (Grows (7 + places_cost (length args.now)) code.old code.new) }
+    ensures words { OnOk result (ChoosesArguments f.now args.now → ChoosesSome f.now to →
+        16 * (f.now.entries.functions + fun) < reach →
+        Selects (chosen f.now) (Call to fun args.now) code.old code.new) }
+{
+    find(code, f.entries, fun)?;
+    arguments(alloc, code, f, args)?;
+    code.put(instr::jump_through(Reg::LINK, way()))?;
+    keep_some(code, f, to, Reg::RESULT)
+}
+
 /// A call of a function.
 pub fn call(
     alloc: Global,
@@ -131,13 +180,15 @@ pub fn call(
     fun: u32,
     args: &[u32],
 ) -> Result<(), NoMemory>
-    ensures size { OnOk result (Extends (4 + places_cost (length args.now)) code.old code.new) }
+    ensures size { OnOk result (Extends (7 + places_cost (length args.now)) code.old code.new) }
     ensures words { OnOk result (ChoosesArguments f.now args.now → ChoosesSome f.now to →
+        16 * (f.now.entries.functions + fun) < reach →
         Selects (chosen f.now) (Call to fun args.now) code.old code.new) }
 {
-    arguments(alloc, code, f, args)?;
-    code.call(fun)?;
-    keep_some(code, f, to, Reg::RESULT)
+    if code.is_far() {
+        return far_call(alloc, code, f, to, fun, args);
+    }
+    near_call(alloc, code, f, to, fun, args)
 }
 
 /// What is called, and from where in the source.

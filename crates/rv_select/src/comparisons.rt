@@ -1,4 +1,4 @@
-// Comparisons, and branches on a truth value.
+//! Comparisons, and branches on a truth value.
 ghost use Rattle.std.specs.Prelude.{◌≡◌, pos, true, Some, OnOk, IfSome};
 ghost use Rattle.rv_instr.specs.Range.{FitsBits};
 ghost use Rattle.select_words.specs.Operations.{compares_signed};

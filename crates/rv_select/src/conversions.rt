@@ -1,4 +1,4 @@
-// Conversions between kinds.
+//! Conversions between kinds.
 ghost use Rattle.std.specs.Prelude.{◌≡◌, ◌&&◌, OnOk, if◌then◌else◌};
 ghost use Rattle.select_words.specs.Forms.{OfOne};
 ghost use Rattle.select_words.specs.Operations.{is_narrower, is_widening, Reduces, CopiedOr, ConversionBy};
@@ -65,7 +65,7 @@ fn between(
     old: IntKind,
     new: IntKind,
 ) -> Result<(), NoMemory>
-    ensures size { OnOk result (Grows (if is_wide old && is_wide new then 6 else 8) code.old code.new) }
+    ensures size { OnOk result (Grows (if is_wide old && is_wide new then 11 else 8) code.old code.new) }
     ensures words { OnOk result (Chooses f.now to → Stands (chosen f.now) to → Chooses f.now from →
         Puts (CopiedOr (chosen f.now) to from new (is_widening old new)) code.old code.new) }
 {

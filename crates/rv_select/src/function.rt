@@ -1,4 +1,4 @@
-// The function at hand.
+//! The function at hand.
 ghost use Rattle.std.specs.Prelude.{◌≡◌, ◌^◌, ◌<◌};
 ghost use Rattle.purecap_abi.specs.Saving.{slots_at};
 

@@ -1,4 +1,4 @@
-// The code of a function.
+//! The code of a function.
 ghost use Rattle.std.specs.Prelude.{◌≡◌, ◌++◌, ◌+◌, ◌-◌, ◌*◌, ◌≤◌, ◌<◌, min, length, OnOk, vec_len};
 ghost use Rattle.std.specs.List.{All};
 ghost use Rattle.purecap_abi.specs.Words.{IsPlainWord};
@@ -324,13 +324,15 @@ pub fn select_function(
     requires room { code.old.words + function_cost t.now ≤ room }
     ensures size { OnOk result (Enters (function_cost t.now) code.old code.new) }
     ensures put { OnOk result (IsBetween code.old → AllSuit f.now t.now.code → TakesParameters f.now t.now.params
-        → FunctionIsPut (chosen f.now) f.now.frame.now t.now code.old code.new) }
+        → function_cost t.now < 262144 → FunctionIsPut (chosen f.now) f.now.frame.now t.now code.old code.new) }
 {
+    code.counted();
     begin(alloc, code, f, t.name)?;
     parameters(alloc, code, f, t.params)?;
     let all = t.code.as_slice();
     for i in all {
         instruction(alloc, code, f, i)?;
     }
+    code.counted();
     code.lead_to_labels()
 }

@@ -1,4 +1,4 @@
-// Where the temps of the function at hand stand: from an operand to a register, and from a register to a home.
+//! Where the temps of the function at hand stand: from an operand to a register, and from a register to a home.
 ghost use Rattle.std.specs.Prelude.{◌≡◌, ◌<◌, length, slice_get, OnOk, IfOk, IfSome, Some};
 ghost use Rattle.std.specs.Option.{option_map};
 ghost use Rattle.cap_machine.specs.Integers.{extended};

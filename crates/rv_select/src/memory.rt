@@ -1,4 +1,4 @@
-// Capabilities, objects, and what is loaded, stored and copied.
+//! Capabilities, objects, and what is loaded, stored and copied.
 ghost use Rattle.std.specs.Prelude.{◌≡◌, ◌+◌, ◌-◌, ◌*◌, ◌^◌, ◌/◌, ◌≤◌, ◌<◌, length, pos};
 ghost use Rattle.std.specs.Prelude.{OnOk, IfOk, IfSome, if◌then◌else◌};
 ghost use Rattle.cap_machine.specs.Integers.{extended};

@@ -1,4 +1,4 @@
-// Temps that need no home, since one constant is all that they ever hold.
+//! Temps that need no home, since one constant is all that they ever hold.
 ghost use Rattle.std.specs.Prelude.{◌≡◌, ℕ, List, [], ◌∷◌, ◌++◌, IfOk, IfSome, vec_len};
 ghost use Rattle.cap_machine.specs.Integers.{extended};
 ghost use Rattle.tac_ir.specs.Temps.{in_option, writes};

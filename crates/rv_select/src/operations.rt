@@ -1,4 +1,4 @@
-// Constants, copies and operations on integers.
+//! Constants, copies and operations on integers.
 ghost use Rattle.std.specs.Prelude.{◌≡◌, ◌+◌, ◌%◌, ◌^◌, ◌<◌, ◌≤◌, pos, OnOk, IfSome};
 ghost use Rattle.ck_int.specs.Kinds.{form_of, width_of};
 ghost use Rattle.select_words.specs.Words.{Constant, Copied};

@@ -1,17 +1,17 @@
 //! Selection: the text of a program's code.
-ghost use Rattle.std.specs.Prelude.{◌≡◌, ◌+◌, ◌^◌, ◌≤◌, ◌<◌, pos, ◌∷◌, ◌++◌, length, OnOk, IfOk, vec_len};
+ghost use Rattle.std.specs.Prelude.{◌≡◌, ◌+◌, ◌*◌, ◌^◌, ◌≤◌, ◌<◌, false, length, OnOk, IfOk, vec_len};
 ghost use Rattle.std.specs.List.{sum_by};
 ghost use Rattle.purecap_abi.specs.Saving.{IsFor};
 ghost use Rattle.tac_ir.specs.Costs.{function_cost};
 ghost use Rattle.select_words.specs.ContainedCode.{IsContainedCode};
-ghost use Rattle.rv_instr.specs.declared.instr.Instr.TheVariants.{Cjal};
-ghost use Rattle.select_words.specs.Services.{ask};
-ghost use Rattle.rv_select.specs.Following.{IsBetween, IsPut, ArePut};
-ghost use Rattle.rv_emit.specs.Growing.{Extends, Enters, calling, room, IsText, AreEntries};
-ghost use Rattle.rv_select.specs.Selectable.{AreFramed};
+ghost use Rattle.rv_select.specs.Following.{Begins, IsBetween, IsPut, ArePut};
+ghost use Rattle.rv_emit.specs.Growing.{Extends, Enters, reach, room, IsText, AreEntries};
+ghost use Rattle.rv_emit.specs.Leading.{call_span};
+ghost use Rattle.rv_select.specs.Selectable.{AreFramed, ReachesFirst};
 ghost use Rattle.rv_select.specs.Selectable.{IsSelectable, AreAll, AreSelectable, before, table_of};
 ghost use Rattle.rv_select.specs.Selected.{IsSelected};
 
+use crate::calls::find;
 use crate::function::{Entries, Function};
 use crate::functions::select_function;
 use crate::numbers::all_written;
@@ -20,8 +20,10 @@ use ck_base::NoMemory;
 use elf_file::Line;
 use obj_mem::Frame;
 use reg_alloc::Places;
+use rv_emit::instructions::jump_through;
 use rv_emit::{Code, Complete};
-use rv_instr::Instr;
+use rv_idioms::way;
+use rv_instr::{Instr, Reg};
 use std::alloc::Global;
 use tac_ir::{Tac, TacFun};
 
@@ -52,11 +54,16 @@ fn entries_of(p: &Typed) -> Entries
 }
 
 /// Calls `main`, and exits with its result.
-fn begin(code: &mut Code, main: u32) -> Result<(), NoMemory>
-    ensures size { OnOk result (Extends 3 code.old code.new) }
-    ensures text { OnOk result (code.new.text ≡ code.old.text ++ Cjal 1 (pos 0) ∷ ask 3) }
-    ensures links { OnOk result (code.new.links ≡ calling code.old.links (length code.old.text) main) }
+fn begin(code: &mut Code, table: Entries, main: u32) -> Result<(), NoMemory>
+    ensures size { OnOk result (Extends 6 code.old code.new) }
+    ensures begun { let entry = table.functions + main in
+        OnOk result (16 * entry < reach → Begins entry main code.old code.new) }
 {
+    if code.is_far() {
+        find(code, table, main)?;
+        code.put(jump_through(Reg::LINK, way()))?;
+        return code.ask(3);
+    }
     code.call(main)?;
     code.ask(3)
 }
@@ -112,33 +119,34 @@ fn all_functions(
     Ok(())
 }
 
-/// Selects the machine's instructions for a program's code. The text begins with a call of `main`, then has the
-/// functions in their order, and ends with a jump to itself. It refuses nothing but for want of memory.
-pub fn select(
+/// The text with far calls or with near ones, which lead to their functions where it is short enough.
+fn text(
     alloc: Global,
     t: &Tac,
     p: &Typed,
     places: &Vec<Places>,
     frames: &Vec<Frame>,
+    far: bool,
 ) -> Result<Items, NoMemory>
     requires places { vec_len places.now ≡ length t.now.funs }
     requires frames { vec_len frames.now ≡ length t.now.funs }
     requires framed { AreFramed places.now.items frames.now.items }
-    requires costs { 4 + sum_by function_cost t.now.funs ≤ room }
-    ensures size { IfOk result (λ items. vec_len items.code ≤ 4 + sum_by function_cost t.now.funs) }
+    requires costs { 7 + sum_by function_cost t.now.funs ≤ room }
+    ensures size { IfOk result (λ items. vec_len items.code ≤ 7 + sum_by function_cost t.now.funs) }
     ensures text { IfOk result (λ items. IsText items.code.items items.lines.items) }
     ensures start { IfOk result (λ items. items.start ≡ 0) }
     ensures each { IfOk result (λ items. vec_len items.entries ≡ length t.now.funs) }
     ensures entries { IfOk result (λ items. AreEntries (vec_len items.code) items.entries.items) }
     ensures contained { IfOk result (λ items. IsContainedCode items.code.items items.entries.items items.start) }
-    ensures selected { IfOk result (λ items. (before p.now).heap < 2 ^ 64
+    ensures selected { IfOk result (λ items. (far ≡ false → vec_len items.code ≤ call_span)
+        → (before p.now).heap < 2 ^ 64 → ReachesFirst p.now
         → AreSelectable p.now t.now.funs places.now.items frames.now.items
         → IsSelected t.now.funs places.now.items frames.now.items (before p.now) p.now.main items.code.items
         items.lines.items items.entries.items) }
 {
     let table = entries_of(p);
-    let mut code = Code::new(alloc);
-    begin(&mut code, p.main)?;
+    let mut code = Code::new(alloc, far);
+    begin(&mut code, table, p.main)?;
     all_functions(
         alloc,
         &mut code,
@@ -158,4 +166,65 @@ pub fn select(
         entries,
         lines,
     })
+}
+
+/// The text with near calls where that has at most so many words, and otherwise with far ones.
+pub fn select_within(
+    alloc: Global,
+    t: &Tac,
+    p: &Typed,
+    places: &Vec<Places>,
+    frames: &Vec<Frame>,
+    most: usize,
+) -> Result<Items, NoMemory>
+    requires places { vec_len places.now ≡ length t.now.funs }
+    requires frames { vec_len frames.now ≡ length t.now.funs }
+    requires framed { AreFramed places.now.items frames.now.items }
+    requires costs { 7 + sum_by function_cost t.now.funs ≤ room }
+    requires most { most ≤ call_span }
+    ensures size { IfOk result (λ items. vec_len items.code ≤ 7 + sum_by function_cost t.now.funs) }
+    ensures text { IfOk result (λ items. IsText items.code.items items.lines.items) }
+    ensures start { IfOk result (λ items. items.start ≡ 0) }
+    ensures each { IfOk result (λ items. vec_len items.entries ≡ length t.now.funs) }
+    ensures entries { IfOk result (λ items. AreEntries (vec_len items.code) items.entries.items) }
+    ensures contained { IfOk result (λ items. IsContainedCode items.code.items items.entries.items items.start) }
+    ensures selected { IfOk result (λ items. (before p.now).heap < 2 ^ 64 → ReachesFirst p.now
+        → AreSelectable p.now t.now.funs places.now.items frames.now.items
+        → IsSelected t.now.funs places.now.items frames.now.items (before p.now) p.now.main items.code.items
+        items.lines.items items.entries.items) }
+{
+    let near = text(alloc, t, p, places, frames, false)?;
+    if near.code.len() <= most {
+        return Ok(near);
+    }
+    drop(near);
+    text(alloc, t, p, places, frames, true)
+}
+
+/// Selects the machine's instructions for a program's code. The text begins with a call of `main`, then has the
+/// functions in their order, and ends with a jump to itself. Calls are near where all of them lead to their functions,
+/// and far where the text has more than 262,144 words. It refuses nothing but for want of memory.
+pub fn select(
+    alloc: Global,
+    t: &Tac,
+    p: &Typed,
+    places: &Vec<Places>,
+    frames: &Vec<Frame>,
+) -> Result<Items, NoMemory>
+    requires places { vec_len places.now ≡ length t.now.funs }
+    requires frames { vec_len frames.now ≡ length t.now.funs }
+    requires framed { AreFramed places.now.items frames.now.items }
+    requires costs { 7 + sum_by function_cost t.now.funs ≤ room }
+    ensures size { IfOk result (λ items. vec_len items.code ≤ 7 + sum_by function_cost t.now.funs) }
+    ensures text { IfOk result (λ items. IsText items.code.items items.lines.items) }
+    ensures start { IfOk result (λ items. items.start ≡ 0) }
+    ensures each { IfOk result (λ items. vec_len items.entries ≡ length t.now.funs) }
+    ensures entries { IfOk result (λ items. AreEntries (vec_len items.code) items.entries.items) }
+    ensures contained { IfOk result (λ items. IsContainedCode items.code.items items.entries.items items.start) }
+    ensures selected { IfOk result (λ items. (before p.now).heap < 2 ^ 64 → ReachesFirst p.now
+        → AreSelectable p.now t.now.funs places.now.items frames.now.items
+        → IsSelected t.now.funs places.now.items frames.now.items (before p.now) p.now.main items.code.items
+        items.lines.items items.entries.items) }
+{
+    select_within(alloc, t, p, places, frames, 262144)
 }

@@ -1,4 +1,4 @@
-// The library functions.
+//! The library functions.
 ghost use Rattle.std.specs.Prelude.{OnOk};
 ghost use Rattle.select_words.specs.Services.{Argument};
 ghost use Rattle.rv_select.specs.Choosing.{chosen, ChoosesFirst, ChoosesSome, ReachesHeap, ServiceWords};

@@ -1,6 +1,7 @@
 -- How many the words of the calling convention are.
-use Rattle.std.proofs.Common.{◌≡◌, ℕ, ◌+◌, ◌-◌, ◌<◌, ◌≤◌, Bool, true, false, List, [], ◌++◌, length, ap, ◌∙◌, arith}
-use Rattle.std.specs.Prelude.{nat_le, ◌^◌, if◌then◌else◌}
+use Rattle.std.proofs.Common.{◌≡◌, ℕ, ◌+◌, ◌-◌, ◌<◌, ◌≤◌, Bool, true, false, List, [], ◌++◌, length, refl, ap, ◌∙◌}
+use Rattle.std.proofs.Common.{arith}
+use Rattle.std.specs.Prelude.{◌^◌, if◌then◌else◌}
 use Rattle.std.proofs.lemmas.Bool.Decides.{nat_tests}
 use Rattle.rv_instr.specs.declared.instr.Instr.{Instr}
 use Rattle.purecap_abi.specs.Words.{Appends, is_short, is_word, most_words}
@@ -16,25 +17,7 @@ part_few most old new e a =
 -- the words of a number
 pub most_words-le : (n : ℕ) → most_words n ≤ number_cost n
 unfolding most_words
-most_words-le n =
-    elim (is_short n) as
-    (λ (b : Bool).
-    (if b then 1 else
-    (if is_word n then 2 else (if nat_le n (2 ^ 40) then 4 else (if nat_le n (2 ^ 52) then 6 else 8)))) ≤
-    (if b then 1 else 8)) [
-      | true ↦ omega arith
-      | false ↦ elim (is_word n) as
-          (λ (b : Bool).
-          (if b then 2 else (if nat_le n (2 ^ 40) then 4 else (if nat_le n (2 ^ 52) then 6 else 8))) ≤ 8) [
-            | true ↦ omega arith
-            | false ↦ elim (nat_le n (2 ^ 40)) as
-                (λ (b : Bool). (if b then 4 else (if nat_le n (2 ^ 52) then 6 else 8)) ≤ 8) [
-                  | true ↦ omega arith
-                  | false ↦ elim (nat_le n (2 ^ 52)) as
-                      (λ (b : Bool). (if b then 6 else 8) ≤ 8) [ true ↦ omega arith | false ↦ omega arith ]
-                ]
-          ]
-    ]
+most_words-le n = let e : most_words n ≡ number_cost n = refl in omega (arith, e)
 
 pub word_words : (n : ℕ) → is_word n ≡ true → most_words n ≤ 2
 unfolding most_words

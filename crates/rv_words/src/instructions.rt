@@ -1,5 +1,5 @@
-// The instructions that selection makes. Each has a word of the machine, and but for branches and jumps it may stand
-// anywhere in a text.
+//! The instructions that selection makes. Each has a word of the machine, and but for branches and jumps it may stand
+//! anywhere in a text.
 #![tactic(auto, unfolding(rv_instr::specs::Range::InRange))]
 
 ghost use Rattle.std.specs.Prelude.{◌≡◌, ◌%◌, ◌^◌, ◌<◌, pos, Some, false};

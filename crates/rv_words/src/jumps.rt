@@ -1,4 +1,4 @@
-// Jumps and branches, and where they lead.
+//! Jumps and branches, and where they lead.
 ghost use Rattle.std.specs.Prelude.{◌≡◌, ℕ, ◌+◌, ◌*◌, ◌<◌, ◌≤ℤ◌, pos, neg_ℤ, IfSome, IfNone};
 ghost use Rattle.rv_instr.specs.Range.{InRange, FitsBits, IsEven};
 ghost use Rattle.rv_words.specs.Leading.{AreSound, IsSoFar, AreMarks, AreEntered, IsLed, IsMarked, AreLed};

@@ -1,4 +1,4 @@
-// Words that the calling convention's crate makes, before they join the code.
+//! Words that the calling convention's crate makes, before they join the code.
 ghost use Rattle.std.specs.Prelude.{◌≡◌, ◌-◌, ◌^◌, ◌<◌, ◌≤◌, true, IfOk, length};
 ghost use Rattle.std.specs.List.{All};
 ghost use Rattle.purecap_abi.specs.Words.{IsPlainWord, is_word, load_code, store_code, moved_code};

@@ -1,5 +1,5 @@
 -- Calls and the first entry: the machine jumps to the function and is in it.
-use Rattle.std.proofs.Common.{◌≡◌, ℕ, zero, suc, ◌+◌, ◌*◌, ◌%◌, ◌<◌, ◌≤◌, ℤ, true, List, [], ◌∷◌, ◌++◌, length, refl}
+use Rattle.std.proofs.Common.{◌≡◌, ℕ, zero, suc, ◌+◌, ◌%◌, ◌<◌, ◌≤◌, ℤ, true, List, [], ◌∷◌, ◌++◌, length, refl}
 use Rattle.std.proofs.Common.{sym, ap, ◌∙◌, subst, arith, Option, Some, None, inl, inr}
 use Rattle.std.specs.Prelude.{slice_get, slice_set, slice_index_or, map, drop}
 use Rattle.std.proofs.lemmas.List.{length-append, length-map, length-drop, length-set}
@@ -13,7 +13,6 @@ use Rattle.cap_ops.specs.Capability.{sealed, added, with_otype}
 use Rattle.cap_ops.specs.Permissions.{code_permissions}
 use Rattle.rv_instr.specs.declared.instr.Instr.{Instr}
 use Rattle.rv_instr.specs.declared.instr.Instr.TheVariants.{Cjal}
-use Rattle.tag_mem.proofs.Laws.{number_at-same_bytes}
 use Rattle.cap_machine.specs.declared.machine.Machine.{Machine}
 use Rattle.cap_machine.specs.Integers.{extended}
 use Rattle.cap_machine.specs.State.{register}
@@ -53,7 +52,7 @@ use Rattle.select_words.specs.Standing.{HasAt}
 use Rattle.select_words.specs.Calling.{CallWords}
 use Rattle.select_words.specs.Entries.{stack_place}
 use Rattle.select_words.specs.Services.{IsAside, taking}
-use Rattle.select_runs.specs.Acts.{Ground, HasText, IsThere, Leads, counter_at, place}
+use Rattle.select_runs.specs.Acts.{Ground, IsThere, Leads, counter_at, place}
 use Rattle.select_runs.specs.Calling.{Begins, begin_words, HasWords, SinksWithin, EntersWithin, MayCall, values}
 use Rattle.select_runs.specs.Calling.{CallsRun, FirstIsEntered}
 use Rattle.select_runs.specs.Entries.{ArePassed, HasParameters}
@@ -68,7 +67,7 @@ use Rattle.select_runs.proofs.Costs.{arguments_few, begins_few}
 use Rattle.select_runs.proofs.Entries.{parameters_come_law}
 use Rattle.select_runs.proofs.Epilogue.{kept_range}
 use Rattle.select_runs.proofs.Passing.{numbers, value_small, arguments_pass_law}
-use Rattle.select_runs.proofs.Points.{laid, there}
+use Rattle.select_runs.proofs.Points.{laid, there, text_there}
 use Rattle.select_runs.proofs.Prologue.{prologues_run_law}
 use Rattle.select_runs.proofs.Returning.{waits}
 use Rattle.select_runs.specs.Selecting.{selecting}
@@ -424,48 +423,34 @@ calls_run_law s code x stack w p running to fun args rest body at t m point word
 
 -- ---- the first entry
 
-module _ (s : Setting) (code : List Instr) (x : IsText s code) (stack : StackIsThere s) (fun at : ℕ)
-    (body : List TacInstr) (t : State Store) (m : Machine) (fits : Fits s None t m)
-    (counter : m.pc ≡ counter_at (ground_of s code) at) (words64 : HasWords m)
-    (b : Begins s code fun 0 body (IsLive s (first_of fun body))) (z : ℤ)
-    (has : slice_get code at ≡ Some (Cjal 1 z)) (leads : LeadsTo s code at b.entry z)
-    (stub : s.stub ≡ place (ground_of s code) (at + 1)) where
-  abbrev first_ground : Ground
-  first_ground = ground_of s code
+module _ (s : Setting) (code : List Instr) (x : IsText s code) (stack : StackIsThere s) (fun : ℕ)
+    (body : List TacInstr) (t : State Store) (m : Machine) (words64 : HasWords m)
+    (b : Begins s code fun 0 body (IsLive s (first_of fun body))) (begun : ℕ) (n : Machine) (leads_to : Leads begun m n)
+    (fits : Fits s None t n) (mid : ℕ) (n_there : IsThere (ground_of s code) n mid)
+    (goes : act n ≡ Goes (jumped s code x n mid b.entry)) (stub : s.stub ≡ place (ground_of s code) (mid + 1))
+    (few : begun ≤ 3) where
+  abbrev first_next : Machine
+  first_next = jumped s code x n mid b.entry
 
-  first_text : HasText first_ground m.mem
-  first_text k i q =
-      let within = slice_get_within code k i q in
-      let room = x.room in let even = x.legal.text_aligned in
-      number_at-same_bytes s.loaded.mem m.mem (s.map.text.0 + 4 * k) 4 x.areas fits.objects.areas (omega arith)
-      (omega arith) (λ j lt. fits.text.bytes (s.map.text.0 + 4 * k + j) (omega arith) (omega arith))
-      ∙ x.words k i q
+  first_leads : Leads (begun + 1) m first_next
+  first_leads = join begun 1 m n first_next leads_to (first_next, goes, refl)
 
-  first_there : IsThere first_ground m at
-  first_there = record { counter = counter; registers = fits.registers; text = first_text }
-
-  abbrev m' : Machine
-  m' = jumped s code x m at b.entry
-
-  first_leads : Leads 1 m m'
-  first_leads = (m', links s code x m at b.entry z first_there has leads, refl)
-
-  first_entry : IsEntered s code t.frame s.stub b.entry m'
+  first_entry : IsEntered s code t.frame s.stub b.entry first_next
   first_entry =
       let top_is = fits.calls in let base = x.legal.stack_base in let long = x.legal.stack_length in
       record {
-        there = jumped_there s code x m at b.entry first_there;
+        there = jumped_there s code x n mid b.entry n_there;
         areas = fits.objects.areas;
         places = fits.places;
-        stack = others_there s code x m at b.entry 2 (λ q. absurd (omega (arith, q))) ∙ fits.stack.stack;
-        link_is = link_there s code x m at b.entry fits.registers ∙ ap (return_sentry s) (sym stub);
-        words = words64 1 m' first_leads;
+        stack = others_there s code x n mid b.entry 2 (λ q. absurd (omega (arith, q))) ∙ fits.stack.stack;
+        link_is = link_there s code x n mid b.entry fits.registers ∙ ap (return_sentry s) (sym stub);
+        words = words64 (begun + 1) first_next first_leads;
         from = omega (arith, top_is);
         to = omega (arith, top_is);
         aligned = omega (arith, top_is, base, long);
       }
 
-  none_passed : ArePassed s t.frame 0 (λ k. register m 0) m'
+  none_passed : ArePassed s t.frame 0 (λ k. register n 0) first_next
   none_passed = record {
     room = λ some. absurd (omega (arith, some));
     registers = λ k l few. absurd (omega (arith, l));
@@ -474,11 +459,11 @@ module _ (s : Setting) (code : List Instr) (x : IsText s code) (stack : StackIsT
   }
 
   module _ (place' : ℕ) (room : frame_within s.map.stack.0 t.frame (Some b.frame) ≡ Some place') where
-    first_has : HasParameters s code fun 0 (λ k. register m 0) b.frame t.frame s.stub
-        (b.entry + length (begin_words s fun b.frame b.words)) place' (length (begin_words s fun b.frame b.words)) m'
+    first_has : HasParameters s code fun 0 (λ k. register n 0) b.frame t.frame s.stub
+        (b.entry + length (begin_words s fun b.frame b.words)) place' (length (begin_words s fun b.frame b.words))
+        first_next
     first_has = parameters_come_law s code x stack fun b.frame b.is_frame.is b.is_frame.for_homes t.frame s.stub b.entry
-        m'
-        first_entry 0 (λ k. register m 0) b.parameters none_passed b.words b.parameter_words b.has place' room
+        first_next first_entry 0 (λ k. register n 0) b.parameters none_passed b.words b.parameter_words b.has place' room
 
     first_homes : HomesFit (functions_of s) (addresses_of s.map) t.mem.memory.shapes first_has.after.mem
         (registers_in first_has.after) (homes_of s fun) (s.numbers fun)
@@ -497,14 +482,14 @@ module _ (s : Setting) (code : List Instr) (x : IsText s code) (stack : StackIsT
         let r = first_has in let most = r.few in
         let begin_few = begins_few s fun (homes_of s fun) b.frame 0 b.words b.parameter_words in
         record {
-          count = 1 + r.acts;
+          count = begun + 1 + r.acts;
           to = r.after;
           ge = omega arith;
-          le = omega arith;
-          leads = join 1 r.acts m m' r.after first_leads r.leads;
+          le = omega (arith, most, few, begin_few);
+          leads = join (begun + 1) r.acts m first_next r.after first_leads r.leads;
           point = record {
-            fits = first_enters_fit_law s x.legal t m fits fun b.lengths b.frame b.is_frame place' room r.after
-                (entered_before s code x fun place' t.frame s.stub b.frame m at b.entry r.after r.entered) body
+            fits = first_enters_fit_law s x.legal t n fits fun b.lengths b.frame b.is_frame place' room r.after
+                (entered_before s code x fun place' t.frame s.stub b.frame n mid b.entry r.after r.entered) body
                 (entry_temps b.kinds []) first_homes;
             counter = r.there.counter;
           };
@@ -513,22 +498,22 @@ module _ (s : Setting) (code : List Instr) (x : IsText s code) (stack : StackIsT
   first_sinks : frame_within s.map.stack.0 t.frame (Some b.frame) ≡ None
       → SinksWithin s code (prologue_cost 0) b.entry b.frame m
   first_sinks none =
-      let k = subst (FrameIsTaken s code fun b.frame t.frame s.stub b.entry m') none
-      (prologues_run_law s code x stack fun b.frame b.is_frame.is b.is_frame.for_homes t.frame s.stub b.entry m'
+      let k = subst (FrameIsTaken s code fun b.frame t.frame s.stub b.entry first_next) none
+      (prologues_run_law s code x stack fun b.frame b.is_frame.is b.is_frame.for_homes t.frame s.stub b.entry first_next
       first_entry
       (has_front code b.entry (prologue_code (homes_of s fun) b.frame) b.words b.has)) in
-      let few = store_first (homes_of s fun) b.frame b.words in
+      let store = store_first (homes_of s fun) b.frame b.words in
       let begin_few = begins_few s fun (homes_of s fun) b.frame 0 b.words b.parameter_words in
       record {
-        count = 1 + length (before_store b.frame);
-        few = omega (arith, few, begin_few);
+        count = begun + 1 + length (before_store b.frame);
+        few = omega (arith, store, few, begin_few);
         sinks = k.sinks;
-        leads = join 1 (length (before_store b.frame)) m m' k.sinks first_leads k.leads;
+        leads = join (begun + 1) (length (before_store b.frame)) m first_next k.sinks first_leads k.leads;
         cause = k.cause;
         ends = k.ends;
       }
 
-  first_whole : (o : Option ℕ) → frame_within s.map.stack.0 t.frame (Some b.frame) ≡ o
+  pub first_whole : (o : Option ℕ) → frame_within s.map.stack.0 t.frame (Some b.frame) ≡ o
       → EntersWithin s code (prologue_cost 0) b.entry
       (b.entry + length (begin_words s fun b.frame b.words)) b.frame (first_of fun body)
       (λ place'. entered s fun place' b.lengths (entry_temps b.kinds []) t) m o
@@ -537,5 +522,11 @@ module _ (s : Setting) (code : List Instr) (x : IsText s code) (stack : StackIsT
 
 pub first_is_entered_law : FirstIsEntered
 first_is_entered_law s code x stack fun at body t m fits counter words64 b z has leads stub =
-    first_whole s code x stack fun at body t m fits counter words64 b z has leads stub
+    let there : IsThere (ground_of s code) m at = record {
+      counter = counter;
+      registers = fits.registers;
+      text = text_there s code x None t m fits;
+    } in
+    first_whole s code x stack fun body t m words64 b 0 m refl fits at there
+    (links s code x m at b.entry z there has leads) stub (omega arith)
     (frame_within s.map.stack.0 t.frame (Some b.frame)) refl

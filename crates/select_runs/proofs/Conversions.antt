@@ -321,11 +321,11 @@ address_costs signed int.U32 = omega arith
 
 -- ---- costs
 
-copy_costs : (b : Bool) → 6 ≤ (if b then 6 else 8)
+copy_costs : (b : Bool) → 6 ≤ (if b then 11 else 8)
 copy_costs true = omega arith
 copy_costs false = omega arith
 
-narrow_costs : (b : Bool) → 8 ≤ (if b && false then 6 else 8)
+narrow_costs : (b : Bool) → 8 ≤ (if b && false then 11 else 8)
 narrow_costs true = omega arith
 narrow_costs false = omega arith
 

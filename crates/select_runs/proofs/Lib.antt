@@ -3,6 +3,7 @@ pub mod Numbers
 pub mod Reduced
 pub mod Points
 pub mod Far
+pub mod Table
 pub mod Operands
 pub mod Results
 pub mod Kinded
@@ -36,4 +37,6 @@ pub mod Entries
 pub mod Passing
 pub mod Costs
 pub mod Calling
+pub mod Sentries
 pub mod Through
+pub mod FarCalls

@@ -50,7 +50,7 @@ locals_many p (v ∷ vs) = by v.simple refl (locals_many p vs)
     by true e r = rw e r
     by false e r = rw e (ap suc r)
 
-framed : (ns : List FunctionNeed) (fs : List Frame) (k : ℕ) (f : Frame) → AreFrames ns fs → slice_get fs k ≡ Some f
+pub framed : (ns : List FunctionNeed) (fs : List Frame) (k : ℕ) (f : Frame) → AreFrames ns fs → slice_get fs k ≡ Some f
     → (n : FunctionNeed) × (slice_get ns k ≡ Some n) × IsFrame n f
 framed [] [] k f a h = cc
 framed [] (g ∷ fs) k f a h = absurd a

@@ -1,6 +1,6 @@
 -- Pointers to objects and functions: what they are in the meaning, the machine makes of the stack's capability or
 -- reads from the table.
-use Rattle.std.proofs.Common.{◌≡◌, ℕ, zero, suc, ◌+◌, ◌-◌, ◌*◌, ◌%◌, ◌^◌, ◌<◌, ◌≤◌, ℤ, pos, Bool, true, false, List, []}
+use Rattle.std.proofs.Common.{◌≡◌, ℕ, zero, suc, ◌+◌, ◌-◌, ◌*◌, ◌%◌, ◌^◌, ◌<◌, ◌≤◌, Bool, true, false, List, []}
 use Rattle.std.proofs.Common.{◌∷◌, ◌++◌, length, Option, Some, None, refl, sym, ap, ◌∙◌, subst, arith, inl}
 use Rattle.std.proofs.Common.{if◌then◌else◌}
 use Rattle.std.specs.Prelude.{slice_get, slice_set, nat_lt, get_or}
@@ -15,13 +15,12 @@ use Rattle.cap_ops.specs.declared.capability.TheConstants.{EXECUTE}
 use Rattle.cap_ops.specs.Capability.{narrowed_exactly, moved, lacks, null_at}
 use Rattle.cap_ops.specs.Permissions.{data_permissions, const_permissions}
 use Rattle.cap_ops.proofs.Laws.{bounded_moved}
-use Rattle.rv_instr.specs.Range.{InRange}
 use Rattle.rv_instr.specs.declared.instr.Instr.{Instr}
-use Rattle.rv_instr.specs.declared.instr.Instr.TheVariants.{Clc, CapReg}
+use Rattle.rv_instr.specs.declared.instr.Instr.TheVariants.{CapReg}
 use Rattle.rv_instr.specs.declared.ops.CapRegOp.TheVariants.{Csetboundsexact}
 use Rattle.cap_machine.specs.declared.machine.Machine.{Machine}
-use Rattle.cap_machine.specs.State.{register, integer}
-use Rattle.cap_machine.specs.Rows.{row, cap_reg_row, clc_row, plus, set}
+use Rattle.cap_machine.specs.State.{integer}
+use Rattle.cap_machine.specs.Rows.{row, cap_reg_row, set}
 use Rattle.c_tree.specs.declared.typed.FunDef.{FunDef}
 use Rattle.c_tree.specs.declared.typed.GlobalDef.{GlobalDef}
 use Rattle.c_tree.specs.declared.typed.Literal.{Literal}
@@ -40,7 +39,7 @@ use Rattle.cheri_c_sem.specs.Modes as modes
 use Rattle.cheri_c_sem.specs.Modes.{operations, local_offset, slot_offset}
 use Rattle.cheri_c_sem.specs.Programs.{lengths_of}
 use Rattle.cheri_c_sem.specs.Steps.{State}
-use Rattle.purecap_abi.specs.Words.{low, near_code, moved_code}
+use Rattle.purecap_abi.specs.Words.{load_code, moved_code}
 use Rattle.tac_ir.specs.Effects.{kind_at}
 use Rattle.tac_ir.specs.Meaning.{Running}
 use Rattle.tac_ir.specs.Temps.{falls, writes}
@@ -51,24 +50,24 @@ use Rattle.place_inject.specs.Values.{IsKnown}
 use Rattle.place_inject.specs.Steps.{is_integer}
 use Rattle.place_inject.specs.Frames.{Setting, Point, IsAt, functions_of, stack_top, stack_pointer}
 use Rattle.place_inject.specs.Spills.{StackIsThere}
-use Rattle.place_inject.specs.Tables.{TableIsThere, EntriesAreRead, table_top, table_pointer}
+use Rattle.place_inject.specs.Tables.{TableIsThere}
 use Rattle.place_inject.specs.Whole.{WholeFits}
-use Rattle.place_inject.proofs.Reaching.{kept_bounds, stack_encodable, table_reaches_law}
-use Rattle.place_inject.proofs.Tables.{object_stands, table_reads_back_law}
+use Rattle.place_inject.proofs.Reaching.{kept_bounds, stack_encodable}
+use Rattle.place_inject.proofs.Tables.{object_stands}
 use Rattle.place_inject.proofs.Wholes.{whole_pointers_fit_law}
 use Rattle.select_words.specs.Standing.{HasAt}
 use Rattle.select_words.specs.Capabilities.{Local, LocalWords, Entry, EntryWords}
-use Rattle.select_runs.specs.Acts.{IsThere, Holds}
 use Rattle.select_runs.specs.Instructions.{IsAskedBy, PointersRun}
 use Rattle.select_runs.specs.Kinds.{AreOfKinds}
 use Rattle.select_runs.specs.Operands.{ground_of, IsText, IsAtPoint}
 use Rattle.select_runs.specs.Results.{Computed, Arrives, before, behind, kinds_in, code_in, IsConstant, IsSelectable}
 use Rattle.select_runs.proofs.Acts.{has_front, has_back, one_set}
-use Rattle.select_runs.proofs.Far.{Reach, far, far_low, near_low, near, moves}
+use Rattle.select_runs.proofs.Far.{moves}
 use Rattle.select_runs.proofs.Kinded.{kinded_set, has_kind}
 use Rattle.select_runs.proofs.Locals.{some_at, LocalLies, local_lies, local_reach, base_keeps}
 use Rattle.select_runs.proofs.Numbers.{null_address, numbers_are_made_law}
 use Rattle.select_runs.proofs.Points.{laid, there}
+use Rattle.select_runs.proofs.Table.{Reads, entry_few, entry_holds}
 use Rattle.select_runs.proofs.Pointing.{pointer_kind, same_capability}
 use Rattle.select_runs.proofs.Working.{stretch, computed_there, and_then, and_scratch, of_none}
 use Rattle.select_runs.specs.Selecting.{selecting}
@@ -135,12 +134,6 @@ whole_fits s code x p at t m point object need base perms small lack is =
 
 -- ---- an entry of the table
 
-two : (k : ℕ) → k + 1 + 1 ≡ k + 2
-two k = omega arith
-
-three_on : (k : ℕ) → k + 2 + 1 ≡ k + 3
-three_on k = omega arith
-
 module _ (s : Setting) (code : List Instr) (x : IsText s code) (stack : StackIsThere s) (loaded : TableIsThere s)
     (p : Typed)
     (running : Running) (i : TacInstr) (rest : List TacInstr) (to : ℕ) (falls_on : falls i ≡ true)
@@ -154,96 +147,23 @@ module _ (s : Setting) (code : List Instr) (x : IsText s code) (stack : StackIsT
   abbrev start : ℕ
   start = s.map.table.0
 
-  -- the value is read at its entry
-  abbrev Reads : (offset : ℕ) → Value → Type 0
-  Reads offset v = (u : Machine) (r from : ℕ) (z : ℤ) (place : ℕ) → EntriesAreRead s t u r from z place
-      → place ≡ start + offset
-      → clc_row u r from z ≡ set u r (bits v)
+  abbrev Reads_it : (offset : ℕ) → Value → Type 0
+  Reads_it = Reads s code x loaded (Some (before running i rest)) t m point.fits
 
-  module _ (offset : ℕ) (v : Value) (small : offset < 2 ^ 31 - 2048) (inside : offset < s.map.table.1)
-      (reads : Reads offset v)
-      (n : Machine) (mid : ℕ) (here : IsAtPoint s code (before running i rest) mid t n) where
-    table_keeps : (y : ℕ) → start ≤ y → y < table_top s + 4096 → keeps start (table_top s) y ≡ true
-    table_keeps y from below = table_reaches_law s x.legal y from below
-
-    reach : Reach start (table_top s) start offset
-    reach =
-        let end = x.legal.in_range.2.1 in
-        record {
-          small = small;
-          below = omega arith;
-          here = table_keeps start (omega arith) (omega arith);
-          near = table_keeps (start + far offset) (omega arith) (omega arith);
-        }
-
-    three : register n 3 ≡ table_pointer s start
-    three = here.fits.stack.table ∙ loaded.table
-
-    -- the word that reads it
-    read_word : (u : Machine) (place r from y : ℕ) (z : ℤ) → IsThere (ground_of s code) u place → u.mem ≡ n.mem
-        → slice_get code place ≡ Some (Clc r from z) → register u from ≡ table_pointer s y → keeps start
-        (table_top s) y ≡ true
-        → plus y z ≡ start + offset → (4 < r) × (r < 29) → Holds (ground_of s code) u 1 (place + 1) r r (bits v)
-    unfolding row
-    read_word u place r from y z h same has holds keep sum range =
-        let above = range.0 in let below = range.1 in
-        one_set (ground_of s code) (laid s code x) u place h (Clc r from z) r (bits v) has refl (omega arith)
-        (omega arith)
-        (reads u r from z (plus y z)
-        (table_reads_back_law s x.legal loaded (Some (before running i rest)) t n here.fits u same r from y z holds
-        keep) sum)
-
-    entry_does : (r : ℕ) (words : List Instr) → Entry offset r words → (4 < r) × (r < 29) → HasAt code mid words
-        → Computed s code n (length words) (mid + length words) r r (bits v)
-    unfolding InRange
-    entry_does r words e range has = by (nat_lt offset 2048) words e has
-      where
-        end : s.map.table.0 + s.map.table.1 ≤ 2 ^ 40
-        end = x.legal.in_range.2.1
-
-        by : (b : Bool) (ws : List Instr)
-            → ws ≡ (if b then Clc r 3 (pos offset) ∷ [] else near_code r 3 offset ++ Clc r r (low offset) ∷ [])
-            → HasAt code mid ws → Computed s code n (length ws) (mid + length ws) r r (bits v)
-        by true ws e' q =
-            let h = subst (HasAt code mid) e' q in
-            let k = read_word n mid r 3 start (pos offset) (there s code x
-            (before running i rest) mid t n here) refl h.0 three reach.here
-            (near_low start offset (omega (arith, end, inside))) range in
-            subst (λ y. Computed s code n (length y) (mid + length y) r r (bits v)) (sym e')
-            (stretch s code x (before running i rest) t n mid r 1 r r (bits v) (inl refl) k)
-        by false ws e' q =
-            let h = subst (HasAt code mid) e' q in
-            let above = range.0 in
-            let below = range.1 in
-            let a = near (ground_of s code) (laid s code x) start (table_top s) start offset 3 r reach (λ z. absurd
-            (omega (arith, z, above)))
-            (omega arith) (omega arith) n mid (there s code x (before running i rest) mid t n here) three h.0 h.1.0 in
-            let first = stretch s code x (before running i rest) t n mid r 2 r r (table_pointer s
-            (start + far offset)) (inl refl)
-            (subst (λ k. Holds (ground_of s code) n 2 k r r (table_pointer s (start + far offset))) (two mid) a) in
-            let word_range = x.in_range (mid + 1 + 1) (Clc r r (low offset)) h.1.1.0 in
-            let k = read_word first.to (mid + 2) r r (start + far offset) (low offset)
-            (computed_there s code x (before running i rest) t n mid 2 (mid + 2) r r (table_pointer s
-            (start + far offset)) here first)
-            first.memory (subst (λ k. slice_get code k ≡ Some (Clc r r (low offset)))
-            (two mid) h.1.1.0) first.holds reach.near
-            (far_low start offset (omega (arith, end, inside)) word_range.2) range in
-            subst (λ y. Computed s code n (length y) (mid + length y) r r (bits v)) (sym e')
-            (subst (λ y. Computed s code n 3 y r r (bits v)) (three_on mid)
-            (and_then s code x (before running i rest) t n 2 (mid + 2) r r 1 r r (table_pointer s
-            (start + far offset)) (bits v) first
-            (inl refl) k))
-
-  entry_few : (offset r : ℕ) (words : List Instr) → Entry offset r words → length words ≤ 3
-  entry_few offset r words e = subst (λ y. length y ≤ 3) (sym e) (by (nat_lt offset 2048))
-    where
-      by : (b : Bool) → length (if b then Clc r 3 (pos offset) ∷ [] else near_code r 3 offset ++ Clc r r
-          (low offset) ∷ []) ≤ 3
-      by true = omega arith
-      by false = omega arith
+  entry_does : (offset : ℕ) (v : Value) → offset < 2 ^ 31 - 2048 → offset < s.map.table.1 → Reads_it offset v
+      → (r : ℕ) (words : List Instr) → Entry offset r words → (4 < r) × (r < 29) → HasAt code at words
+      → Computed s code m (length words) (at + length words) r r (bits v)
+  entry_does offset v small inside reads r words e range has =
+      let above = range.0 in let below = range.1 in
+      let here = before running i rest in
+      subst (λ y. Computed s code m (length y) (at + length y) r r (bits v)) (sym e)
+      (stretch s code x here t m at r (length (load_code r 3 offset r)) r r (bits v) (inl refl)
+      (entry_holds s code x loaded (Some here) t m point.fits offset v small inside reads r (omega arith) (omega arith)
+      m at (there s code x here at t m point) refl (point.fits.stack.table ∙ loaded.table)
+      (subst (HasAt code at) e has)))
 
   entry_comes : (entry : ℕ) (v : Value) → IsKnown t.mem.memory.shapes (functions_of s) v → 16 * entry < s.map.table.1
-      → Reads (16 * entry) v → (words : List Instr) → EntryWords (selecting s running.fun) to entry words →
+      → Reads_it (16 * entry) v → (words : List Instr) → EntryWords (selecting s running.fun) to entry words →
       HasAt code at words
       → Arrives s code (behind running rest) 0 6 (at + length words) (record t {
         vars = slice_set t.vars to
@@ -252,8 +172,8 @@ module _ (s : Setting) (code : List Instr) (x : IsText s code) (stack : StackIsT
   entry_comes entry v known inside reads words form has =
       of_none s code x stack p running i rest to falls_on wrote no_constant sel t m at point v known (Entry
       (16 * entry))
-      (λ r us e range hs. entry_does (16 * entry) v form.0 inside reads m at point r us e range hs) 3
-      (λ r us e. entry_few (16 * entry) r us e) words form.1 has
+      (λ r us e range hs. entry_does (16 * entry) v form.0 inside reads r us e range hs) 3
+      (λ r us e. subst (λ y. length y ≤ 3) (sym e) (entry_few (16 * entry) r)) words form.1 has
 
 -- ---- a local
 

@@ -1,5 +1,5 @@
 -- Code that was loaded as the text stands there at each point of the run.
-use Rattle.std.proofs.Common.{◌≡◌, ℕ, ◌+◌, ◌*◌, ◌≤◌, false, List, Some, ap, ◌∙◌, arith}
+use Rattle.std.proofs.Common.{◌≡◌, ℕ, ◌+◌, ◌*◌, ◌≤◌, false, List, Option, Some, ap, ◌∙◌, arith}
 use Rattle.std.specs.Prelude.{slice_get}
 use Rattle.std.proofs.lemmas.Option.{slice_get_within}
 use Rattle.ck_base.specs.Runs.{Ends}
@@ -31,7 +31,7 @@ module _ (s : Setting) (code : List Instr) (x : IsText s code) where
         in_range = x.in_range;
       }
 
-  pub text_there : (p : Point) (t : State Store) (m : Machine) → Fits s (Some p) t m → HasText (ground_of s code) m.mem
+  pub text_there : (p : Option Point) (t : State Store) (m : Machine) → Fits s p t m → HasText (ground_of s code) m.mem
   text_there p t m f k i has =
       let within = slice_get_within code k i has in
       let room = x.room in
@@ -46,7 +46,7 @@ module _ (s : Setting) (code : List Instr) (x : IsText s code) where
   there p at t m h = record {
     counter = h.counter;
     registers = h.fits.registers;
-    text = text_there p t m h.fits;
+    text = text_there (Some p) t m h.fits;
   }
 
   -- a stretch that changed a scratch register alone keeps the point

@@ -1,5 +1,5 @@
 -- What a register holds after an operation on integers, and reduced to a kind, in words of the arithmetic of kinds.
-use Rattle.std.proofs.Common.{◌≡◌, ℕ, ◌+◌, ◌-◌, ◌*◌, ◌/◌, ◌%◌, ◌^◌, ◌<◌, ◌≤◌, ◌⊎◌, ℤ, pos, negsuc, Bool}
+use Rattle.std.proofs.Common.{◌≡◌, ℕ, ◌+◌, ◌-◌, ◌*◌, ◌/◌, ◌%◌, ◌^◌, ◌<◌, ◌≤◌, ℤ, pos, negsuc, Bool}
 use Rattle.std.proofs.Common.{true, false, not, refl, sym, ap, ◌∙◌, arith, ⊎_elim, if◌then◌else◌}
 use Rattle.std.specs.Prelude.{◌==◌}
 use Rattle.std.specs.Int.{int_div_euclid}
@@ -10,7 +10,6 @@ use Rattle.ck_int.specs.declared.kinds.IntKind.{IntKind}
 use Rattle.ck_int.specs.declared.kinds.IntKind.TheVariants as kind
 use Rattle.ck_int.specs.declared.kinds.IntOp.{IntOp}
 use Rattle.ck_int.specs.declared.kinds.IntOp.TheVariants as op
-use Rattle.ck_int.specs.declared.kinds.CmpOp.TheVariants as test
 use Rattle.ck_int.specs.Arithmetic.{binary_of, compare_of, promoted_width_of}
 use Rattle.ck_int.specs.Arithmetic as arithmetic
 use Rattle.ck_int.specs.Kinds.{form_of, width_of, modulo, twos_complement, IsKept, reduced, kept_of, wrapped}

@@ -95,7 +95,7 @@ module _ (s : Setting) (code : List Instr) (x : IsText s code) (stack : StackIsT
   there_now = record {
     counter = h.counter;
     registers = h.registers;
-    text = subst (Rattle.select_runs.specs.Acts.HasText g) (sym h.memory) (text_there s code x p t m point.fits);
+    text = subst (Rattle.select_runs.specs.Acts.HasText g) (sym h.memory) (text_there s code x (Some p) t m point.fits);
   }
 
   -- the same home

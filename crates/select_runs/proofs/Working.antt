@@ -135,7 +135,7 @@ module _ (s : Setting) (code : List Instr) (x : IsText s code) (p : Point) (t : 
   computed_there n at count mid changed r c point h = record {
     counter = h.counter;
     registers = h.registers;
-    text = subst (HasText g) (sym h.memory) (text_there s code x p t n point.fits);
+    text = subst (HasText g) (sym h.memory) (text_there s code x (Some p) t n point.fits);
   }
 
   unchanged : (changed also y : ℕ) → y < 28 → (y ≡ changed → ⊥) → ((also ≡ changed) ⊎ (28 ≤ also)) → y ≡ also → ⊥

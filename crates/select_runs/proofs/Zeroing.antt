@@ -110,7 +110,7 @@ module _ (s : Setting) (code : List Instr) (x : IsText s code) (stack : StackIsT
       (λ b lt. z.same.bytes (s.map.text.0 + 4 * k + b)
       (λ from. let q = off_text (s.map.text.0 + 4 * k + b) x.legal.apart.0.1.1.0 (omega arith) (omega arith) from in
       omega arith))
-      ∙ text_there s code x p t m fits k i has
+      ∙ text_there s code x (Some p) t m fits k i has
 
   here : (u : Machine) (mid j : ℕ) → j ≤ parts → Zeroing u j → u.pc ≡ counter_at g mid → IsThere g u mid
   here u mid j few h counter = record {

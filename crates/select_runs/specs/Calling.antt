@@ -1,11 +1,11 @@
 -- Calls: the arguments are passed, the machine jumps, and the function is entered; or the stack has no room for it.
-use Rattle.std.specs.Prelude.{◌≡◌, ℕ, ◌+◌, ◌^◌, ◌<◌, ◌≤◌, ℤ, List, [], ◌∷◌, ◌++◌, length, map, Option, Some, None}
+use Rattle.std.specs.Prelude.{◌≡◌, ℕ, ◌+◌, ◌^◌, ◌<◌, ◌≤◌, ℤ, pos, List, [], ◌∷◌, ◌++◌, length, map, Option, Some, None}
 use Rattle.std.specs.Prelude.{slice_get}
 use Rattle.ck_base.specs.Runs.{Ends}
 use Rattle.ck_base.specs.World.{World}
 use Rattle.cap_ops.specs.declared.access.Cause.{Cause}
 use Rattle.rv_instr.specs.declared.instr.Instr.{Instr}
-use Rattle.rv_instr.specs.declared.instr.Instr.TheVariants.{Cjal}
+use Rattle.rv_instr.specs.declared.instr.Instr.TheVariants.{Cjal, Cjalr}
 use Rattle.cap_machine.specs.declared.end.End.TheVariants.{Trap}
 use Rattle.cap_machine.specs.declared.machine.Machine.{Machine}
 use Rattle.cap_machine.specs.State.{register}
@@ -14,6 +14,7 @@ use Rattle.c_tree.specs.declared.typed.Typed.{Typed}
 use Rattle.cheri_c_sem.specs.Modes.{Store, operations, placed_plan, frame_within}
 use Rattle.cheri_c_sem.specs.Steps.{State, Fate}
 use Rattle.obj_mem.specs.declared.map.Frame.{Frame}
+use Rattle.obj_mem.specs.Table.{addresses_of, function_entry}
 use Rattle.obj_mem.specs.Values.{Value}
 use Rattle.purecap_abi.specs.Ends.{before_store, prologue_code}
 use Rattle.purecap_abi.specs.Saving.{registers_at}
@@ -28,9 +29,10 @@ use Rattle.place_inject.specs.Fits.{Fits}
 use Rattle.place_inject.specs.Entering.{IsFrameOf, caller_of, entry_of, first_of, entered}
 use Rattle.place_inject.specs.Homes.{CallersKeep}
 use Rattle.place_inject.specs.Spills.{StackIsThere}
+use Rattle.place_inject.specs.Tables.{TableIsThere}
 use Rattle.select_words.specs.Standing.{HasAt}
 use Rattle.select_words.specs.Entries.{stack_place, ParameterWords}
-use Rattle.select_words.specs.Calling.{CallWords}
+use Rattle.select_words.specs.Calling.{CallWords, FarCallWords, FindsEntry}
 use Rattle.select_runs.specs.Acts.{Leads, counter_at, place}
 use Rattle.select_runs.specs.Entries.{AreParameters}
 use Rattle.select_runs.specs.Jumps.{LeadsTo}
@@ -120,6 +122,19 @@ CallsRun = (s : Setting) (code : List Instr) → IsText s code → StackIsThere 
     → CallsInto s code w p running (instr.Call to fun args) to fun args rest body
     (cost (instr.Call to fun args) + prologue_cost (length args)) t m b
 
+-- the callee's sentry, which the table has, leads to its first word
+abbrev pub FarCallsRun : Type 0
+FarCallsRun = (s : Setting) (code : List Instr) → IsText s code → StackIsThere s → TableIsThere s → (w : World)
+    (p : Typed) (running : Running) (to : Option ℕ) (fun : ℕ) (args : List ℕ) (rest body : List TacInstr) (at : ℕ)
+    (t : State Store) (m : Machine) → IsAtPoint s code (before running (instr.Call to fun args) rest) at t m
+    → HasWords m → (b : Begins s code fun (length args) body
+    (IsLive s (entry_of fun (caller_of running rest to t) running.callers body)))
+    → (words : List Instr) → FarCallWords (selecting s running.fun) fun args words → HasAt code at words
+    → (addresses_of s.map).entry fun ≡ place (ground_of s code) b.entry
+    → MayCall s code running to args rest (at + length words) t
+    → CallsInto s code w p running (instr.Call to fun args) to fun args rest body
+    (cost (instr.Call to fun args) + prologue_cost (length args)) t m b
+
 -- ---- the first function
 
 -- It has no parameters, and is called by the first word of the text
@@ -129,6 +144,20 @@ FirstIsEntered = (s : Setting) (code : List Instr) → IsText s code → StackIs
     → HasWords m → (b : Begins s code fun 0 body (IsLive s (first_of fun body)))
     → (z : ℤ) → slice_get code at ≡ Some (Cjal 1 z) → LeadsTo s code at b.entry z
     → s.stub ≡ place (ground_of s code) (at + 1)
+    → EntersWithin s code (prologue_cost 0) b.entry
+    (b.entry + length (begin_words s fun b.frame b.words)) b.frame (first_of fun body)
+    (λ place. entered s fun place b.lengths (entry_temps b.kinds []) t) m
+    (frame_within s.map.stack.0 t.frame (Some b.frame))
+
+-- or by the word behind those that bring its sentry from the table
+abbrev pub FarFirstIsEntered : Type 0
+FarFirstIsEntered = (s : Setting) (code : List Instr) → IsText s code → StackIsThere s → TableIsThere s → (fun at : ℕ)
+    (body : List TacInstr) (t : State Store) (m : Machine) → Fits s None t m → m.pc ≡ counter_at (ground_of s code) at
+    → HasWords m → (b : Begins s code fun 0 body (IsLive s (first_of fun body)))
+    → (finds : List Instr) → FindsEntry (function_entry s.needs fun) finds
+    → HasAt code at (finds ++ Cjalr 1 31 (pos 0) ∷ [])
+    → (addresses_of s.map).entry fun ≡ place (ground_of s code) b.entry
+    → s.stub ≡ place (ground_of s code) (at + length finds + 1)
     → EntersWithin s code (prologue_cost 0) b.entry
     (b.entry + length (begin_words s fun b.frame b.words)) b.frame (first_of fun body)
     (λ place. entered s fun place b.lengths (entry_temps b.kinds []) t) m

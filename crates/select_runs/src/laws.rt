@@ -153,16 +153,26 @@ pub fn arguments_pass()
     ensures { ArgumentsPass }
 {}
 
-ghost use Rattle.select_runs.specs.Calling.{CallsRun, FirstIsEntered};
+ghost use Rattle.select_runs.specs.Calling.{CallsRun, FarCallsRun, FarFirstIsEntered, FirstIsEntered};
 
 /// Calls of a function: its arguments are passed, and it is entered, or traps where the stack has no room for it.
 pub fn calls_run()
     ensures { CallsRun }
 {}
 
+/// Calls by the sentry that the table has of a function.
+pub fn far_calls_run()
+    ensures { FarCallsRun }
+{}
+
 /// The first function is entered.
 pub fn first_is_entered()
     ensures { FirstIsEntered }
+{}
+
+/// The first function is entered by the sentry that the table has of it.
+pub fn far_first_is_entered()
+    ensures { FarFirstIsEntered }
 {}
 
 ghost use Rattle.select_runs.specs.Through.{CallsThroughValuesRun};

@@ -47,7 +47,7 @@ use Rattle.select_words.specs.Words as words
 use Rattle.select_words.specs.Words.{IsConst, ConstantWords, IsCopy, IsPassed, NoWords}
 use Rattle.select_words.specs.Heap.{allocating}
 use Rattle.select_runs.specs.Acts.{place}
-use Rattle.select_runs.specs.Calling.{begin_words, values, EntersWithin}
+use Rattle.select_runs.specs.Calling.{begin_words, values, CallsInto, EntersWithin}
 use Rattle.select_runs.specs.Operands.{ground_of, IsAtPoint}
 use Rattle.select_runs.specs.Returning.{value_of}
 use Rattle.select_runs.specs.Jumps.{Branches}
@@ -69,6 +69,7 @@ use Rattle.select_runs.proofs.Copying.{struct_copies_run_law}
 use Rattle.select_runs.proofs.Jumps.{jumps_run_law, branches_run_law}
 use Rattle.select_runs.proofs.Services.{puts_run_law, takes_run_law, exits_run_law}
 use Rattle.select_runs.proofs.Calling.{calls_run_law}
+use Rattle.select_runs.proofs.FarCalls.{far_calls_run_law}
 use Rattle.select_runs.proofs.Returning.{returns_run_law, last_returns_run_law}
 use Rattle.select_heap.proofs.Heap.{allocations_run_law}
 use Rattle.select_whole.specs.Visited.{Whole, ops_of, tac_at, kinds_at, locals_of, in_frame_of, called_by, back_in}
@@ -78,7 +79,7 @@ use Rattle.select_whole.specs.Runs.{Accessed, Copied, IsCall, Called, Entered, R
 use Rattle.select_whole.specs.Runs.{ValueCalled, Calls, Traps, Leaves, Jumped, Branched, Put, Taken, Exited}
 use Rattle.select_whole.specs.Runs.{InstructionsRun}
 use Rattle.select_whole.specs.Chosen.{CalleeStands, ValueCallStands, EachStands, BranchStands, Chosen, ChosenCodeRuns}
-use Rattle.select_whole.specs.Chosen.{ChosenCodeMatches}
+use Rattle.select_whole.specs.Chosen.{CallLeads, CallStands, ChosenCodeMatches, Far, Near}
 use Rattle.select_whole.proofs.Kinded.{call_kinded, int_given, return_kinded}
 use Rattle.select_whole.proofs.Matching.{whole_runs_match_law}
 use Rattle.select_whole.proofs.Moves.{has_words}
@@ -394,16 +395,30 @@ module _ (g : Whole) (w : World) (c : Chosen g w) where
   calls : Each g w IsCall (Called g w)
   calls r (instr.Call to fun args) rest t m is h =
       let i = instr.Call to fun args in
-      let x = c.calls to fun args r rest t m h in
+      let x = stands in
       let own = c.selectable r false i rest t m h in
-      let d = calls_run_law g.setting g.code c.text c.stack w g.program r to fun args rest (tac_at g fun)
-      (here g w r (i ∷ rest)) t m h.point (has_words w m t.done h.addresses) x.callee.begins x.offset x.words x.form
-      x.has x.leads x.may in
+      let d = called_by_words x.leads in
       let own_cheap = x.cheap in
       let cheap = x.callee.cheap in
       called_so (cost i + prologue_cost (length args)) to fun args r rest t x.callee i m (omega arith) h d.means
       (call_kinded g.program own.d (kinds_at g r.fun) (tac_at g r.fun) t h.kinded (kinds_at g fun)
       (signature_of_function g.program fun) to args own.fits (c.parameters fun)) x.may.keeps d.does
+    where
+      stands : CallStands g w to fun args r rest t
+      stands = c.calls to fun args r rest t m h
+
+      called_by_words : CallLeads g w fun args r (here g w r (instr.Call to fun args ∷ rest))
+          stands.callee.begins.entry stands.words
+          → CallsInto g.setting g.code w g.program r (instr.Call to fun args) to fun args rest (tac_at g fun)
+          (cost (instr.Call to fun args) + prologue_cost (length args)) t m stands.callee.begins
+      called_by_words (Near offset form leads) =
+          calls_run_law g.setting g.code c.text c.stack w g.program r to fun args rest (tac_at g fun)
+          (here g w r (instr.Call to fun args ∷ rest)) t m h.point (has_words w m t.done h.addresses)
+          stands.callee.begins offset stands.words form stands.has leads stands.may
+      called_by_words (Far form leads) =
+          far_calls_run_law g.setting g.code c.text c.stack c.table w g.program r to fun args rest (tac_at g fun)
+          (here g w r (instr.Call to fun args ∷ rest)) t m h.point (has_words w m t.done h.addresses)
+          stands.callee.begins stands.words form stands.has leads stands.may
   calls r i rest t m is h = absurd is
 
   module _ (to : Option ℕ) (v of : ℕ) (args : List ℕ) (source : Pos) (r : Running) (rest : List TacInstr)

@@ -30,7 +30,7 @@ use Rattle.tracked_runs.specs.Matching.{IsReport}
 use Rattle.select_words.specs.Accesses.{AccessWords, IsAccess, place_of}
 use Rattle.select_words.specs.Selecting.{Selecting}
 use Rattle.select_words.specs.Standing.{HasAt}
-use Rattle.select_words.specs.Calling.{CallWords}
+use Rattle.select_words.specs.Calling.{CallWords, FarCallWords}
 use Rattle.select_words.specs.Capabilities.{IsNarrow, NarrowWords, IsOffset, OffsetWords, IsIntrinsic, CapWords}
 use Rattle.select_words.specs.Capabilities.{IsPointing, PointingWords}
 use Rattle.select_words.specs.Copying.{CopyWords}
@@ -161,16 +161,22 @@ module _ (g : Whole) (w : World) where
         ≡ Some (ending.Stack (name_of (slice_get g.setting.code.funs fun)))
     pub cheap : prologue_cost (length args) < g.setup fun
 
+  -- the words of a call, which leads to a word of the code: it lies so many bytes ahead, or the function's sentry leads
+  -- there
+  pub data CallLeads (fun : ℕ) (args : List ℕ) (r : Running) (at entry : ℕ) (words : List Instr) : Type 0 where
+    Near : (offset : ℤ) (form : CallWords (selecting g.setting r.fun) args offset words)
+        → LeadsTo g.setting g.code (at + length form.passes) entry offset → CallLeads fun args r at entry words
+    Far : FarCallWords (selecting g.setting r.fun) fun args words
+        → (addresses_of g.setting.map).entry fun ≡ place (ground_of g.setting g.code) entry
+        → CallLeads fun args r at entry words
+
   -- the callee's code stands where the call leads, and the caller may call
   pub record CallStands (to : Option ℕ) (fun : ℕ) (args : List ℕ) (r : Running) (rest : List TacInstr)
       (t : State Store) : Type 0 where
     pub callee : CalleeStands to fun args r rest t
-    pub offset : ℤ
     pub words : List Instr
-    pub form : CallWords (selecting g.setting r.fun) args offset words
+    pub leads : CallLeads fun args r (here g w r (instr.Call to fun args ∷ rest)) callee.begins.entry words
     pub has : HasAt g.code (here g w r (instr.Call to fun args ∷ rest)) words
-    pub leads : LeadsTo g.setting g.code (here g w r (instr.Call to fun args ∷ rest) + length form.passes)
-        callee.begins.entry offset
     pub may : MayCall g.setting g.code r to args rest (here g w r (instr.Call to fun args ∷ rest) + length words) t
     pub cheap : cost (instr.Call to fun args) ≤ g.dear r.fun (instr.Call to fun args)
 

@@ -6,15 +6,18 @@ use Rattle.std.specs.Prelude.{◌==◌, if◌then◌else◌, flat_map}
 use Rattle.std.proofs.lemmas.Bool.Decides.{nat_tests}
 use Rattle.std.specs.List.{sum_by}
 use Rattle.std.proofs.lemmas.List.Sums.{sum_by_push, sum_by-append, sum_by-cons}
-use Rattle.tac_ir.specs.Costs.{cost, outgoing, outgoing_by}
+use Rattle.ck_int.specs.declared.kinds.IntKind.{IntKind}
+use Rattle.ck_int.specs.declared.kinds.IntKind.TheVariants as int
+use Rattle.tac_ir.specs.Costs.{cost, conversion_cost, operation_cost, outgoing, outgoing_by}
 use Rattle.c_tree.specs.Views.{times_in}
 use Rattle.tac_ir.specs.Temps.{locals, zeros}
 use Rattle.tac_ir.specs.Within.{copied_parts}
 use Rattle.tac_ir.specs.declared.code.TacInstr.{TacInstr}
 use Rattle.tac_ir.specs.declared.code.TacInstr.TheVariants as instr
 use Rattle.tac_ir.specs.declared.code.TacKind.{TacKind}
+use Rattle.tac_ir.specs.declared.code.TacKind.TheVariants as kind
 use Rattle.tac_emit.specs.declared.emitter.Emitter.{Emitter}
-use Rattle.tac_emit.specs.Emitted.{Made, Pushed, Labelled, Forked, Entered}
+use Rattle.tac_emit.specs.Emitted.{Made, Pushed, Labelled, Forked, Entered, IsWide, is_capability}
 use Rattle.tac_emit.specs.Spent.{places, words, copying, zeroing, lone, Takes, Spent, Enters, no_zeros}
 use Rattle.tac_emit.specs.Lone.{zeroed_by, is_lone, lone_behind}
 
@@ -70,6 +73,18 @@ pushed_spent a b i h other none = record {
         not_lone (last_zero None a.code.items) i other,
       );
 }
+
+-- an operation of 64 bits, and the address of a capability
+pub wide_cost : (k : IntKind) → IsWide (kind.Int k) → operation_cost k ≡ 11
+wide_cost int.I64 w = refl
+wide_cost int.U64 w = refl
+wide_cost k w = absurd w
+
+pub address_cost : (j k : TacKind) → is_capability j ≡ true → IsWide k → conversion_cost j k ≡ 7
+address_cost (kind.Int i) k h w = absurd cc
+address_cost (kind.Cap s) (kind.Int int.I64) h w = refl
+address_cost (kind.Cap s) (kind.Int int.U64) h w = refl
+address_cost (kind.Cap s) k h w = absurd w
 
 -- an object becomes zero, and the pointer to it is made
 pub entered_spent : {a b : Emitter} {to v : ℕ} → Entered a b to v → Enters a b 0 19 0 (λ w. if v == w then 1 else 0)

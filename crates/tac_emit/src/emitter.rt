@@ -15,7 +15,7 @@ ghost use Rattle.tac_ir.specs.Within.{copied_parts};
 ghost use Rattle.c_tree.specs.Counts.{parts};
 ghost use Rattle.tac_emit.specs.Emitted.{HasKind, HasInt, HasCapability, IsTemp, SameKind, AmountFits, CountFits};
 ghost use Rattle.tac_emit.specs.Emitted.{SameCapability, WorkFits, IsOpen, Stands, Grown, Made, Labelled, Forked};
-ghost use Rattle.tac_emit.specs.Emitted.{Turned, Pushed, HasLeft, Adds, HasRoom};
+ghost use Rattle.tac_emit.specs.Emitted.{Turned, Pushed, HasLeft, Adds, HasRoom, IsWide, is_capability};
 ghost use Rattle.tac_emit.specs.Adding.{Emits, none, one};
 ghost use Rattle.lower_runs.specs.Operating.{transfer, give};
 
@@ -229,7 +229,7 @@ impl Emitter {
         ensures grown { IfOk result (λ _. Grown self.old self.new) }
         ensures adds { IfOk result (λ _. Adds self.old self.new 0 0) }
         ensures spent { IfOk result (λ _. Spent self.old self.new 0 13) }
-        ensures wide { kind ≡ int.U64 → IfOk result (λ _. Spent self.old self.new 0 10) }
+        ensures wide { IsWide (kinds.Int kind) → IfOk result (λ _. Spent self.old self.new 0 11) }
         ensures emits { IfOk result (λ _. Emits self.old self.new 0 (one (instr.Int op kind to a b))) }
     {
         self.push(TacInstr::Int { op, kind, to, a, b })
@@ -265,7 +265,8 @@ impl Emitter {
         requires from { HasKind self.old from old }
         ensures grown { IfOk result (λ _. Grown self.old self.new) }
         ensures adds { IfOk result (λ _. Adds self.old self.new 0 0) }
-        ensures spent { IfOk result (λ _. Spent self.old self.new 0 8) }
+        ensures spent { IfOk result (λ _. Spent self.old self.new 0 11) }
+        ensures address { is_capability old ≡ true → IsWide new → IfOk result (λ _. Spent self.old self.new 0 7) }
         ensures emits { IfOk result (λ _. Emits self.old self.new 0 (one (instr.Convert to from old new))) }
     {
         self.push(TacInstr::Convert { to, from, old, new })
@@ -284,7 +285,8 @@ impl Emitter {
         ensures has { IfOk result (λ t. HasKind self.new t new) }
         ensures grown { IfOk result (λ _. Grown self.old self.new) }
         ensures adds { IfOk result (λ _. Adds self.old self.new 1 0) }
-        ensures spent { IfOk result (λ _. Spent self.old self.new 1 8) }
+        ensures spent { IfOk result (λ _. Spent self.old self.new 1 11) }
+        ensures address { is_capability old ≡ true → IsWide new → IfOk result (λ _. Spent self.old self.new 1 7) }
         ensures emits { IfOk result (λ t. Emits self.old self.new 1 (one (instr.Convert t from old new))) }
     {
         let t = self.temp(new)?;

@@ -15,18 +15,23 @@ use Rattle.tac_ir.specs.declared.code.TacInstr.TheVariants as instr
 use Rattle.tac_ir.specs.declared.code.TacKind.{TacKind}
 use Rattle.tac_ir.specs.declared.code.TacKind.TheVariants as kind
 
--- a number into a register: one word where the 12 bits of an immediate hold it, and otherwise up to eight
+-- a number into a register: one word where 12 bits of two's complement hold it, two where 32 do, and two more for each
+-- further 12
 abbrev pub number_cost : ℕ → ℕ
-number_cost n = if nat_lt n 2048 || nat_le (2 ^ 64 - 2048) n then 1 else 8
+number_cost n =
+    if nat_lt n 2048 || nat_le (2 ^ 64 - 2048) n then 1
+    else (if nat_lt n (2 ^ 31) || nat_le (2 ^ 64 - 2 ^ 31) n then 2
+    else (if nat_le n (2 ^ 40) then 4 else (if nat_le n (2 ^ 52) then 6 else 8)))
 
 abbrev pub amount_cost : Amount → ℕ
 amount_cost (amount.Temp t) = 4
 amount_cost (amount.Number n) = 1 + number_cost n
 
--- an operation on integers: a result of fewer than 64 bits is extended, and the count of a narrow shift is reduced
+-- an operation on integers: a result of fewer than 64 bits is extended, and the count of a narrow shift is reduced. Of
+-- 64 bits it costs what its result as a constant may
 abbrev pub operation_cost : IntKind → ℕ
-operation_cost int.I64 = 10
-operation_cost int.U64 = 10
+operation_cost int.I64 = 11
+operation_cost int.U64 = 11
 operation_cost int.I32 = 12
 operation_cost int.U32 = 12
 operation_cost k = 13
@@ -36,11 +41,11 @@ is_wide int.I64 = true
 is_wide int.U64 = true
 is_wide k = false
 
--- a conversion, from a kind to a kind
+-- a conversion, from a kind to a kind: to 64 bits from 64, and to a capability, what its result as a constant may cost
 abbrev pub conversion_cost : TacKind → TacKind → ℕ
-conversion_cost (kind.Int j) (kind.Int k) = if is_wide j && is_wide k then 6 else 8
+conversion_cost (kind.Int j) (kind.Int k) = if is_wide j && is_wide k then 11 else 8
 conversion_cost (kind.Cap signed) (kind.Int k) = if is_wide k then 7 else 8
-conversion_cost old (kind.Cap signed) = 8
+conversion_cost old (kind.Cap signed) = 11
 
 -- a `_Bool` is reduced to 0 or 1
 abbrev pub load_cost : TacKind → ℕ
@@ -77,7 +82,7 @@ cost (instr.CopyUnits from to bytes unit from_pos to_pos) = 14
 cost (instr.Label l) = 0
 cost (instr.Jump l) = 1
 cost (instr.Branch on when l) = 5
-cost (instr.Call to fun args) = 4 + places_cost (length args)
+cost (instr.Call to fun args) = 7 + places_cost (length args)
 cost (instr.CallValue to v of args pos) = 7 + places_cost (length args)
 cost (instr.Lib op to args) = service_cost op
 cost instr.Turn = 0

@@ -1,4 +1,4 @@
-// What one instruction may name, and the kinds that it asks for.
+//! What one instruction may name, and the kinds that it asks for.
 ghost use Rattle.std.specs.Prelude.{◌≡◌, ◌&&◌, [], ◌∷◌, not, option_map, length, map, count_by, nat_lt, if◌then◌else◌};
 ghost use Rattle.c_tree.specs.Layout.{bare};
 ghost use Rattle.cheri_c_sem.specs.Types.{is_shift, scalar_of};

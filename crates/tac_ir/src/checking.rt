@@ -1,4 +1,4 @@
-// Which three-address code is well formed for a program.
+//! Which three-address code is well formed for a program.
 ghost use Rattle.std.specs.Prelude.{◌≡◌};
 ghost use Rattle.tac_ir.specs.Bodies.{in_body, HasCounted};
 ghost use Rattle.tac_ir.specs.WellFormed.{param_kinds, begins_with, all_of, instruction_fits, function_fits};

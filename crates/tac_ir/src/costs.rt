@@ -1,4 +1,4 @@
-// What instructions and functions cost.
+//! What instructions and functions cost.
 ghost use Rattle.std.specs.Prelude.{◌≡◌, ◌-◌, ◌*◌, ◌^◌, ◌<◌, ◌≤◌, length};
 ghost use Rattle.std.specs.List.{sum_by};
 ghost use Rattle.tac_ir.specs.Costs.{number_cost, amount_cost, operation_cost, is_wide, conversion_cost, load_cost};
@@ -14,6 +14,12 @@ fn number_cost(n: u64) -> u64
 {
     if n < 2048 || u64::MAX - 2047 <= n {
         1
+    } else if n < 1 << 31 || u64::MAX - 0x7fff_ffff <= n {
+        2
+    } else if n <= 1 << 40 {
+        4
+    } else if n <= 1 << 52 {
+        6
     } else {
         8
     }
@@ -32,7 +38,7 @@ fn operation_cost(kind: IntKind) -> u64
     ensures { result ≡ operation_cost kind }
 {
     match kind {
-        IntKind::I64 | IntKind::U64 => 10,
+        IntKind::I64 | IntKind::U64 => 11,
         IntKind::I32 | IntKind::U32 => 12,
         IntKind::Bool | IntKind::I8 | IntKind::U8 | IntKind::I16 | IntKind::U16 => 13,
     }
@@ -48,9 +54,9 @@ fn conversion_cost(old: TacKind, new: TacKind) -> u64
     ensures { result ≡ conversion_cost old new }
 {
     match (old, new) {
-        (TacKind::Int(j), TacKind::Int(k)) => if is_wide(j) && is_wide(k) { 6 } else { 8 },
+        (TacKind::Int(j), TacKind::Int(k)) => if is_wide(j) && is_wide(k) { 11 } else { 8 },
         (TacKind::Cap(_), TacKind::Int(k)) => if is_wide(k) { 7 } else { 8 },
-        (_, TacKind::Cap(_)) => 8,
+        (_, TacKind::Cap(_)) => 11,
     }
 }
 
@@ -103,7 +109,7 @@ pub fn cost(i: &TacInstr) -> u64
         TacInstr::Label(_) | TacInstr::Turn => 0,
         TacInstr::Jump(_) => 1,
         TacInstr::Branch { .. } => 5,
-        TacInstr::Call { args, .. } => 4 + places_cost(args.as_slice().len()),
+        TacInstr::Call { args, .. } => 7 + places_cost(args.as_slice().len()),
         TacInstr::CallValue { args, .. } => 7 + places_cost(args.as_slice().len()),
         TacInstr::Lib { op, .. } => service_cost(*op),
         TacInstr::Return(_) => 24,

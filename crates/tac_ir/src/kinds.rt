@@ -1,4 +1,4 @@
-// Kinds of temps.
+//! Kinds of temps.
 ghost use Rattle.std.specs.Prelude.{◌≡◌, slice_index_or};
 ghost use Rattle.cheri_c_sem.specs.Compatible.{kind_number, same_bool};
 ghost use Rattle.tac_ir.specs.Effects.{kind_of, kind_at};

@@ -1,4 +1,4 @@
-// Labels, turns and the end of some code.
+//! Labels, turns and the end of some code.
 ghost use Rattle.std.specs.Prelude.{◌≡◌, false};
 ghost use Rattle.cheri_c_sem.specs.Compatible.{same_bool};
 ghost use Rattle.tac_ir.specs.Meaning.{is_label};

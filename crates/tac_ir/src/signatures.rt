@@ -1,4 +1,4 @@
-// What functions take and give.
+//! What functions take and give.
 ghost use Rattle.std.specs.Prelude.{◌≡◌, map, Some, None, MatchOption, slice_get, option_map};
 ghost use Rattle.c_tree.specs.Layout.{bare};
 ghost use Rattle.cheri_c_sem.specs.Types.{scalar_of};

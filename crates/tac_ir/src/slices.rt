@@ -1,4 +1,4 @@
-// The first item of a slice, and the others.
+//! The first item of a slice, and the others.
 ghost use Rattle.std.specs.Prelude.{◌≡◌, [], ◌∷◌, MatchOption};
 
 pub fn first_and_rest<'a, T>(items: &'a [T]) -> Option<(&'a T, &'a [T])>

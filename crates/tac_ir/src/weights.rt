@@ -1,4 +1,4 @@
-// The weights of a program's functions.
+//! The weights of a program's functions.
 ghost use Rattle.std.specs.Prelude.{◌≡◌, ◌+◌, ◌<◌, ◌++◌, [], ◌∷◌, length, MatchOption, Some, None, slice_get};
 ghost use Rattle.std.specs.List.{sum_by};
 ghost use Rattle.c_tree.specs.TreeWeight.{function_weight};

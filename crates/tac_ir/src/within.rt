@@ -1,4 +1,4 @@
-// Which code is no larger than its program allows.
+//! Which code is no larger than its program allows.
 ghost use Rattle.std.specs.Prelude.{◌+◌, ◌^◌, ◌<◌, ◌↔◌, IsTrue};
 ghost use Rattle.tac_ir.specs.Costs.{function_cost, outgoing};
 ghost use Rattle.tac_ir.specs.Within.{FunctionCosts, WithinCosts};

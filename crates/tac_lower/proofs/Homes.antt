@@ -3,23 +3,19 @@ use Rattle.std.proofs.Common.{◌≡◌, ℕ, zero, suc, ◌+◌, ◌<◌, ◌�
 use Rattle.std.proofs.Common.{get_or, Option, Some, None, Result, Ok, Err, IfOk, refl, sym, ap, ◌∙◌, subst, arith}
 use Rattle.std.proofs.Common.{length-append, ⊎_elim, if◌then◌else◌}
 use Rattle.std.specs.Prelude.{slice_get, nat_lt, ◌&&◌}
-use Rattle.std.specs.List.{sum_by}
 use Rattle.std.proofs.lemmas.Bool.{cases_lt}
 use Rattle.std.proofs.lemmas.Bool.Decides.{nat_tests}
 use Rattle.std.proofs.lemmas.List.{take_more}
-use Rattle.std.proofs.lemmas.List.Sums.{sum_by-cons}
 use Rattle.std.proofs.lemmas.Option.{slice_get_within, slice_get-get_or, get_or_from_slice_get}
-use Rattle.c_tree.specs.TreeWeight.{function_weight}
+use Rattle.c_tree.specs.TreeWeight.{HasLightFunctions, function_limit, function_weight}
 use Rattle.c_tree.specs.Types as ty
 use Rattle.c_tree.specs.Layout.{bare}
 use Rattle.c_tree.specs.Types.{Ty, Tys, Function, no_types, also}
 use Rattle.c_tree.specs.Views.{IsOrdered, action_at, actions_of}
-use Rattle.c_tree.specs.Weight.{weight}
 use Rattle.c_tree.specs.WellTyped.{FunctionFits, ParametersFit, ActionFits, outside, type_in}
 use Rattle.c_tree.specs.declared.typed.FunDef.{FunDef}
 use Rattle.c_tree.specs.declared.typed.Typed.{Typed}
 use Rattle.c_tree.specs.declared.typed.VarDef.{VarDef}
-use Rattle.c_tree.proofs.Weighed.{weight_of_functions}
 use Rattle.cheri_c_sem.specs.Programs.{lengths_of}
 use Rattle.cheri_c_sem.specs.Types.{size_in}
 use Rattle.tac_ir.specs.WellFormed.{begins_with, param_kinds, signature_of, function_fits, functions_fit, type_of_param}
@@ -364,7 +360,8 @@ keeps_returned a b c (Ok x) v f h =
 keeps_returned a b c (Err x) v f h = tt
 
 -- what a light function has
-pub light_parts : (p : Typed) (d : FunDef) → function_weight p d ≤ 7780 → length d.vars + heft_in p d.body ≤ 7772
+pub light_parts : (p : Typed) (d : FunDef) → function_weight p d ≤ function_limit →
+    length d.vars + heft_in p d.body ≤ 7772
 light_parts p d h = omega (arith, h)
 
 pub closed_grown : (a b : Emitter) → Grown a b → ((l : ℕ) → open_labels a l ≡ false) → (l : ℕ) → open_labels b l ≡ false
@@ -400,15 +397,6 @@ one_formed p (e ∷ ds) (k ∷ fs) d f h g =
     both : (a b : Bool) → (a && b) ≡ true → (a ≡ true) × (b ≡ true)
     both true b h = (refl, h)
     both false b h = absurd cc
-
-sum_member : (f : FunDef → ℕ) (xs : List FunDef) (k : ℕ) (x : FunDef) → slice_get xs k ≡ Some x → f x ≤ sum_by f xs
-sum_member f [] k x e = absurd cc
-sum_member f (y ∷ ys) zero x e = let s : y ≡ x = cc in omega (arith, sum_by-cons f y ys, ap f s)
-sum_member f (y ∷ ys) (suc k) x e = omega (arith, sum_by-cons f y ys, sum_member f ys k x e)
-
-pub light_function : (p : Typed) (k : ℕ) (d : FunDef) (n : ℕ) → IsOrdered p → slice_get p.funs k ≡ Some d
-    → weight p ≤ n → function_weight p d ≤ n
-light_function p k d n o is h = omega (arith, weight_of_functions p o, sum_member (function_weight p) p.funs k d is)
 
 -- ---- what a function gives, by the table
 
@@ -467,8 +455,8 @@ module _ (p : Typed) (xs : List FunDef) (i : ℕ) (d : FunDef) (e : xs ≡ p.fun
       → function_fits p d f ≡ true → functions_fit p (take (i + 1) xs) (fs ++ f ∷ []) ≡ true
   formed_next fs f h g = ap (λ z. functions_fit p z (fs ++ f ∷ [])) taken_next ∙ one_formed p (take i xs) fs d f h g
 
-  pub light_next : IsOrdered p → weight p ≤ 7780 → function_weight p d ≤ 7780
-  light_next o h = light_function p i d 7780 o function_at h
+  pub light_next : HasLightFunctions p → function_weight p d ≤ function_limit
+  light_next h = h.each i d function_at
 
 -- a function's type is one of functions
 pub are_functions : (p : Typed) → AreTypedFunctions p → (k : ℕ) (d : FunDef) → slice_get p.funs k ≡ Some d

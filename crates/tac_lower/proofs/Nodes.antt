@@ -33,7 +33,8 @@ use Rattle.c_tree.proofs.Forest.{forest_reads}
 use Rattle.tac_ir.specs.declared.code.TacKind.{TacKind}
 use Rattle.tac_ir.specs.declared.code.TacKind.TheVariants as kind
 use Rattle.tac_lower.specs.Copied.{copies_in}
-use Rattle.tac_lower.specs.Operands.{RightFits, ComputedFits}
+use Rattle.tac_emit.specs.Emitted.{is_capability}
+use Rattle.tac_lower.specs.Operands.{RightFits, AddressFits, ComputedFits}
 use Rattle.tac_lower.specs.Nodes.{kept_as, points, or_int, expression, IsTyped, IsScalar, HasOne, HasTwo, HasThree}
 use Rattle.tac_lower.specs.Nodes.{ConstantNode, IntNode, CapabilityNode, SameNode, NotNode, AddressNode, DerefNode}
 use Rattle.tac_lower.specs.Nodes.{SumNode, CompareNode, TruthNode, DifferenceNode, CommaNode, AssignNode, CompoundNode}
@@ -636,12 +637,26 @@ module _ (f : Frame) (o : IsOrdered f.program) where
               (λ (d : PointsToComplete f.program of). subst (λ z. PointsToComplete f.program z) is d) h.2;
         }
 
+    address_by : (q : IntOp) (s : Bool) (u : Ty) → (u ≡ ty.Cap s) ⊎ holds (typing.is_shift q) →
+        AddressFits (is_shift q) (or_int (kept_as u))
+    address_by q s u h =
+        ⊎_elim (λ (d : u ≡ ty.Cap s). not_shift (is_shift q) (ap (λ z. is_capability (or_int (kept_as z))) d))
+        (λ (d : holds (typing.is_shift q)). shifts (is_shift q) (sym (shift_same q) ∙ d)) h
+      where
+        not_shift : (b : Bool) → is_capability (or_int (kept_as u)) ≡ true → AddressFits b (or_int (kept_as u))
+        not_shift true z = tt
+        not_shift false z = z
+
+        shifts : (b : Bool) → b ≡ true → AddressFits b (or_int (kept_as u))
+        shifts true z = tt
+        shifts false z = absurd cc
+
     computed_by : (q : IntOp) (s u : Ty) → holds (ty.is_integer s) → (u ≡ s) ⊎ holds (typing.is_shift q) →
         holds (ty.is_integer u) → ComputedFits q (or_int (kept_as s)) (or_int (kept_as u))
     computed_by q (ty.Int j n) u i h g =
         let c = integer_kept u g in
         subst (λ z. RightFits (is_shift q) j (or_int z)) (sym c.1) (right_by q j n (ty.Int j n) u c.0 refl c.1 h)
-    computed_by q (ty.Cap s) u i h g = tt
+    computed_by q (ty.Cap s) u i h g = address_by q s u h
     computed_by q s u i h g = absurd cc
 
     right_integer : (q : IntOp) (s u : Ty) → CompoundFits f.program q s u of → holds (ty.is_integer u)

@@ -1,9 +1,8 @@
 -- A program with nothing in it.
 use Rattle.std.proofs.Common.{◌≡◌, ℕ, ◌≤◌, List, [], length, Some, None, sym, ap, ◌∙◌, arith}
 use Rattle.std.specs.Prelude.{slice_get}
-use Rattle.std.specs.List.{sum_by}
 use Rattle.c_tree.specs.Views.{IsOrdered}
-use Rattle.c_tree.specs.Weight.{weight, expr_weight, stmt_weight, fun_weight}
+use Rattle.c_tree.specs.TreeWeight.{HasLightFunctions}
 use Rattle.c_tree.specs.declared.typed.Typed.{Typed}
 use Rattle.cheri_c_sem.specs.Order.{Ordered}
 use Rattle.tac_lower.specs.Functions.{AreTypedFunctions}
@@ -36,10 +35,5 @@ module _ (p : Typed) (types : p.types ≡ []) (globals : p.globals ≡ []) (funs
   pub nothing_typed : AreTypedFunctions p
   nothing_typed = record { each = λ k d is. absurd (no_item p.funs k d funs is) }
 
-  pub nothing_light : weight p ≤ 7780
-  unfolding weight
-  nothing_light =
-      let a : sum_by expr_weight p.exprs ≡ 0 = ap (sum_by expr_weight) exprs in
-      let b : sum_by stmt_weight p.stmts ≡ 0 = ap (sum_by stmt_weight) stmts in
-      let c : sum_by fun_weight p.funs ≡ 0 = ap (sum_by fun_weight) funs in
-      omega arith
+  pub nothing_light : HasLightFunctions p
+  nothing_light = record { each = λ k d is. absurd (no_item p.funs k d funs is) }

@@ -19,6 +19,7 @@ use Rattle.tac_ir.specs.declared.code.TacInstr.{TacInstr}
 use Rattle.tac_ir.specs.declared.code.TacInstr.TheVariants as instr
 use Rattle.tac_ir.specs.declared.code.TacKind.{TacKind}
 use Rattle.tac_ir.specs.declared.code.TacKind.TheVariants as kind
+use Rattle.c_tree.specs.TreeWeight.{function_limit}
 use Rattle.c_tree.specs.declared.typed.FunDef.{FunDef}
 use Rattle.tac_ir.specs.Within.{FunctionCosts}
 use Rattle.tac_ir.specs.declared.code.TacFun.{TacFun}
@@ -64,7 +65,7 @@ operation_some int.I64 = omega arith
 operation_some int.U64 = omega arith
 
 conversion_some : (j k : TacKind) → 0 < conversion_cost j k
-conversion_some (kind.Int j) (kind.Int k) = some (is_wide j && is_wide k) 6 8 (omega arith) (omega arith)
+conversion_some (kind.Int j) (kind.Int k) = some (is_wide j && is_wide k) 11 8 (omega arith) (omega arith)
 conversion_some (kind.Cap s) (kind.Int k) = some (is_wide k) 7 8 (omega arith) (omega arith)
 conversion_some (kind.Int j) (kind.Cap s) = omega arith
 conversion_some (kind.Cap j) (kind.Cap s) = omega arith
@@ -255,8 +256,8 @@ made_returned a b v made h l s = subst (λ z. l < z) (sym h.labels)
     (made l (record { is = no_more (has_label a.code.items l) (sym (pushed_has a b (instr.Return v) h l) ∙ s.is) }))
 
 -- its instructions are counted in 32 bits
-pub short_code : {d : FunDef} {e : Emitter} {f : TacFun} (w : ℕ) → w ≤ 7780 → Makes d e f → FunctionCosts w f →
-    labels_differ e.code.items ≡ true → turns_fit false e.code.items ≡ true →
+pub short_code : {d : FunDef} {e : Emitter} {f : TacFun} (w : ℕ) → w ≤ function_limit → Makes d e f →
+    FunctionCosts w f → labels_differ e.code.items ≡ true → turns_fit false e.code.items ≡ true →
     ((l : ℕ) → Stands e l → l < e.labels) → e.labels < 2 ^ 31 → length f.code < 2 ^ 32
 short_code {e = e} {f = f} w light m costs differ turns made few =
     let all : length e.code.items ≤ 2 * sum_by cost e.code.items + e.labels =

@@ -17,10 +17,15 @@ abbrev pub RightFits : (shift : Bool) → IntKind → TacKind → Type 0
 RightFits true j k = Unit {0}
 RightFits false j k = k ≡ kind.Int j
 
+-- and of one on capability integers
+abbrev pub AddressFits : (shift : Bool) → TacKind → Type 0
+AddressFits true k = Unit {0}
+AddressFits false k = is_capability k ≡ true
+
 -- a compound assignment, by the kinds of the place and of the right operand: a pointer is moved by elements
 abbrev pub ComputedFits : IntOp → (computed of : TacKind) → Type 0
 ComputedFits op (kind.Int j) k = RightFits (is_shift op) j k
-ComputedFits op (kind.Cap signed) k = Unit {0}
+ComputedFits op (kind.Cap signed) k = AddressFits (is_shift op) k
 
 abbrev pub ElementFits : Option ℕ → IntOp → (computed place of : TacKind) → Type 0
 ElementFits (Some size) op computed place k = is_capability place ≡ true

@@ -3,7 +3,7 @@
 ghost use Rattle.std.specs.Prelude.{◌≡◌, ℕ, ◌+◌, ◌*◌, ◌^◌, ◌<◌, ◌≤◌, List, [], true, false, length, IfOk, Some};
 ghost use Rattle.std.specs.Prelude.{slice_get};
 ghost use Rattle.std.specs.Prelude.{◌==◌, if◌then◌else◌, nat_lt, sum_by};
-ghost use Rattle.c_tree.specs.TreeWeight.{function_weight};
+ghost use Rattle.c_tree.specs.TreeWeight.{function_limit, function_weight};
 ghost use Rattle.c_tree.specs.Types.{Ty, Tys, Function};
 ghost use Rattle.c_tree.specs.WellTyped.{FunctionFits, type_in};
 ghost use Rattle.c_tree.specs.declared.typed.FunDef.{FunDef};
@@ -350,7 +350,7 @@ fn finished(d: &FunDef, out: Emitter) -> TacFun
 pub fn function(program: Program, d: &FunDef) -> Result<TacFun, NoMemory>
     requires ready { Ready program.p.now program.types.now }
     requires fits { FunctionFits program.p.now d.now }
-    requires light { function_weight program.p.now d.now ≤ 7780 }
+    requires light { function_weight program.p.now d.now ≤ function_limit }
     requires covered { (vars : List VarDef) → AreCovered program.writes.now (expr_tree program.p.now vars) }
     ensures named { IfOk result (λ f. f.name ≡ d.now.pos) }
     ensures formed { IfOk result (λ f. function_fits program.entry.p.now d.now f ≡ true) }

@@ -1,9 +1,10 @@
 //! Lowering: from typed programs to three-address code.
 //!
-//! Promise: `lower` gives well-formed code for every sound program of weight at most 7,780, function by function, which
-//! costs no more than the weight of each function allows, copies no more than the program does, and lets no object
-//! become zero twice, nor makes its pointer before. Each operation on values in temps adds the code that `lower_runs`
-//! has for it (`Shown`). The code of a sound program runs under each legal map as the program means (`same`).
+//! Promise: `lower` gives well-formed code for every sound program, none of whose functions weighs more than 7,780,
+//! function by function, which costs no more than the weight of each function allows, copies no more than the program
+//! does, and lets no object become zero twice, nor makes its pointer before. Each operation on values in temps adds the
+//! code that `lower_runs` has for it (`Shown`). The code of a sound program runs under each legal map as the program
+//! means (`same`).
 //! Definitions (`specs/`): `Runs`; `Lowered`; `WellFormed` and `Within` of `tac_ir`; on the way `Scenes`, `Shown`,
 //! `Spent`, `Copied`, `Zeroed`, `Nodes`, `Functions`, `Trees`, `Stating`, `Programs`.
 //! Main lemmas (`proofs/`): `Bodies`, `Scening`, `Housing`, `Operating`, `Spending`, `Copying`, `Zeroing`, `Whole`,

@@ -4,7 +4,7 @@ ghost use Rattle.std.specs.Prelude.{◌≡◌, ◌≤◌, ◌<◌, ◌^◌, leng
 ghost use Rattle.tac_ir.specs.declared.code.TacFun.{TacFun};
 ghost use Rattle.tac_lower.specs.Zeroed.{ZeroesOnce};
 ghost use Rattle.c_tree.specs.Views.{IsOrdered};
-ghost use Rattle.c_tree.specs.Weight.{weight};
+ghost use Rattle.c_tree.specs.TreeWeight.{HasLightFunctions};
 ghost use Rattle.cheri_c_sem.specs.Order.{Ordered};
 ghost use Rattle.tac_ir.specs.WellFormed.{is_well_formed};
 ghost use Rattle.tac_ir.specs.Within.{Within, WithinCosts, function_copies};
@@ -30,7 +30,7 @@ pub fn lower(alloc: Global, p: &Typed) -> Result<Tac, NoMemory>
     requires ordered { Ordered p.now }
     requires listed { IsOrdered p.now }
     requires typed { AreTypedFunctions p.now }
-    requires light { weight p.now ≤ 7780 }
+    requires light { HasLightFunctions p.now }
     ensures named { IfOk result (λ t. names_of t.funs ≡ names_in p.now.funs) }
     ensures formed { IfOk result (λ t. is_well_formed t p.now ≡ true) }
     ensures costs { IfOk result (λ t. WithinCosts t p.now) }

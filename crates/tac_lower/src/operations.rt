@@ -10,7 +10,7 @@ ghost use Rattle.tac_emit.specs.declared.emitter.Emitter.{Emitter};
 ghost use Rattle.tac_ir.specs.Costs.{number_cost};
 ghost use Rattle.tac_emit.specs.Spent.{Spent, is_number};
 ghost use Rattle.tac_emit.specs.Emitted.{HasKind, HasInt, HasAddress, IsWide, AmountFits, CountFits};
-ghost use Rattle.tac_lower.specs.Operands.{RightFits};
+ghost use Rattle.tac_lower.specs.Operands.{RightFits, AddressFits};
 ghost use Rattle.tac_emit.specs.Emitted.{SameKind, SameCapability, is_capability, Grown, Adds, HasRoom};
 ghost use Rattle.tac_lower.specs.Operands.{Holds, wide_of};
 ghost use Rattle.tac_lower.specs.Operands.{ChangeFits};
@@ -78,7 +78,7 @@ fn negative(out: &mut Emitter, kind: IntKind, to: u32, a: u32) -> Result<(), NoM
     ensures grown { IfOk result (λ _. Grown out.old out.new) }
     ensures adds { IfOk result (λ _. Adds out.old out.new 1 0) }
     ensures spent { IfOk result (λ _. Spent out.old out.new 1 17) }
-    ensures wide { kind ≡ int.U64 → IfOk result (λ _. Spent out.old out.new 1 14) }
+    ensures wide { kind ≡ int.U64 → IfOk result (λ _. Spent out.old out.new 1 15) }
     ensures emits { IfOk result (λ _. Emits out.old out.new 1
         (operating.signed_integer (sign_as signs.Negative) kind to a (length out.old.kinds.items))) }
 {
@@ -94,7 +94,7 @@ fn complement(out: &mut Emitter, kind: IntKind, to: u32, a: u32) -> Result<(), N
     ensures grown { IfOk result (λ _. Grown out.old out.new) }
     ensures adds { IfOk result (λ _. Adds out.old out.new 1 0) }
     ensures spent { IfOk result (λ _. Spent out.old out.new 1 24) }
-    ensures wide { kind ≡ int.U64 → IfOk result (λ _. Spent out.old out.new 1 14) }
+    ensures wide { kind ≡ int.U64 → IfOk result (λ _. Spent out.old out.new 1 15) }
     ensures emits { IfOk result (λ _. Emits out.old out.new 1
         (operating.signed_integer (sign_as signs.Complement) kind to a (length out.old.kinds.items))) }
 {
@@ -123,7 +123,7 @@ fn signed_integer(
     ensures grown { IfOk result (λ _. Grown out.old out.new) }
     ensures adds { IfOk result (λ _. Adds out.old out.new 1 0) }
     ensures spent { IfOk result (λ _. Spent out.old out.new 1 24) }
-    ensures wide { kind ≡ int.U64 → IfOk result (λ _. Spent out.old out.new 1 14) }
+    ensures wide { kind ≡ int.U64 → IfOk result (λ _. Spent out.old out.new 1 15) }
     ensures emits { IfOk result (λ _. Emits out.old out.new (sign_temps (sign_as sign))
         (operating.signed_integer (sign_as sign) kind to a (length out.old.kinds.items))) }
 {
@@ -175,7 +175,7 @@ fn as_count(out: &mut Emitter, x: Held) -> Result<u32, NoMemory>
     ensures count { IfOk result (λ t. HasInt out.new t) }
     ensures grown { IfOk result (λ _. Grown out.old out.new) }
     ensures adds { IfOk result (λ _. Adds out.old out.new 1 0) }
-    ensures spent { IfOk result (λ _. Spent out.old out.new 1 8) }
+    ensures spent { IfOk result (λ _. Spent out.old out.new 1 7) }
     ensures temp { IfOk result (λ t. t ≡ count_temp x.kind x.temp (length out.old.kinds.items)) }
     ensures emits { IfOk result (λ _. Emits out.old out.new (count_temps x.kind)
         (count_code x.kind x.temp (length out.old.kinds.items))) }
@@ -195,7 +195,7 @@ fn right_operand(out: &mut Emitter, op: IntOp, y: Held) -> Result<u32, NoMemory>
         CountFits out.new (is_shift op) kind t) }
     ensures grown { IfOk result (λ _. Grown out.old out.new) }
     ensures adds { IfOk result (λ _. Adds out.old out.new 1 0) }
-    ensures spent { IfOk result (λ _. Spent out.old out.new 1 8) }
+    ensures spent { IfOk result (λ _. Spent out.old out.new 1 7) }
     ensures temp { IfOk result (λ t. t ≡ operating.right_temp op y.kind y.temp (length out.old.kinds.items)) }
     ensures emits { IfOk result (λ _. Emits out.old out.new (right_temps op y.kind)
         (operating.right_operand op y.kind y.temp (length out.old.kinds.items))) }
@@ -223,7 +223,7 @@ pub fn whole(
     requires right { RightFits (is_shift op) kind y.kind }
     ensures grown { IfOk result (λ _. Grown out.old out.new) }
     ensures adds { IfOk result (λ _. Adds out.old out.new 1 0) }
-    ensures spent { IfOk result (λ _. Spent out.old out.new 1 21) }
+    ensures spent { IfOk result (λ _. Spent out.old out.new 1 20) }
     ensures emits { IfOk result (λ _. Emits out.old out.new (right_temps op y.kind)
         (operating.whole op kind y.kind to a y.temp (length out.old.kinds.items))) }
 {
@@ -251,7 +251,9 @@ fn address_operand(out: &mut Emitter, op: IntOp, kind: IntKind, y: Held) -> Resu
     ensures count { IfOk result (λ t. CountFits out.new (is_shift op) kind t) }
     ensures grown { IfOk result (λ _. Grown out.old out.new) }
     ensures adds { IfOk result (λ _. Adds out.old out.new 1 0) }
-    ensures spent { IfOk result (λ _. Spent out.old out.new 1 8) }
+    ensures spent { IfOk result (λ _. Spent out.old out.new 1 11) }
+    ensures alike { IsWide (kinds.Int kind) → AddressFits (is_shift op) y.kind →
+        IfOk result (λ _. Spent out.old out.new 1 7) }
     ensures temp { IfOk result (λ t. t ≡ operating.address_temp op y.kind y.temp (length out.old.kinds.items)) }
     ensures emits { IfOk result (λ _. Emits out.old out.new (address_more op y.kind)
         (operating.address_operand op kind y.kind y.temp (length out.old.kinds.items))) }
@@ -278,7 +280,8 @@ fn computed_address(
     ensures wide { IfOk result (λ n. IsWide n.kind) }
     ensures grown { IfOk result (λ _. Grown out.old out.new) }
     ensures adds { IfOk result (λ _. Adds out.old out.new 2 0) }
-    ensures spent { IfOk result (λ _. Spent out.old out.new 2 29) }
+    ensures spent { IfOk result (λ _. Spent out.old out.new 2 33) }
+    ensures alike { AddressFits (is_shift op) y.kind → IfOk result (λ _. Spent out.old out.new 2 29) }
     ensures next { IfOk result (λ n. n.temp ≡ length out.old.kinds.items) }
     ensures as_integer { IfOk result (λ n. n.kind ≡ kinds.Int (operating.address_kind op signed)) }
     ensures emits { IfOk result (λ _. Emits out.old out.new (address_temps op y.kind)
@@ -328,7 +331,7 @@ pub fn derived(
     requires y { Holds out.old y }
     ensures grown { IfOk result (λ _. Grown out.old out.new) }
     ensures adds { IfOk result (λ _. Adds out.old out.new 2 0) }
-    ensures spent { IfOk result (λ _. Spent out.old out.new 2 39) }
+    ensures spent { IfOk result (λ _. Spent out.old out.new 2 43) }
     ensures emits { IfOk result (λ _. Emits out.old out.new (address_temps op y.kind)
         (operating.derived op signed right y.kind to x.temp y.temp (length out.old.kinds.items))) }
 {
@@ -368,7 +371,7 @@ fn scaled(out: &mut Emitter, i: Held, by: u64) -> Result<u32, NoMemory>
     ensures bytes { IfOk result (λ t. HasInt out.new t) }
     ensures grown { IfOk result (λ _. Grown out.old out.new) }
     ensures adds { IfOk result (λ _. Adds out.old out.new 2 0) }
-    ensures spent { IfOk result (λ _. Spent out.old out.new 2 32) }
+    ensures spent { IfOk result (λ _. Spent out.old out.new 2 33) }
     ensures temp { IfOk result (λ t. t ≡ operating.scaled_temp i.kind (length out.old.kinds.items)) }
     ensures emits { IfOk result (λ _. Emits out.old out.new 2
         (operating.scaled i.kind by i.temp (length out.old.kinds.items))) }
@@ -395,7 +398,7 @@ fn bytes_of(out: &mut Emitter, i: Held, by: u64) -> Result<Amount, NoMemory>
     ensures temp { IfOk result (λ a. is_number a ≡ false) }
     ensures grown { IfOk result (λ _. Grown out.old out.new) }
     ensures adds { IfOk result (λ _. Adds out.old out.new 2 0) }
-    ensures spent { IfOk result (λ _. Spent out.old out.new 2 32) }
+    ensures spent { IfOk result (λ _. Spent out.old out.new 2 33) }
     ensures temp_is { IfOk result (λ a. a ≡ amount.Temp (bytes_temp i.kind by i.temp (length out.old.kinds.items))) }
     ensures emits { IfOk result (λ _. Emits out.old out.new (moved_temps i.kind by)
         (bytes_code i.kind by i.temp (length out.old.kinds.items))) }
@@ -414,7 +417,7 @@ pub fn moved(out: &mut Emitter, by: u64, to: u32, base: u32, i: Held) -> Result<
     requires i { Holds out.old i }
     ensures grown { IfOk result (λ _. Grown out.old out.new) }
     ensures adds { IfOk result (λ _. Adds out.old out.new 2 0) }
-    ensures spent { IfOk result (λ _. Spent out.old out.new 2 42) }
+    ensures spent { IfOk result (λ _. Spent out.old out.new 2 43) }
     ensures emits { IfOk result (λ _. Emits out.old out.new (moved_temps i.kind by)
         (operating.moved i.kind by to base i.temp (length out.old.kinds.items))) }
 {
@@ -450,7 +453,7 @@ pub fn difference(out: &mut Emitter, size: u64, to: u32, a: u32, b: u32) -> Resu
     requires b { HasKind out.old b (kinds.Cap false) }
     ensures grown { IfOk result (λ _. Grown out.old out.new) }
     ensures adds { IfOk result (λ _. Adds out.old out.new 2 0) }
-    ensures spent { IfOk result (λ _. Spent out.old out.new 2 53) }
+    ensures spent { IfOk result (λ _. Spent out.old out.new 2 51) }
     ensures emits { IfOk result (λ _. Emits out.old out.new 2
         (operating.difference size to a b (length out.old.kinds.items))) }
 {
@@ -490,7 +493,7 @@ fn changed_whole(
     requires right { RightFits (is_shift op) kind y.kind }
     ensures grown { IfOk result (λ _. Grown out.old out.new) }
     ensures adds { IfOk result (λ _. Adds out.old out.new 2 0) }
-    ensures spent { IfOk result (λ _. Spent out.old out.new 2 37) }
+    ensures spent { IfOk result (λ _. Spent out.old out.new 2 42) }
     ensures emits { IfOk result (λ _. Emits out.old out.new
         (changed_temps (Whole op kind (kind_of y.kind)) x.kind y.kind)
         (operating.changed_whole op kind x.kind y.kind to x.temp y.temp (length out.old.kinds.items))) }
@@ -519,9 +522,10 @@ fn changed_capability(
     requires to { HasKind out.old to x.kind }
     requires x { Holds out.old x }
     requires y { Holds out.old y }
+    requires right { AddressFits (is_shift op) y.kind }
     ensures grown { IfOk result (λ _. Grown out.old out.new) }
     ensures adds { IfOk result (λ _. Adds out.old out.new 2 0) }
-    ensures spent { IfOk result (λ _. Spent out.old out.new 2 39) }
+    ensures spent { IfOk result (λ _. Spent out.old out.new 2 40) }
     ensures emits { IfOk result (λ _. Emits out.old out.new (address_temps op y.kind)
         (operating.changed_capability op signed x.kind y.kind to x.temp y.temp (length out.old.kinds.items))) }
 {
@@ -542,7 +546,7 @@ pub fn changed(out: &mut Emitter, change: Change, to: u32, x: Held, y: Held) -> 
     requires change { ChangeFits change x.kind y.kind }
     ensures grown { IfOk result (λ _. Grown out.old out.new) }
     ensures adds { IfOk result (λ _. Adds out.old out.new 2 0) }
-    ensures spent { IfOk result (λ _. Spent out.old out.new 2 42) }
+    ensures spent { IfOk result (λ _. Spent out.old out.new 2 43) }
     ensures emits { IfOk result (λ _. (o : Operation) → Changes change o →
         Emits out.old out.new (changed_temps o x.kind y.kind)
         (operating.changed o x.kind y.kind to x.temp y.temp (length out.old.kinds.items))) }

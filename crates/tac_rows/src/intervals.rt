@@ -1,4 +1,4 @@
-// A loop, and what is live in it.
+//! A loop, and what is live in it.
 ghost use Rattle.std.specs.Prelude.{◌≡◌, ◌^◌, ◌<◌, true, IfOk, length};
 ghost use Rattle.tac_live.specs.Calls.{most_places};
 ghost use Rattle.tac_live.specs.Live.{is_numbered};

@@ -10,7 +10,7 @@ use elf_file::Line;
 use purecap_abi::frame;
 use reg_alloc::{Home, Places};
 use rv_instr::{CapGetOp, CapImmOp, ImmOp, Instr, Reg, RegOp, ShiftOp, StoreOp};
-use rv_select::{Items, select};
+use rv_select::{Items, select_within};
 use std::alloc::Global;
 use tac_ir::{Tac, function_cost};
 
@@ -34,16 +34,18 @@ fn places(alloc: Global) -> Result<Places, NoMemory>
     })
 }
 
-// What is selected for a function without a parameter, whose first temp is at home in c10.
-fn selected(alloc: Global, t: &Tac, p: &Typed) -> Result<Items, NoMemory>
+// What is selected for a function without a parameter, whose first temp is at home in c10: with near calls where the
+// text has at most so many words.
+fn selected(alloc: Global, t: &Tac, p: &Typed, most: usize) -> Result<Items, NoMemory>
     requires one { length t.now.funs ≡ 1 }
     requires cheap { sum_by function_cost t.now.funs < 200 }
+    requires most { most < 200 }
 {
     let l = places(alloc)?;
     let f = frame(alloc, &Vec::new(alloc), &l, 0)?;
     let places = vec![in alloc; l]?;
     let frames = vec![in alloc; f]?;
-    select(alloc, t, p, &places, &frames)
+    select_within(alloc, t, p, &places, &frames, most)
 }
 
 // The code that is to be selected, by the numbers of the registers.
@@ -91,7 +93,7 @@ pub(crate) fn is_byte(alloc: Global, t: &Tac, p: &Typed) -> bool
     requires one { length t.now.funs ≡ 1 }
     requires cheap { sum_by function_cost t.now.funs < 200 }
 {
-    match selected(alloc, t, p) {
+    match selected(alloc, t, p, 15) {
         Ok(items) => are_wanted(&items),
         Err(_) => false,
     }
@@ -121,8 +123,48 @@ pub(crate) fn are_shifts(alloc: Global, t: &Tac, p: &Typed) -> bool
     requires one { length t.now.funs ≡ 1 }
     requires cheap { sum_by function_cost t.now.funs < 200 }
 {
-    match selected(alloc, t, p) {
+    match selected(alloc, t, p, 100) {
         Ok(items) => items.code.as_slice().get(6..18) == Some(wanted_shifts().as_slice()),
+        Err(_) => false,
+    }
+}
+
+// `main` calls itself, by its entry of the table, as the start does.
+fn wanted_far() -> [Instr; 13] {
+    let c0 = Reg::numbered(0);
+    let c1 = Reg::numbered(1);
+    let c2 = Reg::numbered(2);
+    let c3 = Reg::numbered(3);
+    let c17 = Reg::numbered(17);
+    let c28 = Reg::numbered(28);
+    let c31 = Reg::numbered(31);
+    [
+        Instr::Clc(c31, c3, 0),
+        Instr::Cjalr(c1, c31, 0),
+        Instr::Imm(ImmOp::Addi, c17, c0, 3),
+        Instr::Ecall,
+        Instr::CapGet(CapGetOp::Cmove, c28, c2),
+        Instr::CapImm(CapImmOp::Cincoffsetimm, c2, c2, -16),
+        Instr::Store(StoreOp::Csc, c1, c2, 0),
+        Instr::Clc(c31, c3, 0),
+        Instr::Cjalr(c1, c31, 0),
+        Instr::Clc(c1, c2, 0),
+        Instr::CapImm(CapImmOp::Cincoffsetimm, c2, c2, 16),
+        Instr::Cjalr(c0, c1, 0),
+        Instr::Cjal(c0, 0),
+    ]
+}
+
+// With near calls the text has 11 words.
+pub(crate) fn is_far(alloc: Global, t: &Tac, p: &Typed) -> bool
+    requires one { length t.now.funs ≡ 1 }
+    requires cheap { sum_by function_cost t.now.funs < 200 }
+{
+    match selected(alloc, t, p, 10) {
+        Ok(items) => {
+            items.entries.as_slice() == [16].as_slice()
+                && items.code.as_slice() == wanted_far().as_slice()
+        }
         Err(_) => false,
     }
 }

@@ -2,7 +2,7 @@
 //! is selected for it.
 
 use crate::answers::must_all_hold;
-use crate::selection::{are_shifts, is_byte, is_cheap};
+use crate::selection::{are_shifts, is_byte, is_cheap, is_far};
 use crate::steps::{Step, main_of, program};
 use c_tree::Typed;
 use ck_int::CmpOp::{Eq, Lt};
@@ -31,9 +31,10 @@ enum Asked {
     Costs([u64; 11]),
     /// What it costs, with the places past eight of its calls, and what its program weighs.
     Whole(u128, usize, u128),
-    /// What is selected for it: two known texts.
+    /// What is selected for it: two known texts, and one with far calls.
     Byte,
     Shifts,
+    Far,
 }
 
 use Asked::{Formed, Within};
@@ -87,6 +88,21 @@ const COSTLY: [Step; 11] = [
     Step::Call(9),
 ];
 
+/// Numbers at the bounds of so many words.
+const NUMBERS: [Step; 11] = [
+    Step::Const(0, U64, 0xffff_ffff_ffff_ffff),
+    Step::Const(0, U64, 0xffff_ffff_ffff_f800),
+    Step::Const(0, U64, 0xffff_ffff_ffff_f7ff),
+    Step::Const(0, U64, 0xffff_ffff_8000_0000),
+    Step::Const(0, U64, 0x7fff_ffff),
+    Step::Const(0, U64, 0x8000_0000),
+    Step::Const(0, U64, 1 << 40),
+    Step::Const(0, U64, (1 << 40) + 1),
+    Step::Const(0, U64, 1 << 52),
+    Step::Const(0, U64, (1 << 52) + 1),
+    Step::Const(0, U64, 0xffff_ffff_7fff_ffff),
+];
+
 /// putchar(72), behind a jump over nothing; return that byte.
 const BYTE: [Step; 5] = [
     Step::Const(0, I32, 72),
@@ -113,7 +129,7 @@ const SHIFTS: [Step; 10] = [
 const KINDS: [TacKind; 3] = [WORD, INT, TacKind::Int(U32)];
 
 /// A number of eleven words.
-const NUMBER: Step = Step::Const(0, U64, 70_000);
+const NUMBER: Step = Step::Const(0, U64, 1 << 60);
 
 /// Kinds of temps or how many there are of none, steps in two parts, and what is asked of their code. The rows from the
 /// third on have a 64-bit kind, an `int` and an `unsigned int`: a count of another kind, a sum of two kinds, a
@@ -126,7 +142,7 @@ type Row = (
     Asked,
 );
 
-static ROWS: [Row; 17] = [
+static ROWS: [Row; 19] = [
     (&[INT; 4], 4, &COUNTING, &[], Formed(true)),
     (&[INT; 3], 3, &ECHOING, &[], Formed(true)),
     (
@@ -172,7 +188,7 @@ static ROWS: [Row; 17] = [
         Formed(false),
     ),
     (&[], 18, &[NUMBER; 17], &[Step::Call(0), END], Within(true)),
-    (&[], 17, &[NUMBER; 15], &[Step::Call(9), END], Within(true)),
+    (&[], 17, &[NUMBER; 14], &[Step::Call(9), END], Within(true)),
     (&[], 19, &[], &[Step::Call(0), END], Within(false)),
     (&[], 18, &[], &[Step::Call(9), END], Within(false)),
     (&[], 0, &[NUMBER; 18], &[Step::Call(0), END], Within(false)),
@@ -181,17 +197,25 @@ static ROWS: [Row; 17] = [
         1,
         &COSTLY,
         &[],
-        Asked::Costs([4, 11, 10, 12, 13, 6, 7, 8, 8, 8, 34]),
+        Asked::Costs([4, 5, 11, 12, 13, 11, 7, 11, 8, 8, 37]),
+    ),
+    (
+        &[],
+        1,
+        &NUMBERS,
+        &[],
+        Asked::Costs([4, 4, 5, 5, 5, 7, 7, 9, 9, 11, 11]),
     ),
     (
         &[],
         17,
         &[NUMBER; 2],
         &[Step::Call(9), END],
-        Asked::Whole(64 + 22 + 34 + 24, 1, 9),
+        Asked::Whole(64 + 22 + 37 + 24, 1, 9),
     ),
     (&[INT], 1, &BYTE, &[], Asked::Byte),
     (&[INT; 2], 2, &SHIFTS, &[], Asked::Shifts),
+    (&[INT], 1, &[Step::Call(0)], &[END], Asked::Far),
 ];
 
 const RETURN: [Step; 1] = [Step::Return(Some(1))];
@@ -229,6 +253,7 @@ fn is_so(alloc: Global, t: &Tac, p: &Typed, asked: Asked) -> bool {
         Asked::Whole(words, places, weight) => is_whole(t, p, words, places, weight),
         Asked::Byte => is_cheap(t) && is_byte(alloc, t, p),
         Asked::Shifts => is_cheap(t) && are_shifts(alloc, t, p),
+        Asked::Far => is_cheap(t) && is_far(alloc, t, p),
     }
 }
 

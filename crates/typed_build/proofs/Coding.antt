@@ -6,6 +6,7 @@ use Rattle.std.specs.List.{All}
 use Rattle.std.proofs.lemmas.Bool.{cases_lt}
 use Rattle.std.proofs.lemmas.Option.{slice_get_within, get_or_from_slice_get}
 use Rattle.std.proofs.lemmas.List.Elements.{All-head, All-tail}
+use Rattle.accepted_files.specs.Accepted.{weight_limit}
 use Rattle.c_tree.specs.Weight.{weight}
 use Rattle.c_tree.specs.WellTyped.{WellTyped}
 use Rattle.c_tree.specs.declared.typed.Typed.{Typed}
@@ -30,7 +31,7 @@ pub some_word : (p : Typed) → WellTyped p → (words : ℕ) (entries : List �
     → AreEntries words entries → 0 < words
 some_word p w words entries n h = omega (arith, h.inside 0 (omega (arith, some_function p w, n)))
 
-pub coded_of : (p : Typed) (code : List Instr) (start : ℕ) (lines : List Line) → weight p ≤ 7780
+pub coded_of : (p : Typed) (code : List Instr) (start : ℕ) (lines : List Line) → weight p ≤ weight_limit
     → 4 * length code ≤ 128 * weight p + 4096 → IsText code lines → start ≡ 0 → 0 < length code
     → IsCoded p code start lines
 coded_of p code start lines light size text at some =

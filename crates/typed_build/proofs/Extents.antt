@@ -16,6 +16,7 @@ use Rattle.cap_reloc.specs.Begins.{IsInside}
 use Rattle.cap_reloc.specs.Stored.{IsStorable, IsSentry, IsDataWord, IsData, IsPointer}
 use Rattle.elf_file.specs.declared.image.Image.{Image}
 use Rattle.elf_file.specs.declared.image.Reloc.{Reloc}
+use Rattle.image_load.specs.Judging.{text_limit, segments_limit}
 use Rattle.image_load.specs.Judging.{Extent, end_of, text_of, initial_of, lies_well, segments_fit, overlap}
 use Rattle.image_load.specs.Judging.{some_overlap, lies_inside, is_entry, is_encodable, is_sentry, is_permission_word}
 use Rattle.image_load.specs.Judging.{address_of, capability_of, keeps_extent, is_place, is_capability, judged_relocs}
@@ -49,9 +50,10 @@ lies e a b c d = rw (eq-eqb (e.0 % 16) 0 a, eq-eqb (e.1 % 16) 0 b, le-leb 65536 
     refl
 
 pub fit : (t d h s : Extent) → lies_well t ≡ true → lies_well d ≡ true → lies_well h ≡ true → lies_well s ≡ true
-    → t.1 ≤ 1048576 → t.1 + d.1 + h.1 + s.1 ≤ 268435456 → segments_fit t d h s ≡ true
+    → t.1 ≤ text_limit → t.1 + d.1 + h.1 + s.1 ≤ segments_limit → segments_fit t d h s ≡ true
 unfolding segments_fit
-fit t d h s a b c e m n = rw (a, b, c, e, le-leb t.1 1048576 m, le-leb (t.1 + d.1 + h.1 + s.1) 268435456 n) refl
+fit t d h s a b c e m n =
+    rw (a, b, c, e, le-leb t.1 text_limit m, le-leb (t.1 + d.1 + h.1 + s.1) segments_limit n) refl
 
 and_false : (a b : Bool) → b ≡ false → (a && b) ≡ false
 and_false true b h = h

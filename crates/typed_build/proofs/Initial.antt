@@ -3,6 +3,7 @@ use Rattle.std.proofs.Common.{◌≡◌, ℕ, zero, suc, ◌+◌, ◌*◌, ◌%�
 use Rattle.std.proofs.Common.{sym, ap, ◌∙◌, subst, arith, inl, inr}
 use Rattle.std.proofs.lemmas.Bool.{cases_lt}
 use Rattle.std.proofs.lemmas.List.{length-map}
+use Rattle.accepted_files.specs.Accepted.{weight_limit}
 use Rattle.c_tree.specs.Layout.{size_limit}
 use Rattle.c_tree.specs.declared.typed.CType.{CType}
 use Rattle.c_tree.specs.declared.typed.FunDef.{FunDef}
@@ -66,20 +67,21 @@ same_table p =
     ap (λ k. owned (16 * k)) (omega (arith, n, m))
 
 -- an owned length is little more than the length
-owned_little : (n : ℕ) → n ≤ 67248640 → owned n ≤ 67600000
+owned_little : (n : ℕ) → n ≤ 67608896 → owned n ≤ 67900000
 owned_little n most =
-    elim (cases_lt n 4096) as (λ _. owned n ≤ 67600000) [
+    elim (cases_lt n 4096) as (λ _. owned n ≤ 67900000) [
       | inl short ↦ omega (arith, owned_short n short)
       | inr long ↦ omega (arith, owned_near n, alignment_most n (omega arith) (omega arith))
     ]
 
-pub table_most : (p : Typed) → data_room p ≤ size_limit → length p.funs ≤ 7780 → table_length (asked_by p) ≤ 67600000
+pub table_most : (p : Typed) → data_room p ≤ size_limit → 8 * length p.funs ≤ weight_limit →
+    table_length (asked_by p) ≤ 67900000
 table_most p within few =
     let globals = few_needs (map (global_need p.types) p.globals) in
     let literals = few_needs (map literal_need p.literals) in
     let g = length-map p.globals (global_need p.types) in
     let l = length-map p.literals literal_need in
-    let entries : 16 * entry_count (asked_by p) ≤ 67248640 =
+    let entries : 16 * entry_count (asked_by p) ≤ 67608896 =
     omega (arith, entries_are p, globals, literals, within, few, g, l) in
     omega (arith, owned_little (16 * entry_count (asked_by p)) (omega (arith, entries)), entries)
 

@@ -8,18 +8,20 @@ use Rattle.std.proofs.lemmas.Option.{slice_get_within, slice_get-get_or}
 use Rattle.ck_int.specs.declared.kinds.IntKind.{IntKind}
 use Rattle.ck_int.specs.declared.kinds.IntOp.{IntOp}
 use Rattle.ck_int.specs.declared.kinds.IntOp.TheVariants as op
+use Rattle.accepted_files.specs.Accepted.{weight_limit, IsLight}
 use Rattle.typing_laws.proofs.Sound.{well_typed}
+use Rattle.c_tree.specs.TreeWeight.{function_weight}
 use Rattle.c_tree.specs.Typing.{Sound}
-use Rattle.c_tree.specs.Weight.{weight}
 use Rattle.c_tree.specs.declared.typed.FunDef.{FunDef}
 use Rattle.c_tree.specs.declared.typed.Typed.{Typed}
-use Rattle.obj_mem.specs.Needs.{global_need, literal_need, local_needs}
+use Rattle.obj_mem.specs.Needs.{global_need, literal_need, local_needs, weight_by, weight_in}
 use Rattle.obj_mem.specs.declared.map.Frame.{Frame}
 use Rattle.cheri_c_sem.specs.Programs.{lengths_of}
 use Rattle.placement.proofs.Lawful.{length_needed}
 use Rattle.reg_alloc.specs.declared.places.Places.{Places}
 use Rattle.bounds_place.specs.Placing.{exceeds}
-use Rattle.tac_ir.specs.Within.{Within}
+use Rattle.tac_ir.specs.Costs.{function_cost}
+use Rattle.tac_ir.specs.Within.{Within, WithinCosts}
 use Rattle.tac_ir.specs.declared.code.LibOp.TheVariants as lib
 use Rattle.tac_ir.specs.declared.code.Tac.{Tac}
 use Rattle.tac_ir.specs.declared.code.TacFun.{TacFun}
@@ -28,7 +30,7 @@ use Rattle.tac_ir.specs.declared.code.TacInstr.TheVariants as instr
 use Rattle.select_words.specs.Operations.{AtKind}
 use Rattle.rv_emit.specs.Growing.{reach}
 use Rattle.rv_select.specs.Objects.{HasObject}
-use Rattle.rv_select.specs.Selectable.{AreSelectable, IsFormed, before}
+use Rattle.rv_select.specs.Selectable.{AreSelectable, IsFormed, ReachesFirst, before}
 use Rattle.rv_select.specs.Selected.{Before}
 use Rattle.lower_forms.specs.Forms.{Has, HasForm, IsCounted, IsMade, IsShortCall, IsThere, IsWide}
 use Rattle.typed_build.specs.Frames.{FrameFits, FramesFit, HaveHomes}
@@ -54,7 +56,7 @@ at_kind k op.Xor h = h
 at_kind k op.Shl h = h
 at_kind k op.Shr h = h
 
-module _ (p : Typed) (sound : Sound p) (within : exceeds p ≡ false) (light : weight p ≤ 7780) where
+module _ (p : Typed) (sound : Sound p) (within : exceeds p ≡ false) (light : IsLight p) where
   -- the table's entries are within reach
   few : 16 * (length p.globals + length p.literals) ≤ 67108864
   few =
@@ -69,8 +71,8 @@ module _ (p : Typed) (sound : Sound p) (within : exceeds p ≡ false) (light : w
         length-map p.literals literal_need,
       )
 
-  many : length p.funs ≤ 7780
-  many = few_functions p (well_typed p sound).ordered light
+  many : 8 * length p.funs ≤ weight_limit
+  many = few_functions p (well_typed p sound).ordered light.all
 
   global_near : (literal : Bool) (n : ℕ) → n < (if literal then length p.literals else length p.globals)
       → 16 * (if literal then length p.globals + n else n) < reach
@@ -79,6 +81,19 @@ module _ (p : Typed) (sound : Sound p) (within : exceeds p ≡ false) (light : w
 
   pub heap_small : (let b : Before = before p in b.heap) < 2 ^ 64
   heap_small = omega (arith, few, many)
+
+  pub reaches_first : ReachesFirst p
+  reaches_first =
+      let w = (well_typed p sound).main in
+      omega (arith, few, many, slice_get_within p.funs p.main w.main w.there)
+
+  -- a function's jumps reach
+  short : (t : Tac) → WithinCosts t p → length t.funs ≡ length p.funs → (k : ℕ) (f : TacFun) →
+      slice_get t.funs k ≡ Some f → function_cost f < 262144
+  short t within count k f e =
+      let d = there p.funs k (omega (arith, slice_get_within t.funs k f e, count)) in
+      let own : weight_in p k ≡ function_weight p d.0 = ap (weight_by p) d.1 in
+      omega (arith, (within.functions k f e).cost, own, light.each.each k d.0 d.1)
 
   module _ (k : ℕ) (d : FunDef) (def : slice_get p.funs k ≡ Some d) (f : TacFun) (l : Places) (g : Frame)
       (fits : FrameFits p d f l g) where
@@ -109,7 +124,7 @@ module _ (p : Typed) (sound : Sound p) (within : exceeds p ≡ false) (light : w
     formed_of (instr.Label label) n m c s = tt
     formed_of (instr.Jump label) n m c s = tt
     formed_of (instr.Branch on when label) n m c s = tt
-    formed_of (instr.Call to fun args) n m c s = s
+    formed_of (instr.Call to fun args) n m c s = (s, omega (arith, few, many, n))
     formed_of (instr.CallValue to v of args pos) n m c s = s
     formed_of (instr.Lib lib.PutChar to args) n m c s = tt
     formed_of (instr.Lib lib.GetChar to args) n m c s = tt
@@ -118,14 +133,15 @@ module _ (p : Typed) (sound : Sound p) (within : exceeds p ≡ false) (light : w
     formed_of instr.Turn n m c s = tt
     formed_of (instr.Return v) n m c s = tt
 
-  pub are_selectable : (t : Tac) (places : List Places) (frames : List Frame) → HasForm p t
+  pub are_selectable : (t : Tac) (places : List Places) (frames : List Frame) → HasForm p t → WithinCosts t p
       → length t.funs ≡ length p.funs → AreKept t.funs places → FramesFit p t.funs places frames
       → AreSelectable p t.funs places frames
-  are_selectable t places frames form count keeps fits k f l g e a b =
+  are_selectable t places frames form costs count keeps fits k f l g e a b =
       let d = there p.funs k (omega (arith, slice_get_within t.funs k f e, count)) in
       let named = form.named k d.0 f d.1 e in
       let kept = keeps k f l e a in
       record {
+        short = short t costs count k f e;
         one_each = kept.one_each;
         named = λ i c. named.temps i (has_of f i c);
         params = named.params;

@@ -25,7 +25,7 @@ use Rattle.rv_code.specs.Decoding.{decode_of}
 use Rattle.rv_code.proofs.Laws.{Encodes-below, decode_of-encoded}
 use Rattle.tag_mem.specs.Numbers.{little_number, little_bytes, word_in}
 use Rattle.tag_mem.proofs.LittleEndian.{length-little_bytes, get_or-little_bytes, small-little_bytes, number-spelled}
-use Rattle.typed_build.specs.Text.{instr_bytes, code_bytes, filler, missing, text_length, text_of}
+use Rattle.typed_build.specs.Text.{code_limit, instr_bytes, code_bytes, filler, missing, text_length, text_of}
 
 -- ---- lengths
 
@@ -60,19 +60,19 @@ pub record IsText (words size : ℕ) : Type 0 where
   pub whole : size % 16 ≡ 0
   pub owned : owned size ≡ size
   pub room : 4 * words ≤ size
-  pub most : size ≤ 1048576
+  pub most : size ≤ 32014336
 
-pub is_text : (words : ℕ) → 4 * words ≤ 1000000 → IsText words (text_length words)
+pub is_text : (words : ℕ) → 4 * words ≤ code_limit → IsText words (text_length words)
 unfolding owned alignment first_from
 is_text words small =
     let x = rounded_up (4 * words) 16 in
-    let near : (4 * words ≤ x) × (x ≤ 1000016) × (x % 16 ≡ 0) = (omega arith, omega arith, omega arith) in
-    let most : owned 1000016 ≡ 1000448 = refl in
+    let near : (4 * words ≤ x) × (x ≤ 32004112) × (x % 16 ≡ 0) = (omega arith, omega arith, omega arith) in
+    let most : owned 32004112 ≡ 32014336 = refl in
     record {
       whole = owned_whole x near.2;
       owned = owned-owned x (omega (arith, near.1));
       room = omega (arith, near.0, owned_ge x);
-      most = omega (arith, owned_monotone x 1000016 near.1 (lit≤ tt), most);
+      most = omega (arith, owned_monotone x 32004112 near.1 (lit≤ tt), most);
     }
 
 pub length-text_of : (code : List Instr) → IsText (length code) (text_length (length code))

@@ -1,9 +1,10 @@
 -- What the costs of a program's code come to, by the weights of its functions.
-use Rattle.std.proofs.Common.{◌≡◌, ℕ, zero, suc, ◌*◌, ◌≤◌, true, List, [], ◌∷◌, length, Some, refl, ap, arith}
+use Rattle.std.proofs.Common.{◌≡◌, ℕ, suc, ◌*◌, ◌≤◌, true, List, [], ◌∷◌, length, Some, refl, ap, arith}
 use Rattle.std.specs.Prelude.{slice_get, ◌&&◌, Bool, false}
 use Rattle.std.specs.List.{sum_by}
 use Rattle.std.proofs.lemmas.List.Sums.{sum_by-cons}
-use Rattle.c_tree.specs.TreeWeight.{function_weight}
+use Rattle.accepted_files.specs.Accepted.{weight_limit}
+use Rattle.c_tree.specs.TreeWeight.{function_limit, function_weight, HasLightFunctions}
 use Rattle.c_tree.specs.Views.{IsOrdered}
 use Rattle.c_tree.specs.Weight.{weight}
 use Rattle.c_tree.specs.declared.typed.FunDef.{FunDef}
@@ -17,11 +18,6 @@ use Rattle.tac_ir.specs.declared.code.Tac.{Tac}
 use Rattle.tac_ir.specs.declared.code.TacFun.{TacFun}
 
 -- ---- sums
-
-sum_member : {A : Type 0} (f : A → ℕ) (xs : List A) (k : ℕ) (x : A) → slice_get xs k ≡ Some x → f x ≤ sum_by f xs
-sum_member f [] k x e = absurd cc
-sum_member f (y ∷ ys) zero x e = let s : y ≡ x = cc in omega (arith, sum_by-cons f y ys, ap f s)
-sum_member f (y ∷ ys) (suc k) x e = omega (arith, sum_by-cons f y ys, sum_member f ys k x e)
 
 sum_below : {A B : Type 0} (f : A → ℕ) (g : B → ℕ) (xs : List A) (ys : List B) → length xs ≡ length ys
     → ((k : ℕ) (a : A) (b : B) → slice_get xs k ≡ Some a → slice_get ys k ≡ Some b → f a ≤ 32 * g b)
@@ -59,20 +55,19 @@ pub same_count : (t : Tac) (p : Typed) → is_well_formed t p ≡ true → lengt
 unfolding is_well_formed
 same_count t p h = as_many p p.funs t.funs h
 
-module _ (p : Typed) (o : IsOrdered p) (light : weight p ≤ 7780) where
-  pub one_light : (k : ℕ) (d : FunDef) → slice_get p.funs k ≡ Some d → function_weight p d ≤ 7780
-  one_light k d e = omega (arith, sum_member (function_weight p) p.funs k d e, weight_of_functions p o, light)
+-- a function weighs 8 at least
+pub few_functions : (p : Typed) → IsOrdered p → weight p ≤ weight_limit → 8 * length p.funs ≤ weight_limit
+few_functions p o all =
+    omega (arith, sum_least (function_weight p) p.funs (λ d. omega arith), weight_of_functions p o, all)
 
-  pub few_functions : length p.funs ≤ 7780
-  few_functions = omega (arith, sum_least (function_weight p) p.funs (λ d. omega arith), weight_of_functions p o, light)
-
+module _ (p : Typed) (o : IsOrdered p) (light : HasLightFunctions p) where
   module _ (t : Tac) (within : WithinCosts t p) (formed : is_well_formed t p ≡ true) where
     pub one_within : (k : ℕ) (f : TacFun) (d : FunDef) → slice_get t.funs k ≡ Some f → slice_get p.funs k ≡ Some d
-        → FunctionCosts (function_weight p d) f × (function_weight p d ≤ 7780)
+        → FunctionCosts (function_weight p d) f × (function_weight p d ≤ function_limit)
     one_within k f d e g =
         let own : weight_in p k ≡ function_weight p d = ap (weight_by p) g in
         let c = within.functions k f e in
-        (record { cost = omega (arith, c.cost, own); temps = omega (arith, c.temps, own) }, one_light k d g)
+        (record { cost = omega (arith, c.cost, own); temps = omega (arith, c.temps, own) }, light.each k d g)
 
     pub total : sum_by function_cost t.funs ≤ 32 * weight p
     total =

@@ -25,7 +25,7 @@ use Rattle.image_load.specs.Loading.{Loaded, loading, loaded_as, after_reading}
 use Rattle.image_load.specs.State.{machine_of}
 use Rattle.typed_build.specs.Built.{HasExtents, IsImage}
 use Rattle.typed_build.specs.Coded.{Selects}
-use Rattle.typed_build.specs.Text.{text_length, text_of}
+use Rattle.typed_build.specs.Text.{code_limit, text_length, text_of}
 use Rattle.typed_build.specs.Written.{Begins, image_with, IsWritten, image_in}
 use Rattle.typed_build.specs.declared.written.Selected.{Selected}
 use Rattle.typed_build.proofs.Coding.{offsets_of}
@@ -48,7 +48,7 @@ loaded_of i = record { image = i; machine = machine_of i }
 -- ---- the text
 
 module _ (p : Typed) (s : Selected) (given : Selects p s) where
-  pub short : 4 * length (code_of s) ≤ 1000000
+  pub short : 4 * length (code_of s) ≤ code_limit
   short = omega (arith, given.coded.size, given.coded.light)
 
   pub is_sized : IsText (length (code_of s)) (size_of s)
@@ -117,9 +117,9 @@ module _ (p : Typed) (s : Selected) (given : Selects p s) where
           let heap_most = legal.heap_most in
           let stack_most = legal.stack_most in
           let table = table_most p (data_within p within) (few_functions p ordered given.coded.light) in
-          let many : m.table.1 ≤ 67600000 = omega (arith, table_long, table) in
+          let many : m.table.1 ≤ 67900000 = omega (arith, table_long, table) in
           let whole : length (text_of (code_of s)) % 16 ≡ 0 = omega (arith, sized, sz.whole) in
-          let long : length (text_of (code_of s)) ≤ 1048576 = omega (arith, sized, sz.most) in
+          let long : length (text_of (code_of s)) ≤ 32014336 = omega (arith, sized, sz.most) in
           let from = d.from in
           let most = d.most in
           let holds = d.table in
@@ -134,7 +134,7 @@ module _ (p : Typed) (s : Selected) (given : Selects p s) where
           d.below)
           (lies m.heap (omega arith) (omega (arith, heap)) range.2.2.0 range.2.2.1)
           (lies m.stack (omega arith) (omega (arith, stack)) range.2.2.2.0 range.2.2.2.1)
-          long (omega (arith, long, most, many, heap_most, stack_most)))
+          (omega (arith, long)) (omega (arith, long, most, many, heap_most, stack_most)))
           (none_overlap (text_extent image) (initial_of image) m.heap m.stack
           (free (text_extent image) (initial_of image) (text_off (initial_of image) d.off_text))
           (free (text_extent image) m.heap (text_off m.heap legal.apart.0.1.0))

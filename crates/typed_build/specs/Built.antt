@@ -35,8 +35,9 @@ use Rattle.cap_reloc.specs.Begins.{asked_by, beginning, IsRelocation}
 use Rattle.cap_reloc.specs.Initial.{ObjectsBegin}
 use Rattle.obj_mem.specs.Counted.{count_of}
 use Rattle.obj_mem.specs.Endings.{is_turns, is_outside}
-use Rattle.c_tree.specs.File.{HasRoom, weight_limit}
+use Rattle.c_tree.specs.File.{HasRoom}
 use Rattle.c_tree.specs.Weight.{weight}
+use Rattle.accepted_files.specs.Accepted.{IsLight}
 use Rattle.typed_build.specs.Text.{IsFilled}
 
 -- ---- what an ending of the machine reports of the program
@@ -136,7 +137,7 @@ start = record { line = 1; col = 1 }
 -- At the start of the file: 141 where there is no room for the objects of a program; else 142 where it is too heavy.
 -- Want of memory is free.
 abbrev pub ExceedsBy : Typed → ℕ → Type 0
-ExceedsBy p code = ((code ≡ 141) × (HasRoom p → ⊥)) ⊎ ((code ≡ 142) × HasRoom p × (weight_limit < weight p))
+ExceedsBy p code = ((code ≡ 141) × (HasRoom p → ⊥)) ⊎ ((code ≡ 142) × HasRoom p × (IsLight p → ⊥))
 
 abbrev pub IsRefusal : Typed → Refusal → Type 0
 IsRefusal p (Code code pos) = (pos ≡ start) × ExceedsBy p code

@@ -2,6 +2,7 @@
 use Rattle.std.specs.Prelude.{◌≡◌, ℕ, ◌+◌, ◌*◌, ◌%◌, ◌^◌, ◌<◌, ◌≤◌, true, List, length, map, slice_get, Some}
 use Rattle.std.specs.List.{All}
 use Rattle.std.specs.List.Sorted.{IsStrictlyIncreasing}
+use Rattle.accepted_files.specs.Accepted.{weight_limit}
 use Rattle.c_tree.specs.Weight.{weight}
 use Rattle.c_tree.specs.declared.typed.Typed.{Typed}
 use Rattle.elf_file.specs.declared.image.Line.{Line}
@@ -30,7 +31,7 @@ pub record IsCode (p : Typed) (t : Tac) : Type 0 where
 -- machine code that has words, no larger than the program allows, with its place of entry and the places of its
 -- accesses
 pub record IsCoded (p : Typed) (code : List Instr) (start : ℕ) (lines : List Line) : Type 0 where
-  pub light : weight p ≤ 7780
+  pub light : weight p ≤ weight_limit
   pub size : 4 * length code ≤ 128 * weight p + 4096
   pub in_range : (k : ℕ) (i : Instr) → slice_get code k ≡ Some i → InRange i
   pub start_even : start % 4 ≡ 0

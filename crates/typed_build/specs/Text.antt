@@ -1,12 +1,17 @@
 -- The text of an image.
-use Rattle.std.specs.Prelude.{ℕ, ◌≡◌, ◌≤◌, ◌-◌, ◌*◌, ◌/◌, pos, List, ◌++◌, length, replicate}
+use Rattle.std.specs.Prelude.{ℕ, ◌≡◌, ◌≤◌, ◌+◌, ◌-◌, ◌*◌, ◌/◌, pos, List, ◌++◌, length, replicate}
 use Rattle.std.specs.List.{flat_map}
+use Rattle.accepted_files.specs.Accepted.{weight_limit}
 use Rattle.cap_concentrate.specs.Rounding.{owned, rounded_up}
 use Rattle.rv_instr.specs.declared.instr.Instr.{Instr}
 use Rattle.rv_instr.specs.declared.instr.Instr.TheVariants.{Cjal}
 use Rattle.rv_code.specs.Formats.{word_of}
 use Rattle.rv_code.specs.Encoding.{fields_of}
 use Rattle.tag_mem.specs.Numbers.{little_bytes}
+
+-- the most bytes of a file's code: 128 for each unit of its weight, and 4,096 more
+abbrev pub code_limit : ℕ
+code_limit = 128 * weight_limit + 4096
 
 -- the bytes of an instruction's word, the lowest first
 abbrev pub instr_bytes : Instr → List ℕ

@@ -1,7 +1,7 @@
 //! The frames of a program's functions.
 ghost use Rattle.std.specs.Prelude.{◌≡◌, ◌≤◌, ◌<◌, ◌^◌, ℕ, false, IfOk, OnOk, ◌++◌, ◌∷◌, [], Some, length, slice_get};
 ghost use Rattle.std.specs.Prelude.{vec_len};
-ghost use Rattle.c_tree.specs.TreeWeight.{function_weight};
+ghost use Rattle.c_tree.specs.TreeWeight.{function_limit, function_weight};
 ghost use Rattle.c_tree.specs.declared.typed.FunDef.{FunDef as Def};
 ghost use Rattle.cap_layout.specs.Kept.{AreLayoutsOf};
 ghost use Rattle.bounds_place.specs.Placing.{locals_exceed, exceeds};
@@ -31,7 +31,7 @@ fn frame_of(
     requires layouts { AreLayoutsOf p.now.types layouts.now }
     requires homes { HasHomes f.now homes.now.homes }
     requires costs { FunctionCosts (function_weight p.now d.now) f.now }
-    requires light { function_weight p.now d.now ≤ 7780 }
+    requires light { function_weight p.now d.now ≤ function_limit }
     requires within { locals_exceed p.now.types d.now ≡ false }
     ensures { IfOk result (FrameFits p.now d.now f.now homes.now) }
 {
@@ -63,7 +63,7 @@ pub fn frames_of(
     requires within { exceeds p.now ≡ false }
     requires costs { (k : ℕ) (f : Function) (d : Def) → slice_get t.now.funs k ≡ Some f →
         slice_get p.now.funs k ≡ Some d →
-        FunctionCosts (function_weight p.now d) f × (function_weight p.now d ≤ 7780) }
+        FunctionCosts (function_weight p.now d) f × (function_weight p.now d ≤ function_limit) }
     ensures len { IfOk result (λ frames. vec_len frames ≡ length p.now.funs) }
     ensures fit { IfOk result (λ frames. FramesFit p.now t.now.funs places.now.items frames.items) }
 {

@@ -2,7 +2,7 @@
 ghost use Rattle.std.specs.Prelude.{◌≡◌, ◌+◌, ◌*◌, ◌++◌, ◌≤◌, ℕ, OnOk, IfOk, Some, slice_get, length, pos};
 ghost use Rattle.rv_instr.specs.Range.{InRange};
 ghost use Rattle.rv_instr.specs.declared.instr.Instr.{Instr as InstrOf};
-ghost use Rattle.typed_build.specs.Text.{instr_bytes, code_bytes, filler, missing, text_of};
+ghost use Rattle.typed_build.specs.Text.{code_limit, instr_bytes, code_bytes, filler, missing, text_of};
 
 use cap_layout::owned;
 use ck_base::NoMemory;
@@ -43,7 +43,7 @@ fn fill(text: &mut Vec<u8>, count: u64) -> Result<(), NoMemory>
 
 /// The words that fill so many to a text that has bounds of its own.
 fn missing(words: u64) -> u64
-    requires { 4 * words ≤ 1000000 }
+    requires { 4 * words ≤ code_limit }
     ensures { result ≡ missing words }
 {
     let size = owned((4 * words + 15) / 16 * 16).length;
@@ -53,7 +53,7 @@ fn missing(words: u64) -> u64
 /// The text of some code: its words, filled up with `cjal c0,0`.
 pub fn text_of(alloc: Global, code: &[Instr]) -> Result<Vec<u8>, NoMemory>
     requires in_range { (k : ℕ) (i : InstrOf) → slice_get code.now k ≡ Some i → InRange i }
-    requires short { 4 * length code.now ≤ 1000000 }
+    requires short { 4 * length code.now ≤ code_limit }
     ensures { IfOk result (λ text. text.items ≡ text_of code.now) }
 {
     let mut text = Vec::new(alloc);

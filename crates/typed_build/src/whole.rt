@@ -1,8 +1,8 @@
 //! Building of a program within its limits: three-address code, homes, frames, machine code and the image.
-ghost use Rattle.std.specs.Prelude.{◌≡◌, ◌≤◌, true, false, length, vec_len, IfOk, IfErr};
-ghost use Rattle.c_tree.specs.File.{weight_limit};
+ghost use Rattle.std.specs.Prelude.{◌≡◌, true, false, length, vec_len, IfOk, IfErr};
+ghost use Rattle.accepted_files.specs.Accepted.{IsLight};
+ghost use Rattle.c_tree.specs.TreeWeight.{HasLightFunctions};
 ghost use Rattle.c_tree.specs.Typing.{Sound};
-ghost use Rattle.c_tree.specs.Weight.{weight};
 ghost use Rattle.cap_layout.specs.Kept.{AreLayoutsOf};
 ghost use Rattle.bounds_place.specs.Placing.{exceeds};
 ghost use Rattle.bounds_place.specs.Sizes.{in_range, HasSizes};
@@ -31,7 +31,7 @@ use tac_lower::lower;
 /// The three-address code of a program, which stands for it. Its instructions are counted in 32 bits.
 fn code_of(alloc: Global, p: &Typed) -> Result<Tac, NoMemory>
     requires sound { Sound p.now }
-    requires light { weight p.now ≤ 7780 }
+    requires light { HasLightFunctions p.now }
     ensures { IfOk result (IsCode p.now) }
 {
     lower(alloc, p)
@@ -48,7 +48,7 @@ fn select_all(
     requires layouts { AreLayoutsOf p.now.types layouts.now }
     requires sound { Sound p.now }
     requires within { exceeds p.now ≡ false }
-    requires light { weight p.now ≤ 7780 }
+    requires light { IsLight p.now }
     requires code { IsCode p.now code.now }
     requires places { vec_len places.now ≡ length code.now.funs }
     requires homes { HaveHomes code.now.funs places.now.items }
@@ -84,7 +84,7 @@ pub fn build_whole(
     requires layouts { AreLayoutsOf p.now.types layouts.now }
     requires sound { Sound p.now }
     requires within { exceeds p.now ≡ false }
-    requires light { weight p.now ≤ weight_limit }
+    requires light { IsLight p.now }
     requires sizes { in_range sizes ≡ true }
     ensures built { IfOk result (λ b. IsBuilt p.now b.elf.items b.map b.count) }
     ensures registers { IfOk result (λ b. UsesRegisters p.now b.code b.places.items b.elf.items b.map) }

@@ -1,5 +1,5 @@
 use Rattle.std.proofs.Common.{rules, arith}
-use Rattle.c_tree.specs.File as files
+use Rattle.accepted_files.specs.Accepted as files
 use Rattle.typing_laws.proofs.Literals.{are_bytes}
 use Rattle.cheric_build.proofs.Fronted.{is_broken, reads, typed, sound, refused}
 use Rattle.cheric_build.proofs.front_end.front.Goals as goal

@@ -27,7 +27,7 @@ returns-in-Return-clause-words c =
 
 pub returns-in-Call-clause-words : goal.returns-in-Call-clause-words
 returns-in-Call-clause-words c =
-    rw (c.in-Call.is, ← c.as_slice.ensures) (on_ok c.call.result _ _ c.call.ensures.words (λ w h. w h.1 h.0))
+    rw (c.in-Call.is, ← c.as_slice.ensures) (on_ok c.call.result _ _ c.call.ensures.words (λ w h. w h.1 h.0 h.2))
 
 pub returns-in-CallValue-clause-words : goal.returns-in-CallValue-clause-words
 returns-in-CallValue-clause-words c =

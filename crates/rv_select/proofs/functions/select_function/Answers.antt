@@ -1,5 +1,6 @@
 use Rattle.std.proofs.Common.{◌≡◌, ◌<◌, length, refl, sym, ap, ◌∙◌, arith}
 use Rattle.std.specs.List.{sum_by}
+use Rattle.std.proofs.lemmas.List.{take_all}
 use Rattle.tac_ir.specs.Costs.{cost}
 use Rattle.rv_select.specs.Choosing.{chosen}
 use Rattle.rv_emit.proofs.Appended.{on_both}
@@ -42,7 +43,15 @@ loop-i-preserved c =
 pub returns-clause-put : goal.returns-clause-put
 returns-clause-put c =
     let ends = c.lead_to_labels.ensures in
+    let all = c.as_slice-all.result.now in
+    let first = c.counted.ensures in
+    let last = c.counted-2.ensures in
+    let begun = c.in_ok-begin.ensures.size.1 in
+    let ready = c.in_ok-parameters.ensures.size.1 in
+    let grown = c.loop-i.invariant.grown.1 in
+    let whole = ap (sum_by cost) (take_all c.loop-i.i-index all c.loop-i-test.false ∙ c.as_slice-all.ensures) in
     on_both c.lead_to_labels.result _ _ _ ends.links ends.led
-    (function_put c.args.f.now c.args.t.now c.args.code.now _ _ _ _ c.as_slice-all.result.now c.loop-i.i-index
+    (λ links led. function_put c.args.f.now c.args.t.now c.args.code.now _ _ _ _ all c.loop-i.i-index
     c.as_slice-all.ensures c.loop-i-test.false c.in_ok-begin.ensures.text c.in_ok-begin.ensures.links
-    c.in_ok-parameters.ensures.words c.in_ok-parameters.ensures.size.2 c.loop-i.invariant.words)
+    c.in_ok-parameters.ensures.words c.in_ok-parameters.ensures.size.2 c.loop-i.invariant.words links led
+    (λ short. omega (arith, first, last, begun, ready, grown, whole, short)))

@@ -44,8 +44,7 @@ function-requires-clause-fits c =
 pub function-requires-clause-light : goal.function-requires-clause-light
 function-requires-clause-light c =
     light_next c.args.p.now c.as_slice-defs.result.now c.loop-d.d-index c.d-item.result c.as_slice-defs.ensures
-    c.loop-d-test.true c.d-item.is
-    c.requires.listed c.requires.light
+    c.loop-d-test.true c.d-item.is c.requires.light
 
 pub loop-d-preserved : goal.loop-d-preserved
 loop-d-preserved c =

@@ -15,7 +15,8 @@ returns-then-is_capability c =
       adds = IfOk-weaker c.work.result _ _
           (λ r g. adds_then c.in_ok-n.ensures.adds g) c.work.ensures.adds;
       spent = IfOk-weaker c.work.result _ _
-          (λ r g. spent_then c.in_ok-n.ensures.spent g) c.work.ensures.spent;
+          (λ r g. spent_within (spent_then (c.in_ok-n.ensures.alike c.requires.right) g) (omega arith) (omega arith))
+          c.work.ensures.spent;
       emits = IfOk-weaker c.work.result _ _
           (λ r g. changed_address_emits _ _ _ _ (sym c.is_capability.ensures ∙ c.if-is_capability.true)
           c.in_ok-n.ensures.next
@@ -30,7 +31,7 @@ returns-else-is_capability c =
       adds = IfOk-weaker c.convert.result _ _
           (λ r g. adds_then c.in_ok-n.ensures.adds g) c.convert.ensures.adds;
       spent = IfOk-weaker c.convert.result _ _
-          (λ r g. spent_within (spent_then c.in_ok-n.ensures.spent g) (omega arith) (omega arith))
+          (λ r g. spent_then (c.in_ok-n.ensures.alike c.requires.right) g)
           c.convert.ensures.spent;
       emits = IfOk-weaker c.convert.result _ _
           (λ r g. changed_back_emits _ _ _ _ (sym c.is_capability.ensures ∙ c.if-is_capability.false)

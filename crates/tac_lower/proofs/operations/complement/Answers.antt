@@ -1,3 +1,6 @@
+use Rattle.std.proofs.Common.{subst, sym}
+use Rattle.tac_ir.specs.declared.code.TacKind.TheVariants as kinds
+use Rattle.tac_emit.specs.Emitted.{IsWide}
 use Rattle.tac_emit.proofs.Spending.{spent_then}
 use Rattle.std.proofs.lemmas.Result.{IfOk-weaker, IfOk-from_err as fails}
 use Rattle.tac_emit.proofs.Wells.{grown_then, adds_then, kept}
@@ -14,7 +17,8 @@ returns c =
       spent = IfOk-weaker c.int.result _ _
           (λ r g. spent_then c.in_ok-ones.ensures.spent g) c.int.ensures.spent;
       wide = (λ e. IfOk-weaker c.int.result _ _
-          (λ r g. spent_then (c.in_ok-ones.ensures.short (c.all_ones.ensures.short e)) g) (c.int.ensures.wide e));
+          (λ r g. spent_then (c.in_ok-ones.ensures.short (c.all_ones.ensures.short e)) g)
+          (c.int.ensures.wide (subst (λ z. IsWide (kinds.Int z)) (sym e) tt)));
       emits = IfOk-weaker c.int.result _ _
           (λ r g. complement_emits c.in_ok-ones.ensures.next c.all_ones.ensures.is c.in_ok-ones.ensures.emits g)
           c.int.ensures.emits;

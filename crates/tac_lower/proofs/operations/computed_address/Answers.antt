@@ -28,7 +28,13 @@ int-requires-clause-to c = kept _ _ _ _ c.in_ok-n.ensures.has c.in_ok-m.ensures.
 
 pub returns-clause-spent : goal.returns-clause-spent
 returns-clause-spent c =
-    (spent_then (spent_then c.in_ok-n.ensures.spent c.in_ok-m.ensures.spent) c.in_ok-int.ensures.spent)
+    spent_then (spent_then c.in_ok-n.ensures.spent c.in_ok-m.ensures.spent)
+    (c.in_ok-int.ensures.wide c.address_kind-kind.ensures.wide)
+
+pub returns-clause-alike : goal.returns-clause-alike
+returns-clause-alike c = λ fits.
+    spent_then (spent_then c.in_ok-n.ensures.spent (c.in_ok-m.ensures.alike c.address_kind-kind.ensures.wide fits))
+    (c.in_ok-int.ensures.wide c.address_kind-kind.ensures.wide)
 
 pub returns-clause-adds : goal.returns-clause-adds
 returns-clause-adds c = (adds_then (adds_then c.in_ok-n.ensures.adds c.in_ok-m.ensures.adds) c.in_ok-int.ensures.adds)
@@ -38,6 +44,7 @@ returns-in_err-n c =
     let e = c.from_residual.ensures.0 in
     record {
       adds = fails _ _ e;
+      alike = λ q. fails _ _ e;
       as_integer = fails _ _ e;
       emits = fails _ _ e;
       grown = fails _ _ e;
@@ -52,6 +59,7 @@ returns-in_err-m c =
     let e = c.from_residual-in_err-m.ensures.0 in
     record {
       adds = fails _ _ e;
+      alike = λ q. fails _ _ e;
       as_integer = fails _ _ e;
       emits = fails _ _ e;
       grown = fails _ _ e;
@@ -66,6 +74,7 @@ returns-in_err-int c =
     let e = c.from_residual-in_err-int.ensures.0 in
     record {
       adds = fails _ _ e;
+      alike = λ q. fails _ _ e;
       as_integer = fails _ _ e;
       emits = fails _ _ e;
       grown = fails _ _ e;

@@ -1,5 +1,5 @@
 use Rattle.tac_emit.proofs.Spending.{spent_then, spent_within}
-use Rattle.std.proofs.Common.{arith}
+use Rattle.std.proofs.Common.{refl, arith}
 use Rattle.std.proofs.lemmas.Result.{IfOk-weaker, IfOk-from_err as fails}
 use Rattle.tac_emit.proofs.Wells.{grown_then, adds_then, kept}
 use Rattle.ck_int.specs.declared.kinds.IntKind.TheVariants as int
@@ -18,9 +18,8 @@ returns-then-size-eq1 c =
       adds = IfOk-weaker c.int.result _ _
           (λ r g. adds_then (adds_then c.in_ok-n.ensures.adds c.in_ok-m.ensures.adds) g) c.int.ensures.adds;
       spent = IfOk-weaker c.int.result _ _
-          (λ r g. spent_within (spent_then (spent_then c.in_ok-n.ensures.spent c.in_ok-m.ensures.spent) g) (omega
-          arith)
-          (omega arith)) c.int.ensures.spent;
+          (λ r g. spent_within (spent_then (spent_then (c.in_ok-n.ensures.address refl tt)
+          (c.in_ok-m.ensures.address refl tt)) g) (omega arith) (omega arith)) c.int.ensures.spent;
       emits = (let w : (c.args.size == 1) ≡ true = grind (arith, nat_tests) in
           IfOk-weaker c.int.result _ _
           (λ r g. one_apart_emits _ w c.in_ok-n.ensures.next c.in_ok-m.ensures.next c.in_ok-n.ensures.emits
@@ -42,7 +41,8 @@ returns c =
           (λ r g. adds_then (adds_then (adds_then (adds_then c.in_ok-n.ensures.adds c.in_ok-m.ensures.adds)
           c.in_ok-int.ensures.adds) c.in_ok-constant.ensures.adds) g) c.int-3.ensures.adds;
       spent = IfOk-weaker c.int-3.result _ _
-          (λ r g. spent_then (spent_then (spent_then (spent_then c.in_ok-n.ensures.spent c.in_ok-m.ensures.spent)
+          (λ r g. spent_then (spent_then (spent_then (spent_then (c.in_ok-n.ensures.address refl tt)
+          (c.in_ok-m.ensures.address refl tt))
           c.in_ok-int.ensures.spent) c.in_ok-constant.ensures.spent) g) c.int-3.ensures.spent;
       emits = (let w : (c.args.size == 1) ≡ false = grind (arith, nat_tests) in
           IfOk-weaker c.int-3.result _ _

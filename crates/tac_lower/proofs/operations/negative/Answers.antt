@@ -1,4 +1,5 @@
-use Rattle.std.proofs.Common.{refl}
+use Rattle.std.proofs.Common.{refl, subst, sym}
+use Rattle.tac_emit.specs.Emitted.{IsWide}
 use Rattle.tac_emit.proofs.Spending.{spent_then}
 use Rattle.std.proofs.lemmas.Result.{IfOk-weaker, IfOk-from_err as fails}
 use Rattle.tac_emit.proofs.Wells.{grown_then, adds_then, kept}
@@ -20,7 +21,8 @@ returns c =
       spent = IfOk-weaker c.int.result _ _
           (λ r g. spent_then (c.in_ok-zero.ensures.short refl) g) c.int.ensures.spent;
       wide = (λ e. IfOk-weaker c.int.result _ _
-          (λ r g. spent_then (c.in_ok-zero.ensures.short refl) g) (c.int.ensures.wide e));
+          (λ r g. spent_then (c.in_ok-zero.ensures.short refl) g)
+          (c.int.ensures.wide (subst (λ z. IsWide (kinds.Int z)) (sym e) tt)));
       emits = IfOk-weaker c.int.result _ _
           (λ r g. negative_emits c.in_ok-zero.ensures.next c.in_ok-zero.ensures.emits g) c.int.ensures.emits;
     }

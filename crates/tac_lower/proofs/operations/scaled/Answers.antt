@@ -69,7 +69,9 @@ returns-in_ok-int-clause-adds c =
 
 pub returns-in_ok-int-2-clause-spent : goal.returns-in_ok-int-2-clause-spent
 returns-in_ok-int-2-clause-spent c =
-    (spent_then (spent_then c.in_ok-n.ensures.spent c.in_ok-size-2.ensures.spent) c.in_ok-int-2.ensures.spent)
+    spent_then (spent_then c.in_ok-n.ensures.spent c.in_ok-size-2.ensures.spent)
+    (c.in_ok-int-2.ensures.wide
+    (subst (λ z. IsWide (kinds.Int z)) (sym c.wide_kind-kind.ensures) (wide_is c.args.i.kind)))
 
 pub returns-in_ok-int-2-clause-adds : goal.returns-in_ok-int-2-clause-adds
 returns-in_ok-int-2-clause-adds c =

@@ -14,7 +14,8 @@ returns c =
           (λ r g. adds_then (adds_then c.in_ok-n.ensures.adds c.in_ok-signed_integer.ensures.adds) g)
           c.work.ensures.adds;
       spent = IfOk-weaker c.work.result _ _
-          (λ r g. spent_then (spent_then c.in_ok-n.ensures.spent (c.in_ok-signed_integer.ensures.wide refl)) g)
+          (λ r g. spent_then (spent_then (c.in_ok-n.ensures.address c.requires.capability tt)
+          (c.in_ok-signed_integer.ensures.wide refl)) g)
           c.work.ensures.spent;
       emits = IfOk-weaker c.work.result _ _
           (λ r g. signed_emits _ _ c.requires.capability c.in_ok-n.ensures.next c.in_ok-n.ensures.emits

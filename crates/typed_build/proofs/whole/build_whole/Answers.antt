@@ -4,6 +4,12 @@ use Rattle.typed_build.proofs.Meaning.{is_built}
 use Rattle.typed_build.proofs.Used.{is_text}
 use Rattle.typed_build.proofs.whole.build_whole.Goals as goal
 
+pub code_of-requires-clause-light : goal.code_of-requires-clause-light
+code_of-requires-clause-light c = c.requires.light.each
+
+pub count_of-count-requires-clause-light : goal.count_of-count-requires-clause-light
+count_of-count-requires-clause-light c = c.requires.light.all
+
 pub places_of-requires : goal.places_of-requires
 places_of-requires c k f e = record {
   numbered = numbered c.in_ok-code.code c.args.p.now k f c.in_ok-code.ensures.formed e;

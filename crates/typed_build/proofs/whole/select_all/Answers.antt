@@ -5,7 +5,7 @@ use Rattle.rv_emit.specs.Growing.{AreEntries}
 use Rattle.typed_build.proofs.Coding.{coded_of, some_word}
 use Rattle.lower_forms.proofs.Running.{code_has_form}
 use Rattle.typed_build.proofs.Framing.{are_frames, framed}
-use Rattle.typed_build.proofs.Selecting.{are_kept, are_selectable, heap_small}
+use Rattle.typed_build.proofs.Selecting.{are_kept, are_selectable, heap_small, reaches_first}
 use Rattle.typed_build.proofs.Weighing.{same_count, one_within, few_functions, total}
 use Rattle.typed_build.proofs.whole.select_all.Goals as goal
 
@@ -14,12 +14,12 @@ frames_of-requires-clause-funs c = same_count c.args.code.now c.args.p.now c.req
 
 pub frames_of-requires-clause-few : goal.frames_of-requires-clause-few
 frames_of-requires-clause-few c =
-    omega (arith, few_functions c.args.p.now (well_typed c.args.p.now c.requires.sound).ordered c.requires.light)
+    omega (arith, few_functions c.args.p.now (well_typed c.args.p.now c.requires.sound).ordered c.requires.light.all)
 
 pub frames_of-requires-clause-costs : goal.frames_of-requires-clause-costs
 frames_of-requires-clause-costs c =
     let code = c.requires.code in
-    one_within c.args.p.now (well_typed c.args.p.now c.requires.sound).ordered c.requires.light c.args.code.now
+    one_within c.args.p.now (well_typed c.args.p.now c.requires.sound).ordered c.requires.light.each c.args.code.now
     code.within.costs code.formed
 
 pub frames_of-requires-clause-places : goal.frames_of-requires-clause-places
@@ -35,7 +35,11 @@ select-requires-clause-costs c =
     let p = c.args.p.now in
     let code = c.requires.code in
     let ordered = (well_typed p c.requires.sound).ordered in
-    omega (arith, c.requires.light, total p ordered c.requires.light c.args.code.now code.within.costs code.formed)
+    omega (
+      arith,
+      c.requires.light.all,
+      total p ordered c.requires.light.each c.args.code.now code.within.costs code.formed,
+    )
 
 pub select-requires-clause-framed : goal.select-requires-clause-framed
 select-requires-clause-framed c =
@@ -62,11 +66,11 @@ returns-clause-selects c =
     let words : code.len ≡ length code.items = omega (arith, code.ok) in
     let there = subst (λ n. AreEntries n entries.items) words given.entries in
     let some = some_word p typed (length code.items) entries.items each there in
-    let cost = total p typed.ordered c.requires.light c.args.code.now given_code.within.costs given_code.formed in
+    let cost = total p typed.ordered c.requires.light.each c.args.code.now given_code.within.costs given_code.formed in
     let size : 4 * length code.items ≤ 128 * weight p + 4096 = omega (arith, words, given.size, cost) in
     record {
       coded =
-          coded_of p code.items items.start items.lines.items c.requires.light size given.text given.start
+          coded_of p code.items items.start items.lines.items c.requires.light.all size given.text given.start
           some;
       frames =
           are_frames p c.args.code.now.funs places.items frames.items count
@@ -89,7 +93,7 @@ returns-clause-program c =
     let given = c.in_ok-code.ensures in
     let fit = c.in_ok-frames.ensures.fit in
     let count = same_count t p code.formed in
-    let form = code_has_form p sound light t code.is code.formed code.within in
+    let form = code_has_form p sound light.each t code.is code.formed code.within in
     let keeps = are_kept p t places.items form count code.within c.requires.homes in
     record {
       each = omega (arith, c.requires.places, places.ok);
@@ -97,6 +101,6 @@ returns-clause-program c =
       is_code = code;
       keeps = keeps;
       frames = fit;
-      selected = given.selected (heap_small p sound within light)
-          (are_selectable p sound within light t places.items frames form count keeps fit);
+      selected = given.selected (heap_small p sound within light) (reaches_first p sound within light)
+          (are_selectable p sound within light t places.items frames form code.within.costs count keeps fit);
     }

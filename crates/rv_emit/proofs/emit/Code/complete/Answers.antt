@@ -6,11 +6,11 @@ use Rattle.rv_emit.proofs.emit.Code.complete.Goals as goal
 
 pub returns-clause-text : goal.returns-clause-text
 returns-clause-text c =
-    text_whole _ _ _ _ _ _ _ c.in_ok-push.ensures.items c.self.invariant c.lead_to_entries.ensures.led
+    text_whole _ _ _ _ _ _ _ c.in_ok-push.ensures.items c.self.invariant.0 c.lead_to_entries.ensures.led
 
 pub returns-clause-contained : goal.returns-clause-contained
 returns-clause-contained c =
-    contained_whole _ _ _ _ _ _ _ c.in_ok-push.ensures.items c.self.invariant c.lead_to_entries.ensures.led
+    contained_whole _ _ _ _ _ _ _ c.in_ok-push.ensures.items c.self.invariant.0 c.lead_to_entries.ensures.led
 
 pub returns-clause-led : goal.returns-clause-led
 returns-clause-led c =

@@ -9,7 +9,7 @@ pub lead_to_marks-requires-clause-marks : goal.lead_to_marks-requires-clause-mar
 lead_to_marks-requires-clause-marks c =
     rw c.as_slice-2.ensures.value
     (All-permutation
-    (λ n. IsSoFar c.self.inside.words.items n.at) _ _ c.sort_by_key.ensures.permutation c.self.invariant.targets.labels)
+    (λ n. IsSoFar c.self.inside.words.items n.at) _ _ c.sort_by_key.ensures.permutation c.self.invariant.0.targets.labels)
 
 pub lead_to_marks-requires-clause-ordered : goal.lead_to_marks-requires-clause-ordered
 lead_to_marks-requires-clause-ordered c =

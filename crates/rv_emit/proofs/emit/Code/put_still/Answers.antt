@@ -5,4 +5,5 @@ pub invariant_of-self : goal.invariant_of-self
 invariant_of-self c = rw c.in_err-push.ensures.items c.self.invariant
 
 pub invariant_of-self-2 : goal.invariant_of-self-2
-invariant_of-self-2 c = growing_still _ _ _ _ _ _ _ c.in_ok-push.ensures.items c.self.invariant c.requires
+invariant_of-self-2 c =
+    (growing_still _ _ _ _ _ _ _ c.in_ok-push.ensures.items c.self.invariant.0 c.requires, c.self.invariant.1)

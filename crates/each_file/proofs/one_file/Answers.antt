@@ -1,7 +1,7 @@
 use Rattle.c_lex.proofs.OneReading.{one_lexing, one_refusal, lexing_no_refusal}
-use Rattle.c_tree.proofs.OneFile as files
+use Rattle.accepted_files.proofs.OneFile as files
 use Rattle.c_externals.proofs.StatementsComplete.{one_tree}
-use Rattle.c_parse.proofs.laws.one_file.Goals as goal
+use Rattle.each_file.proofs.one_file.Goals as goal
 
 pub returns : goal.returns
 returns c = λ bytes. files.one_file bytes (record {

@@ -8,26 +8,20 @@ use Rattle.ck_base.specs.Lexes.{Lexes}
 use Rattle.c_tree.specs.declared.typed.Typed.{Typed}
 use Rattle.c_tree.specs.Syntax.{Syn, height}
 use Rattle.c_tree.specs.Parses.{DerivesFile}
-use Rattle.c_tree.specs.Weight.{weight}
 use Rattle.c_tree.specs.Typing.{TypesSyntax, RefusesSyntax, Alike}
 use Rattle.c_tree.specs.Brackets.{height_limit, excess}
-use Rattle.c_tree.specs.File.{file_limit, weight_limit, HasRoom, IsCut, IsRead, Accepts, Refused, too_long, lexical}
-use Rattle.c_tree.specs.File.{brackets, no_tree, typing, room, too_heavy, ReadsOnce, OneFile}
+use Rattle.c_tree.specs.File.{file_limit, HasRoom, IsCut, IsRead}
 use Rattle.c_tree.proofs.OneAnswer.{one_answer}
-use Rattle.c_tree.proofs.Weighed.{weight_of_program}
 use Rattle.c_tree.proofs.ViewRoom.{same_room}
+use Rattle.accepted_files.specs.Accepted.{IsLight, Accepts, Refused, too_long, lexical, brackets, no_tree, typing}
+use Rattle.accepted_files.specs.Accepted.{room, too_heavy, ReadsOnce, OneFile}
+use Rattle.accepted_files.proofs.Light.{same_light}
 
 same_syntax : (bytes : List ℕ) (o : ReadsOnce bytes) (a b : List Lexeme) (x y : Syn) → IsRead bytes a x →
     IsRead bytes b y → x ≡ y
 same_syntax bytes o a b x y s t =
     let e = o.tokens a b s.cut.lexes t.cut.lexes in
     o.syntax b x y (subst (λ ts. DerivesFile ts x) e s.derives) t.derives
-
--- programs of one syntax weigh the same
-same_weight : (x : Syn) (p q : Typed) → TypesSyntax x p → TypesSyntax x q → weight p ≡ weight q
-same_weight x p q s t =
-    let a = (one_answer x).typed p q s t in
-    weight_of_program p a.program s.ordered a.first ∙ sym (weight_of_program q a.program t.ordered a.second)
 
 alike : (bytes : List ℕ) (o : ReadsOnce bytes) (a b : List Lexeme) (x y : Syn) (p q : Typed) → IsRead bytes a x →
     IsRead bytes b y → TypesSyntax x p → TypesSyntax y q → Alike p q
@@ -66,11 +60,12 @@ not_roomy bytes o a b x y p q s u h t v r =
     h (same_room q p k.program w.ordered u.ordered k.first k.second r)
 
 not_heavy : (bytes : List ℕ) (o : ReadsOnce bytes) (a b : List Lexeme) (x y : Syn) (p q : Typed) → IsRead bytes a x →
-    TypesSyntax x p → weight_limit < weight p → IsRead bytes b y → TypesSyntax y q → weight q ≤ weight_limit → ⊥
-not_heavy bytes o a b x y p q s u h t v k =
-    let f = same_syntax bytes o a b x y s t in
-    let e = same_weight y p q (subst (λ z. TypesSyntax z p) f u) v in
-    omega arith
+    TypesSyntax x p → (IsLight p → ⊥) → IsRead bytes b y → TypesSyntax y q → IsLight q → ⊥
+not_heavy bytes o a b x y p q s u h t v l =
+    let f = same_syntax bytes o b a y x t s in
+    let w = subst (λ z. TypesSyntax z q) f v in
+    let k = (one_answer x).typed q p w u in
+    h (same_light q p k.program w.ordered u.ordered k.first k.second l)
 
 apart : (bytes : List ℕ) (o : ReadsOnce bytes) (p : Typed) (c : ℕ) (q : Pos) → Accepts bytes p → Refused bytes c q → ⊥
 apart bytes o p c q a (too_long h) = not_long bytes h a.reads.cut.short
