@@ -28,6 +28,8 @@ mod initialised_files;
 #[cfg(test)]
 mod long_files;
 #[cfg(test)]
+mod marked_files;
+#[cfg(test)]
 mod meant_examples;
 #[cfg(test)]
 mod meant_files;

@@ -1,5 +1,5 @@
 -- The command: what each answer says of the words, the files, the input and the output.
-use Rattle.std.specs.Prelude.{◌≡◌, ◌⊎◌, ℕ, ◌<◌, ◌≤◌, List, length, Option, Some, None, ⊤}
+use Rattle.std.specs.Prelude.{◌≡◌, ◌⊎◌, ℕ, ◌<◌, ◌≤◌, List, [], length, Option, Some, None, ⊤}
 use Rattle.ck_base.specs.Files.{FileMap, HasFile}
 use Rattle.ck_base.specs.Calls.{Seen}
 use Rattle.command_line.specs.Lines.{Mode, Run, Build, Exec, Audit, Mean, ShowMap, ShowListing, Line, OfFile, Generate}
@@ -70,17 +70,23 @@ ModeSays a file (Mean turns) answer = FilesKept a × MeanSays a.before a.after f
 ModeSays a file (ShowMap sizes) answer = FilesKept a × MapSays a.before a.after file sizes answer
 ModeSays a file (ShowListing sizes) answer = FilesKept a × ListingSays a.before a.after file sizes answer
 
--- the file of this name was not read, and nothing was put or taken; or it was, and so on by the mode
-abbrev pub FileSays : Around → List ℕ → Mode → Answer → Type 0
-FileSays a name mode answer =
-    (NotRead a.files_before a.files_after name answer × Untouched a) ⊎
-    ((file : List ℕ) × HasRead a.files_before name file × ModeSays a file mode answer)
+-- the file whose places an answer names, by the file that was read: an image names none
+abbrev pub source_of : Mode → List ℕ → List ℕ
+source_of (Exec steps) file = []
+source_of Audit file = []
+source_of mode file = file
 
--- what each answer says of a line
-abbrev pub LineSays : Around → Line → Answer → Type 0
-LineSays a (OfFile name mode) answer = FileSays a name mode answer
-LineSays a (Generate functions steps sizes) answer =
-    FilesKept a × GenerateSays a.before a.after functions steps sizes answer
+-- the file of this name was not read, and nothing was put or taken; or it was, and so on by the mode
+abbrev pub FileSays : Around → List ℕ → Mode → List ℕ → Answer → Type 0
+FileSays a name mode source answer =
+    (NotRead a.files_before a.files_after name answer × Untouched a × (source ≡ [])) ⊎
+    ((file : List ℕ) × HasRead a.files_before name file × ModeSays a file mode answer × (source ≡ source_of mode file))
+
+-- what each answer says of a line, and of which file it names places
+abbrev pub LineSays : Around → Line → List ℕ → Answer → Type 0
+LineSays a (OfFile name mode) source answer = FileSays a name mode source answer
+LineSays a (Generate functions steps sizes) source answer =
+    FilesKept a × GenerateSays a.before a.after functions steps sizes answer × (source ≡ [])
 
 -- the words are no line, or there was no memory to read them; nothing else was done
 abbrev pub NoLineSays : Around → List (List ℕ) → Answer → Type 0
@@ -88,13 +94,17 @@ NoLineSays a words Words = ((line : Line) → IsLine words line → ⊥) × File
 NoLineSays a words Memory = FilesKept a × Untouched a
 NoLineSays a words answer = ⊥
 
--- what each answer says of the words
-abbrev pub Says : Around → List (List ℕ) → Answer → Type 0
-Says a words answer = NoLineSays a words answer ⊎ ((line : Line) × IsLine words line × LineSays a line answer)
+-- what each answer says of the words, and of which file it names places: of none where it is empty
+abbrev pub Says : Around → List (List ℕ) → List ℕ → Answer → Type 0
+Says a words source answer =
+    (NoLineSays a words answer × (source ≡ [])) ⊎
+    ((line : Line) × IsLine words line × LineSays a line source answer)
 
--- What the call did: an answer, which says how the outside was used, and was said to the notes with its status.
+-- What the call did: an answer, which says how the outside was used, and was said to the notes with its status and with
+-- the places that the line markers of its file give.
 pub record IsDone (a : Around) (words : List (List ℕ)) (status : ℕ) (notes_before notes_after : Option (List ℕ))
     (notes_faults_before notes_faults_after : ℕ) : Type 0 where
+  pub source : List ℕ
   pub answer : Answer
-  pub says : Says a words answer
-  pub said : IsSaid answer status notes_before notes_after notes_faults_before notes_faults_after
+  pub says : Says a words source answer
+  pub said : IsSaid source answer status notes_before notes_after notes_faults_before notes_faults_after

@@ -1,12 +1,13 @@
 //! The call that does all that the program does.
-ghost use Rattle.std.specs.Prelude.{◌≡◌, ◌<◌, ◌-◌, ◌^◌, IfOk, MatchResult, map, string_bytes};
+ghost use Rattle.std.specs.Prelude.{◌≡◌, ℕ, List, ◌<◌, ◌-◌, ◌^◌, IfOk, MatchResult, map, string_bytes};
 ghost use Rattle.bounds_place.specs.declared.sizes.Sizes.{Sizes as SizesOf};
 ghost use Rattle.ck_base.specs.Calls.{seen};
 ghost use Rattle.command_line.specs.Lines.{Build};
 ghost use Rattle.command_line.specs.Asked.{mode_of, IsInRange};
 ghost use Rattle.command_line.specs.declared.line.Mode.TheVariants as modes;
 ghost use Rattle.command_modes.specs.Modes.{files_seen};
-ghost use Rattle.cheric_top.specs.Command.{around, HasRead, NotRead, ModeSays, FileSays, Says, IsDone};
+ghost use Rattle.cheric_top.specs.Command.{around, HasRead, NotRead, ModeSays, FileSays};
+ghost use Rattle.cheric_top.specs.Command.{source_of, Says, IsDone};
 
 use ck_base::{FileError, Files, NoMemory, Sink, Source};
 use command_line::{Line, Mode, line_of};
@@ -81,7 +82,18 @@ fn work_on<F: Files, I: Source, O: Sink>(
     }
 }
 
-/// Reads a file and does with it what a mode does.
+/// The file whose places the answers of a mode name, by the file that was read.
+fn source_of(alloc: Global, mode: Mode<'_>, file: Vec<u8>) -> Vec<u8>
+    ensures { (name : List ℕ) → result.items ≡ source_of (mode_of name mode.entry) file.items }
+{
+    match mode {
+        Mode::Exec(_) => Vec::new(alloc),
+        Mode::Audit => Vec::new(alloc),
+        _ => file,
+    }
+}
+
+/// Reads a file and does with it what a mode does: the answer, and the file whose places it names.
 fn work_on_name<F: Files, I: Source, O: Sink>(
     alloc: Global,
     name: &str,
@@ -89,7 +101,7 @@ fn work_on_name<F: Files, I: Source, O: Sink>(
     files: &mut F,
     input: &mut I,
     out: &mut O,
-) -> Answer
+) -> (Answer, Vec<u8>)
     requires files_room { F.faults files.old < 2 ^ 64 - 1 }
     requires source_room { I.faults input.old < 2 ^ 64 - 1 }
     requires sink_room { O.faults out.old < 2 ^ 64 - 1 }
@@ -98,22 +110,25 @@ fn work_on_name<F: Files, I: Source, O: Sink>(
         (files_seen (F.told files.new) (F.faults files.new))
         (seen (I.left input.old) (I.faults input.old) (O.held out.old) (O.faults out.old))
         (seen (I.left input.new) (I.faults input.new) (O.held out.new) (O.faults out.new))) name.now
-        (mode_of name.now mode.entry) result }
+        (mode_of name.now mode.entry) result.1.items result.0 }
 {
     match read(alloc, files, name) {
-        Ok(file) => work_on(alloc, name, mode, &file, files, input, out),
-        Err(answer) => answer,
+        Ok(file) => {
+            let answer = work_on(alloc, name, mode, &file, files, input, out);
+            (answer, source_of(alloc, mode, file))
+        }
+        Err(answer) => (answer, Vec::new(alloc)),
     }
 }
 
-/// Does what the words say.
+/// Does what the words say: the answer, and the file whose places it names.
 fn work<F: Files, I: Source, O: Sink>(
     alloc: Global,
     words: &Vec<String>,
     files: &mut F,
     input: &mut I,
     out: &mut O,
-) -> Answer
+) -> (Answer, Vec<u8>)
     requires files_room { F.faults files.old < 2 ^ 64 - 1 }
     requires source_room { I.faults input.old < 2 ^ 64 - 1 }
     requires sink_room { O.faults out.old < 2 ^ 64 - 1 }
@@ -121,15 +136,17 @@ fn work<F: Files, I: Source, O: Sink>(
         (files_seen (F.told files.new) (F.faults files.new))
         (seen (I.left input.old) (I.faults input.old) (O.held out.old) (O.faults out.old))
         (seen (I.left input.new) (I.faults input.new) (O.held out.new) (O.faults out.new)))
-        (map (λ s. string_bytes s) words.now.items) result }
+        (map (λ s. string_bytes s) words.now.items) result.1.items result.0 }
 {
+    let none = Vec::new(alloc);
     match line_of(alloc, words.as_slice()) {
         Ok(Some(Line::OfFile(name, mode))) => work_on_name(alloc, name, mode, files, input, out),
-        Ok(Some(Line::Generate(functions, steps, sizes))) => {
-            show_generated(alloc, functions, (steps, sizes), out)
-        }
-        Ok(None) => Answer::Words,
-        Err(NoMemory) => Answer::Memory,
+        Ok(Some(Line::Generate(functions, steps, sizes))) => (
+            show_generated(alloc, functions, (steps, sizes), out),
+            none,
+        ),
+        Ok(None) => (Answer::Words, none),
+        Err(NoMemory) => (Answer::Memory, none),
     }
 }
 
@@ -143,7 +160,8 @@ fn work<F: Files, I: Source, O: Sink>(
 /// relocation first breaks a rule. `mean` runs the strict meaning of a C file over `input` and `out`. `map` and `list`
 /// put to `out` where the parts of a C file's program stand, and the listing of its text. `gen` generates a C file of N
 /// functions, runs it and puts a summary to `out`. But for these three where they succeed, one line of text on the
-/// outcome goes to `notes`.
+/// outcome goes to `notes`. A place in it is one of the C file as its line markers give it: a file name, where there is
+/// one, a line and a column.
 pub fn cheric<F: Files, I: Source, O: Sink, N: Sink>(
     alloc: Global,
     words: &Vec<String>,
@@ -163,6 +181,6 @@ pub fn cheric<F: Files, I: Source, O: Sink, N: Sink>(
         (map (λ s. string_bytes s) words.now.items) result (N.held notes.old) (N.held notes.new) (N.faults notes.old)
         (N.faults notes.new) }
 {
-    let answer = work(alloc, words, files, input, out);
-    say(answer, notes)
+    let (answer, source) = work(alloc, words, files, input, out);
+    say(answer, &source, notes)
 }

@@ -1,6 +1,7 @@
 -- What the command answers: the status and the line of each answer.
 use Rattle.std.specs.Prelude.{◌≡◌, ℕ, zero, suc, ◌<◌, ◌≤◌, Bool, true, false, if◌then◌else◌, List, [], ◌∷◌, ◌++◌}
 use Rattle.std.specs.Prelude.{Option, Some, None, codes, decimal}
+use Rattle.std.specs.Option.{option_map_or}
 use Rattle.std.specs.Io.KnownBytes.{Appends}
 use Rattle.ck_base.specs.Outside.{AppendsPart}
 use Rattle.ck_base.specs.declared.positions.Pos.{Pos}
@@ -20,6 +21,7 @@ use Rattle.image_load.specs.Loading.{load_number}
 use Rattle.command_modes.specs.declared.answer.Answer.{Answer}
 use Rattle.elf_audit.specs.declared.verdict.Verdict.{Verdict}
 use Rattle.elf_audit.specs.declared.verdict.Verdict.TheVariants as verdict
+use Rattle.line_marks.specs.Marks.{Place, marked}
 use Rattle.obj_mem.specs.declared.ending.Ending.{Ending}
 use Rattle.obj_mem.specs.declared.ending.Ending.TheVariants as ending
 use Rattle.obj_mem.specs.declared.ending.Reason.{Reason}
@@ -120,8 +122,17 @@ reason_text reason.Excursion = codes "excursion"
 reason_text reason.Heap = codes "heap"
 reason_text reason.Overlap = codes "overlap"
 
-abbrev pub pos_text : Pos → List ℕ
-pos_text pos = decimal pos.line ++ codes ":" ++ decimal pos.col
+-- the name of a file, before what stands in it
+abbrev pub name_text : List ℕ → List ℕ
+name_text [] = []
+name_text (b ∷ bs) = (b ∷ bs) ++ codes ":"
+
+abbrev pub marked_text : Place → List ℕ
+marked_text place = name_text place.name ++ decimal place.line ++ codes ":" ++ decimal place.col
+
+-- a position of a file, as the line markers of the file place it
+abbrev pub place_text : List ℕ → Pos → List ℕ
+place_text file pos = marked_text (marked file pos)
 
 -- a word by its address, a relocation by its number from 0, each with the reason
 abbrev pub audit_text : Verdict → List ℕ
@@ -129,27 +140,41 @@ audit_text verdict.Yes = codes "audit yes"
 audit_text (verdict.Word at reason) = codes "audit no word " ++ decimal at ++ codes " " ++ decimal reason
 audit_text (verdict.Reloc k reason) = codes "audit no reloc " ++ decimal k ++ codes " " ++ decimal reason
 
-abbrev pub text_of : Answer → List ℕ
-text_of (Exit n) = codes "exit " ++ decimal n
-text_of (Built n) = codes "built " ++ decimal n
-text_of Shown = []
-text_of (Trap c pos) = codes "trap " ++ cause_text c ++ codes " " ++ pos_text pos
-text_of (TrapAt c pc) = codes "trap " ++ cause_text c ++ codes " at " ++ decimal pc
-text_of (Stack pos) = codes "stack " ++ pos_text pos
-text_of Steps = codes "steps"
-text_of Turns = codes "turns"
-text_of (Unspecified reason pos) = codes "unspecified " ++ reason_text reason ++ codes " " ++ pos_text pos
-text_of (Outside pos) = codes "outside " ++ pos_text pos
-text_of (Break pc) = codes "break " ++ decimal pc
-text_of (Illegal pc) = codes "illegal " ++ decimal pc
-text_of (Audited verdict) = audit_text verdict
-text_of (Refused code pos) = codes "refused " ++ decimal code ++ codes " " ++ pos_text pos
-text_of Words = codes "words"
-text_of (NotLoaded number) = codes "image " ++ decimal number
-text_of File = codes "file"
-text_of Input = codes "input"
-text_of Output = codes "output"
-text_of Memory = codes "memory"
+-- the text of an answer, up to the place that it names
+abbrev pub words_of : Answer → List ℕ
+words_of (Exit n) = codes "exit " ++ decimal n
+words_of (Built n) = codes "built " ++ decimal n
+words_of Shown = []
+words_of (Trap c pos) = codes "trap " ++ cause_text c ++ codes " "
+words_of (TrapAt c pc) = codes "trap " ++ cause_text c ++ codes " at " ++ decimal pc
+words_of (Stack pos) = codes "stack "
+words_of Steps = codes "steps"
+words_of Turns = codes "turns"
+words_of (Unspecified reason pos) = codes "unspecified " ++ reason_text reason ++ codes " "
+words_of (Outside pos) = codes "outside "
+words_of (Break pc) = codes "break " ++ decimal pc
+words_of (Illegal pc) = codes "illegal " ++ decimal pc
+words_of (Audited verdict) = audit_text verdict
+words_of (Refused code pos) = codes "refused " ++ decimal code ++ codes " "
+words_of Words = codes "words"
+words_of (NotLoaded number) = codes "image " ++ decimal number
+words_of File = codes "file"
+words_of Input = codes "input"
+words_of Output = codes "output"
+words_of Memory = codes "memory"
+
+-- the position that an answer names
+abbrev pub pos_of : Answer → Option Pos
+pos_of (Trap c pos) = Some pos
+pos_of (Stack pos) = Some pos
+pos_of (Unspecified reason pos) = Some pos
+pos_of (Outside pos) = Some pos
+pos_of (Refused code pos) = Some pos
+pos_of answer = None
+
+-- the text of an answer that names a position of this file, or none
+abbrev pub text_of : List ℕ → Answer → List ℕ
+text_of file answer = words_of answer ++ option_map_or (place_text file) (pos_of answer) []
 
 -- nothing is said where what was asked for was put to the output
 abbrev pub is_silent : Answer → Bool
@@ -157,14 +182,14 @@ is_silent Shown = true
 is_silent answer = false
 
 -- the answer's text and a line feed
-abbrev pub line_of : Answer → List ℕ
-line_of answer = if is_silent answer then [] else text_of answer ++ 10 ∷ []
+abbrev pub line_of : List ℕ → Answer → List ℕ
+line_of file answer = if is_silent answer then [] else text_of file answer ++ 10 ∷ []
 
 -- The answer was said: its line was put and its status is given; or the notes failed, after a front of the line, and it
 -- is 22.
-pub record IsSaid (answer : Answer) (status : ℕ) (held_before held_after : Option (List ℕ))
+pub record IsSaid (file : List ℕ) (answer : Answer) (status : ℕ) (held_before held_after : Option (List ℕ))
     (faults_before faults_after : ℕ) : Type 0 where
   pub no_less : faults_before ≤ faults_after
   pub whole : faults_after ≡ faults_before →
-      (status ≡ status_of answer) × Appends held_before held_after (line_of answer)
-  pub part : faults_before < faults_after → (status ≡ 22) × AppendsPart held_before held_after (line_of answer)
+      (status ≡ status_of answer) × Appends held_before held_after (line_of file answer)
+  pub part : faults_before < faults_after → (status ≡ 22) × AppendsPart held_before held_after (line_of file answer)

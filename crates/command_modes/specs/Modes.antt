@@ -5,7 +5,7 @@ use Rattle.ck_base.specs.Calls.{Seen, seen, IsRun, Counted}
 use Rattle.ck_base.specs.Runs.{outcome, ending_alone}
 use Rattle.stopped_runs.specs.Stopping.{StoppedShort}
 use Rattle.ck_base.specs.declared.refusal.Refusal.TheVariants.{Code}
-use Rattle.c_tree.specs.File.{Accepts}
+use Rattle.accepted_files.specs.Accepted.{Accepts}
 use Rattle.c_tree.specs.declared.typed.Typed.{Typed}
 use Rattle.obj_mem.specs.declared.ending.Ending.{Ending}
 use Rattle.obj_mem.specs.declared.map.Map.{Map}

@@ -1,9 +1,9 @@
 -- What is put to the output where a text is asked for: a map, a listing, or a summary.
-use Rattle.std.specs.Prelude.{◌≡◌, ℕ, ◌<◌, List, ◌++◌, codes, decimal}
+use Rattle.std.specs.Prelude.{◌≡◌, ℕ, ◌<◌, List, [], ◌++◌, codes, decimal}
 use Rattle.std.specs.Io.KnownBytes.{Appends}
 use Rattle.ck_base.specs.Calls.{Seen}
 use Rattle.ck_base.specs.Outside.{AppendsPart}
-use Rattle.c_tree.specs.File.{Accepts}
+use Rattle.accepted_files.specs.Accepted.{Accepts}
 use Rattle.c_tree.specs.declared.typed.Typed.{Typed}
 use Rattle.obj_mem.specs.declared.map.Map.{Map}
 use Rattle.typed_build.specs.Built.{IsBuilt}
@@ -29,7 +29,8 @@ PutSays before after text Output =
     SameInput before after × AppendsPart before.held after.held text × (before.sink_faults < after.sink_faults)
 PutSays before after text answer = ⊥
 
--- the summary of a generated file: how many functions and bytes it has, and the line that its run answers
+-- the summary of a generated file, which has no markers: how many functions and bytes it has, and the line that its
+-- run answers
 abbrev pub summary : (functions bytes : ℕ) → Answer → List ℕ
 summary functions bytes ran =
-    codes "functions " ++ decimal functions ++ codes "\nsource " ++ decimal bytes ++ codes "\n" ++ line_of ran
+    codes "functions " ++ decimal functions ++ codes "\nsource " ++ decimal bytes ++ codes "\n" ++ line_of [] ran

@@ -1,42 +1,45 @@
 //! The line and the status of an answer.
-ghost use Rattle.std.specs.Prelude.{◌≡◌, ◌++◌, ◌≤◌, ◌<◌, ◌+◌, ◌-◌, ◌^◌, ℕ, [], length, decimal, codes};
+ghost use Rattle.std.specs.Prelude.{◌≡◌, ◌++◌, ◌≤◌, ◌<◌, ◌+◌, ◌-◌, ◌^◌, [], ◌∷◌, length, decimal, codes, OnOk, OnErr};
+ghost use Rattle.std.specs.Io.KnownBytes.{Appends};
 ghost use Rattle.arrayvec.specs.ArrayString.{array_string_len};
+ghost use Rattle.ck_base.specs.Outside.{AppendsPart, Rises};
 ghost use Rattle.command_modes.specs.Answers.{audit_status, status_of, is_silent, line_of, cause_text, reason_text};
-ghost use Rattle.command_modes.specs.Answers.{pos_text, audit_text, text_of, IsSaid};
+ghost use Rattle.command_modes.specs.Answers.{audit_text, words_of, pos_of, text_of, IsSaid};
 ghost use Rattle.command_modes.specs.declared.answer.Answer.TheVariants as answers;
 
 use crate::answer::Answer;
 use arrayvec::ArrayString;
 use cap_ops::Cause;
-use ck_base::{Pos, Sink};
+use ck_base::{Failed, Pos, Sink};
 use elf_audit::Verdict;
 use itoa::Buffer;
+use line_marks::marked;
 use obj_mem::Reason;
 
-/// The most bytes of a line.
-const ROOM: usize = 64;
+/// The most bytes of a line without the name of a file.
+const ROOM: usize = 128;
 
-/// A line, on the stack.
+/// A line or a part of one, on the stack.
 pub type Line = ArrayString<ROOM>;
 
 /// Appends a number in decimal.
 fn push_number(line: &mut Line, n: u64)
-    requires { array_string_len line.old ≤ 44 }
+    requires { array_string_len line.old ≤ 100 }
     ensures bytes { line.new.bytes ≡ line.old.bytes ++ decimal n }
     ensures len { array_string_len line.new ≤ array_string_len line.old + 20 }
 {
     line.push_str(Buffer::new().format(n));
 }
 
-/// Appends a line and a column.
-fn push_pos(line: &mut Line, pos: Pos)
-    requires { array_string_len line.old ≤ 22 }
-    ensures bytes { line.new.bytes ≡ line.old.bytes ++ pos_text pos }
-    ensures len { array_string_len line.new ≤ 63 }
+/// Appends a line and a column, and ends the line.
+fn end_at(text: &mut Line, line: u64, col: u32)
+    requires { array_string_len text.old ≤ 64 }
+    ensures { text.new.bytes ≡ text.old.bytes ++ decimal line ++ codes ":" ++ decimal col ++ 10 ∷ [] }
 {
-    push_number(line, u64::from(pos.line));
-    line.push_str(":");
-    push_number(line, u64::from(pos.col));
+    push_number(text, line);
+    text.push_str(":");
+    push_number(text, u64::from(col));
+    text.push_str("\n");
 }
 
 fn cause_text(cause: Cause) -> &'static str
@@ -83,18 +86,6 @@ fn numbered(word: &str, n: u64) -> Line
     line
 }
 
-/// A word and a place.
-fn placed(word: &str, pos: Pos) -> Line
-    requires { length word.now ≤ 16 }
-    ensures bytes { result.bytes ≡ word.now ++ pos_text pos }
-    ensures len { array_string_len result ≤ 63 }
-{
-    let mut line = Line::new();
-    line.push_str(word);
-    push_pos(&mut line, pos);
-    line
-}
-
 /// A word alone.
 fn alone(word: &str) -> Line
     requires { length word.now ≤ 16 }
@@ -106,20 +97,21 @@ fn alone(word: &str) -> Line
     line
 }
 
-fn trap_text(cause: Cause, pos: Pos) -> Line
-    ensures bytes { result.bytes ≡ text_of (answers.Trap cause pos) }
+/// A word, a reason of this name, and a space.
+fn named(word: &str, name: &str) -> Line
+    requires { (length word.now ≤ 16) × (length name.now ≤ 16) }
+    ensures bytes { result.bytes ≡ word.now ++ name.now ++ codes " " }
     ensures len { array_string_len result ≤ 63 }
 {
     let mut line = Line::new();
-    line.push_str("trap ");
-    line.push_str(cause_text(cause));
+    line.push_str(word);
+    line.push_str(name);
     line.push_str(" ");
-    push_pos(&mut line, pos);
     line
 }
 
 fn trap_at_text(cause: Cause, pc: u64) -> Line
-    ensures bytes { result.bytes ≡ text_of (answers.TrapAt cause pc) }
+    ensures bytes { result.bytes ≡ words_of (answers.TrapAt cause pc) }
     ensures len { array_string_len result ≤ 63 }
 {
     let mut line = Line::new();
@@ -130,27 +122,14 @@ fn trap_at_text(cause: Cause, pc: u64) -> Line
     line
 }
 
-fn unspecified_text(reason: Reason, pos: Pos) -> Line
-    ensures bytes { result.bytes ≡ text_of (answers.Unspecified reason pos) }
-    ensures len { array_string_len result ≤ 63 }
-{
-    let mut line = Line::new();
-    line.push_str("unspecified ");
-    line.push_str(reason_text(reason));
-    line.push_str(" ");
-    push_pos(&mut line, pos);
-    line
-}
-
-fn refused_text(code: u16, pos: Pos) -> Line
-    ensures bytes { result.bytes ≡ text_of (answers.Refused code pos) }
+fn refused_text(code: u16) -> Line
+    ensures bytes { result.bytes ≡ codes "refused " ++ decimal code ++ codes " " }
     ensures len { array_string_len result ≤ 63 }
 {
     let mut line = Line::new();
     line.push_str("refused ");
     line.push_str(Buffer::new().format(code));
     line.push_str(" ");
-    push_pos(&mut line, pos);
     line
 }
 
@@ -180,32 +159,46 @@ fn audit_text(verdict: Verdict) -> Line
     }
 }
 
-/// The text of an answer.
-fn text_of(answer: Answer) -> Line
-    ensures bytes { result.bytes ≡ text_of answer }
+/// The text of an answer, up to the place that it names.
+fn words_of(answer: Answer) -> Line
+    ensures bytes { result.bytes ≡ words_of answer }
     ensures len { array_string_len result ≤ 63 }
 {
     match answer {
         Answer::Exit(n) => numbered("exit ", u64::from(n)),
         Answer::Built(n) => numbered("built ", n),
         Answer::Shown => alone(""),
-        Answer::Trap(cause, pos) => trap_text(cause, pos),
+        Answer::Trap(cause, _) => named("trap ", cause_text(cause)),
         Answer::TrapAt(cause, pc) => trap_at_text(cause, pc),
-        Answer::Stack(pos) => placed("stack ", pos),
+        Answer::Stack(_) => alone("stack "),
         Answer::Steps => alone("steps"),
         Answer::Turns => alone("turns"),
-        Answer::Unspecified(reason, pos) => unspecified_text(reason, pos),
-        Answer::Outside(pos) => placed("outside ", pos),
+        Answer::Unspecified(reason, _) => named("unspecified ", reason_text(reason)),
+        Answer::Outside(_) => alone("outside "),
         Answer::Break(pc) => numbered("break ", pc),
         Answer::Illegal(pc) => numbered("illegal ", pc),
         Answer::Audited(verdict) => audit_text(verdict),
-        Answer::Refused(code, pos) => refused_text(code, pos),
+        Answer::Refused(code, _) => refused_text(code),
         Answer::Words => alone("words"),
         Answer::NotLoaded(number) => numbered("image ", u64::from(number)),
         Answer::File => alone("file"),
         Answer::Input => alone("input"),
         Answer::Output => alone("output"),
         Answer::Memory => alone("memory"),
+    }
+}
+
+/// The position that an answer names.
+fn pos_of(answer: Answer) -> Option<Pos>
+    ensures { result ≡ pos_of answer }
+{
+    match answer {
+        Answer::Trap(_, pos)
+        | Answer::Stack(pos)
+        | Answer::Unspecified(_, pos)
+        | Answer::Outside(pos)
+        | Answer::Refused(_, pos) => Some(pos),
+        _ => None,
     }
 }
 
@@ -251,28 +244,80 @@ fn is_silent(answer: Answer) -> bool
     }
 }
 
-/// The line of an answer, which is empty where nothing is said.
+/// The line of an answer that names no file's places: it is empty where nothing is said.
 pub fn line_of(answer: Answer) -> Line
-    ensures { result.bytes ≡ line_of answer }
+    ensures { result.bytes ≡ line_of [] answer }
 {
     if is_silent(answer) {
         return Line::new();
     }
-    let mut line = text_of(answer);
-    line.push_str("\n");
+    let mut line = words_of(answer);
+    match pos_of(answer) {
+        Some(pos) => end_at(&mut line, u64::from(pos.line), pos.col),
+        None => line.push_str("\n"),
+    }
     line
 }
 
-/// Says an answer: puts its line to the notes, and gives its status, or that of a failed output where the notes fail.
-/// It takes no memory.
-pub fn say<N: Sink>(answer: Answer, notes: &mut N) -> u8
+/// Puts three pieces.
+fn put_three<N: Sink>(
+    notes: &mut N,
+    first: &[u8],
+    second: &[u8],
+    third: &[u8],
+) -> Result<(), Failed>
+    ensures whole { OnOk result (Appends (N.held notes.old) (N.held notes.new) (first.now ++ second.now ++ third.now)) }
+    ensures part { OnErr result
+        (AppendsPart (N.held notes.old) (N.held notes.new) (first.now ++ second.now ++ third.now)) }
+    ensures same_count { OnOk result (N.faults notes.new ≡ N.faults notes.old) }
+    ensures counted { OnErr result (Rises (N.faults notes.old) (N.faults notes.new)) }
+{
+    notes.put(first)?;
+    notes.put(second)?;
+    notes.put(third)
+}
+
+/// Puts the line of an answer that names a position of this file, or none.
+fn put_line<N: Sink>(notes: &mut N, file: &[u8], answer: Answer) -> Result<(), Failed>
+    ensures whole { OnOk result
+        (Appends (N.held notes.old) (N.held notes.new) (text_of file.now answer ++ 10 ∷ [])) }
+    ensures part { OnErr result
+        (AppendsPart (N.held notes.old) (N.held notes.new) (text_of file.now answer ++ 10 ∷ [])) }
+    ensures same_count { OnOk result (N.faults notes.new ≡ N.faults notes.old) }
+    ensures counted { OnErr result (Rises (N.faults notes.old) (N.faults notes.new)) }
+{
+    let mut words = words_of(answer);
+    let Some(pos) = pos_of(answer) else {
+        words.push_str("\n");
+        return notes.put(words.as_str().as_bytes());
+    };
+    let place = marked(file, pos);
+    if place.name.is_empty() {
+        end_at(&mut words, place.line, place.col);
+        return notes.put(words.as_str().as_bytes());
+    }
+    let mut end = Line::new();
+    end.push_str(":");
+    end_at(&mut end, place.line, place.col);
+    put_three(
+        notes,
+        words.as_str().as_bytes(),
+        place.name,
+        end.as_str().as_bytes(),
+    )
+}
+
+/// Says an answer that names a position of this file, or none: puts its line to the notes, and gives its status, or
+/// that of a failed output where the notes fail. It takes no memory.
+pub fn say<N: Sink>(answer: Answer, file: &[u8], notes: &mut N) -> u8
     requires { N.faults notes.old < 2 ^ 64 - 1 }
-    ensures { IsSaid answer result (N.held notes.old) (N.held notes.new) (N.faults notes.old) (N.faults notes.new) }
+    ensures { IsSaid file.now answer result (N.held notes.old) (N.held notes.new) (N.faults notes.old)
+        (N.faults notes.new) }
 {
     if is_silent(answer) {
         return status_of(answer);
     }
-    match notes.put(line_of(answer).as_str().as_bytes()) {
+    match put_line(notes, file, answer) {
         Ok(()) => status_of(answer),
         Err(_) => status_of(Answer::Output),
     }

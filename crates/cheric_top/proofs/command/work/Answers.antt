@@ -31,7 +31,11 @@ returns-in-Ok-Some-Generate g c =
       line,
       subst (λ (ws : List (String Global)). IsLine (map (λ s. string_bytes s) ws) line)
           c.as_slice.ensures.value found,
-      (refl, c.show_generated.ensures (g.I.Source.left c.args.input.now) (g.I.Source.faults c.args.input.now)),
+      (
+        refl,
+        c.show_generated.ensures (g.I.Source.left c.args.input.now) (g.I.Source.faults c.args.input.now),
+        c.new-none.ensures.items,
+      ),
     )
 
 pub returns-in-Ok-None : goal.returns-in-Ok-None
@@ -41,8 +45,11 @@ returns-in-Ok-None g c =
     let none = subst (λ (r : Option Line). MatchOption r ((line : lines.Line) → IsLine words line → ⊥)
     (λ line. IsLine words (line_of line))) read.field-0-is read.ensures.is in
     inl (
-      subst (λ (ws : List (String Global)). (line : lines.Line) → IsLine (map (λ s. string_bytes s) ws) line → ⊥)
-          c.as_slice.ensures.value none,
-      refl,
-      refl,
+      (
+        subst (λ (ws : List (String Global)). (line : lines.Line) → IsLine (map (λ s. string_bytes s) ws) line → ⊥)
+            c.as_slice.ensures.value none,
+        refl,
+        refl,
+      ),
+      c.new-none.ensures.items,
     )

@@ -1,0 +1,4 @@
+pub mod Comments
+pub mod Known
+pub mod Marks
+pub mod Plain
