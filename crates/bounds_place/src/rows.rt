@@ -1,4 +1,4 @@
-// Objects one behind the other.
+//! Objects one behind the other.
 ghost use Rattle.std.specs.Prelude.{◌≡◌, ◌+◌, ◌^◌, ◌<◌, ◌≤◌, ◌++◌, sum_by, All, OnOk, IfOk};
 ghost use Rattle.cap_concentrate.specs.Rounding.{rounded_up};
 ghost use Rattle.bounds_place.specs.Rows.{room, bases_from, end_from};

@@ -1,4 +1,4 @@
-// Types that agree, and the composites of types (C11 6.2.7).
+//! Types that agree, and the composites of types (C11 6.2.7).
 ghost use Rattle.std.specs.Prelude.{◌≡◌, ℕ, ◌<◌, length, take, Some, IfOk, OnErr};
 ghost use Rattle.c_tree.specs.Types.{Ty, composite};
 ghost use Rattle.c_tree.specs.Views.{types_of};

@@ -1,4 +1,4 @@
-// Typedef names are declared.
+//! Typedef names are declared.
 ghost use Rattle.std.specs.Prelude.{◌≡◌, List, ◌<◌, length, option_map, IfOk};
 ghost use Rattle.c_tree.specs.Types.{Ty};
 ghost use Rattle.c_tree.specs.Scopes.{State};

@@ -1,4 +1,4 @@
-// Names are declared (C11 6.7).
+//! Names are declared (C11 6.7).
 ghost use Rattle.std.specs.Prelude.{◌≡◌, ◌<◌, length};
 ghost use Rattle.c_types.specs.Calls.{Answers, Declares, Extends, IsDeclared};
 ghost use Rattle.c_types.specs.Declares.{storage_of, name_of, formed_of, declares_in_block, declares_object};

@@ -1,4 +1,4 @@
-// What was declared is completed: the lengths of arrays, initial values and bodies.
+//! What was declared is completed: the lengths of arrays, initial values and bodies.
 ghost use Rattle.std.specs.Prelude.{◌≡◌, ℕ, List, true, Some};
 ghost use Rattle.c_tree.specs.Scopes.{State, StaticState, RoutineState, Aiming, Body, changed_at, change_static};
 ghost use Rattle.c_tree.specs.Scopes.{change_routine};

@@ -1,4 +1,4 @@
-// Functions are declared and defined (C11 6.7.6.3, 6.9.1).
+//! Functions are declared and defined (C11 6.7.6.3, 6.9.1).
 ghost use Rattle.std.specs.Prelude.{◌≡◌, ℕ, List, [], Bool, true, false, not, ◌&&◌, ◌||◌, ◌<◌, length, Some, None};
 ghost use Rattle.std.specs.Prelude.{option_map, slice_get, Option, IfOk, OnErr};
 ghost use Rattle.c_tree.specs.Declarations.{new_routine, known_routine, linked_routine, agrees_routine, agrees_library};

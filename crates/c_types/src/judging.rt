@@ -1,4 +1,4 @@
-// The rules on what is declared.
+//! The rules on what is declared.
 ghost use Rattle.std.specs.Prelude.{◌≡◌, ℕ, List, ◌||◌, ◌&&◌, not};
 ghost use Rattle.c_tree.specs.Declarations.{is_open};
 ghost use Rattle.c_tree.specs.Declarators.{is_new, judge};

@@ -1,4 +1,4 @@
-// Locals are declared.
+//! Locals are declared.
 ghost use Rattle.std.specs.Prelude.{◌≡◌, ℕ, ◌<◌, ◌++◌, ◌∷◌, [], map, length, slice_get, Some, IfOk, OnOk, OnErr};
 ghost use Rattle.c_tree.specs.Declarations.{new_local};
 ghost use Rattle.c_tree.specs.Scopes.{State, LocalState, Local, bind_name};

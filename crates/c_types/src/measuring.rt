@@ -1,4 +1,4 @@
-// The sizes of types, where the structs and unions are those of the scopes.
+//! The sizes of types, where the structs and unions are those of the scopes.
 ghost use Rattle.std.specs.Prelude.{◌≡◌, ◌<◌, ◌≤◌, true, List, option_map, slice_get, IfOk, IfSome};
 ghost use Rattle.c_tree.specs.Layout.{size_limit, members, no_members};
 ghost use Rattle.c_tree.specs.Scopes.{Part, State, is_complete, type_extent, tag_extent};

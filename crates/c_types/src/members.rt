@@ -1,4 +1,4 @@
-// What is known of what was declared.
+//! What is known of what was declared.
 ghost use Rattle.std.specs.Prelude.{◌≡◌, List, length, map, option_map, Some, slice_get, IfSome};
 ghost use Rattle.c_tree.specs.Declarations.{has_linkage};
 ghost use Rattle.c_tree.specs.Scopes.{State, TagState, StaticState, RoutineState, LocalState};

@@ -1,4 +1,4 @@
-// Names are bound in the innermost scope.
+//! Names are bound in the innermost scope.
 ghost use Rattle.std.specs.Prelude.{◌≡◌, List, ℕ, ℤ, OnOk, OnErr, IsOk, Some, None};
 ghost use Rattle.c_types.specs.Rooms.{HasNameRoom, HasTagRoom};
 ghost use Rattle.c_tree.specs.Scopes.{State, bind_name, bind_tag};

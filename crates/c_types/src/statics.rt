@@ -1,4 +1,4 @@
-// Objects of static storage duration are declared (C11 6.2.2, 6.2.4p3, 6.9.2).
+//! Objects of static storage duration are declared (C11 6.2.2, 6.2.4p3, 6.9.2).
 ghost use Rattle.std.specs.Prelude.{◌≡◌, ℕ, List, Bool, true, false, not, ◌&&◌, ◌||◌, ◌<◌, length, Some, None};
 ghost use Rattle.std.specs.Prelude.{option_map, bytes_eq, if◌then◌else◌, slice_get, IfOk, IsOk, OnOk, OnErr};
 ghost use Rattle.std.specs.Map.{lookup};

@@ -1,4 +1,4 @@
-// The tags of structs, unions and enumerations are declared.
+//! The tags of structs, unions and enumerations are declared.
 ghost use Rattle.std.specs.Prelude.{◌≡◌, ℕ, List, false, true, IfOk, OnOk, OnErr, slice_get};
 ghost use Rattle.ck_base.specs.Tokens.{Lexeme};
 ghost use Rattle.c_tree.specs.Scopes.{State, Recorded};

@@ -1,4 +1,4 @@
-// The tags of structs and unions: their declaration, and their members.
+//! The tags of structs and unions: their declaration, and their members.
 ghost use Rattle.ck_base.specs.declared.positions.Pos.{Pos};
 ghost use Rattle.std.specs.Prelude.{false, true, Some, ◌≡◌, ℕ, List, Bool, ◌<◌, map, length, IfOk, OnErr, MatchResult};
 ghost use Rattle.std.specs.Prelude.{slice_get, OnOk, nat_eq, bytes_eq, is_some, ◌||◌, if◌then◌else◌};

@@ -1,4 +1,4 @@
-// The bounds of fields.
+//! The bounds of fields.
 ghost use Rattle.std.specs.Prelude.{◌≡◌, ◌+◌, ◌*◌, ◌%◌, ◌^◌, ◌<◌, ◌≤◌, ◌↔◌, IsTrue};
 ghost use Rattle.cap_concentrate.specs.Decoding.{one_where, exponent, mantissa, whole_top, placed, corrected, base_at};
 ghost use Rattle.cap_concentrate.specs.Decoding.{top_at, same_bounds};

@@ -1,4 +1,4 @@
-// The fields of a capability, and the bounds of a request.
+//! The fields of a capability, and the bounds of a request.
 ghost use Rattle.std.specs.Prelude.{◌^◌, ◌<◌};
 
 /// The fields of a 128-bit capability, each in its bit range (CHERI ISAv9, the 128-bit format).

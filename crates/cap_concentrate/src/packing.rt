@@ -1,4 +1,4 @@
-// The 128 bits of a capability.
+//! The 128 bits of a capability.
 ghost use Rattle.std.specs.Prelude.{◌≡◌};
 ghost use Rattle.cap_concentrate.specs.Packing.{bits_of, fields_of, flipped};
 

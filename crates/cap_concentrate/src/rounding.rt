@@ -1,4 +1,4 @@
-// The least bounds of a request.
+//! The least bounds of a request.
 ghost use Rattle.std.specs.Prelude.{◌≡◌, ℕ, ◌+◌, ◌-◌, ◌/◌, ◌%◌, ◌^◌, ◌≤◌, ◌↔◌, IsTrue};
 ghost use Rattle.cap_concentrate.specs.Decoding.{base_of, top_of};
 ghost use Rattle.cap_concentrate.specs.Encoding.{AreEncoded};

@@ -1,4 +1,4 @@
-// The counts of objects and copies.
+//! The counts of objects and copies.
 ghost use Rattle.std.specs.Prelude.{◌≡◌, ◌≤◌, sum_by, slice_get};
 ghost use Rattle.c_tree.specs.Layout.{extent, bare, size_limit};
 ghost use Rattle.c_tree.specs.Weight.{counted};

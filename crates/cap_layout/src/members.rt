@@ -1,4 +1,4 @@
-// A member beside the others.
+//! A member beside the others.
 ghost use Rattle.std.specs.Prelude.{◌≡◌, ◌<◌, ◌≤◌};
 ghost use Rattle.c_tree.specs.Layout.{size_limit, member_align, member_offset};
 ghost use Rattle.cap_layout.specs.Extents.{extent_is, greatest_align, placing};

@@ -1,4 +1,4 @@
-// Where a member begins.
+//! Where a member begins.
 ghost use Rattle.std.specs.Prelude.{◌≡◌, ℕ, ◌+◌, ◌<◌, length};
 ghost use Rattle.c_tree.specs.Layout.{bare, members_of, extent, member_at};
 ghost use Rattle.cap_layout.specs.Answers.{IsOffset};

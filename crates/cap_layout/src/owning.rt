@@ -1,4 +1,4 @@
-// What an object owns, and rounding up.
+//! What an object owns, and rounding up.
 ghost use Rattle.std.specs.Prelude.{◌≡◌, ◌+◌, ◌<◌, ◌≤◌};
 ghost use Rattle.cap_concentrate.specs.Rounding.{alignment, owned, rounded_up};
 ghost use Rattle.c_tree.specs.Layout.{size_limit};

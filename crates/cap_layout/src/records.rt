@@ -1,4 +1,4 @@
-// The struct or union behind the words `const`.
+//! The struct or union behind the words `const`.
 ghost use Rattle.std.specs.Prelude.{◌≡◌, ℕ, ◌*◌, Some, Option, Bool};
 ghost use Rattle.c_tree.specs.declared.typed.CType.{CType};
 ghost use Rattle.c_tree.specs.Layout.{bare_of, bare_within, extent_within};

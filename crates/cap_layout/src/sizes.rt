@@ -1,4 +1,4 @@
-// The layout of a type.
+//! The layout of a type.
 ghost use Rattle.std.specs.Prelude.{◌≡◌, ℕ, Some, ◌+◌, ◌<◌, ◌≤◌, length};
 ghost use Rattle.c_tree.specs.Layout.{size_limit, times, whole, with_extent, members, no_members, extent_within};
 ghost use Rattle.c_tree.specs.Layout.{extent};

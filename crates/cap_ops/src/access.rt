@@ -1,4 +1,4 @@
-// An access to memory, and why it may fail.
+//! An access to memory, and why it may fail.
 
 /// An access through a capability. The number of a load or a store is its length in bytes.
 #[derive(Clone, Copy, Debug, PartialEq, Eq)]

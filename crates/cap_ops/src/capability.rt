@@ -1,4 +1,4 @@
-// A capability, and the numbers of its object types and permissions.
+//! A capability, and the numbers of its object types and permissions.
 use cap_concentrate::Fields;
 
 /// A capability of 128 bits with its tag.

@@ -1,4 +1,4 @@
-// The check of an access.
+//! The check of an access.
 ghost use Rattle.std.specs.Prelude.{◌≡◌, ◌<◌};
 ghost use Rattle.cap_ops.specs.Access.{IsAccess, checked, size, loads, stores, stores_tagged, jumps};
 ghost use Rattle.cap_ops.specs.Capability.{lacks};

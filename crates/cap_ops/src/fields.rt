@@ -1,4 +1,4 @@
-// Fields with one part changed.
+//! Fields with one part changed.
 ghost use Rattle.std.specs.Prelude.{◌≡◌, ◌^◌, ◌<◌};
 ghost use Rattle.cap_concentrate.specs.Encoding.{AreEncoded, with_bounds};
 ghost use Rattle.cap_ops.specs.Capability.{with_address, with_mask, with_otype};

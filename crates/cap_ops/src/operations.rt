@@ -1,4 +1,4 @@
-// The operations on capabilities.
+//! The operations on capabilities.
 ghost use Rattle.std.specs.Prelude.{◌≡◌, ◌+◌, ◌^◌, ◌&&◌, IsTrue, is_some, IfSome};
 ghost use Rattle.cap_concentrate.specs.Encoding.{AreEncoded};
 ghost use Rattle.cap_concentrate.specs.Rounding.{IsLeastBounds};

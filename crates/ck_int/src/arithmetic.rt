@@ -1,3 +1,5 @@
+//! The ten binary operations on integers of a kind (C11 6.5.5 to 6.5.7, 6.5.10 to 6.5.12), defined for all
+//! operands.
 ghost use Rattle.std.specs.Prelude.{◌≡◌, ◌%◌, ◌^◌, ◌<◌, pos};
 ghost use Rattle.std.specs.Int.{int_div_euclid};
 ghost use Rattle.ck_int.specs.Kinds.{IsKept, form_of, kept_of};

@@ -1,3 +1,4 @@
+//! The six comparisons of integers of a kind (C11 6.5.8, 6.5.9).
 ghost use Rattle.std.specs.Prelude.{◌≡◌, int_lt};
 ghost use Rattle.ck_int.specs.Arithmetic.{compare_of};
 ghost use Rattle.ck_int.specs.Kinds.{form_of};

@@ -1,3 +1,4 @@
+//! Integers converted from one kind to another (C11 6.3.1).
 ghost use Rattle.std.specs.Prelude.{◌≡◌, ◌+◌, ◌-◌, ◌*◌, ◌%◌, ◌^◌, ◌<◌, ◌≤◌, pos, nat_lt, if◌then◌else◌};
 ghost use Rattle.ck_int.specs.Kinds.{IsKept, Represents, converted, kept_of, reduced, value_of, wrapped};
 

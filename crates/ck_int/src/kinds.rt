@@ -1,3 +1,4 @@
+//! The kinds of integers, the operations on them and the comparisons, as types.
 ghost use Rattle.std.specs.Prelude.{◌≡◌};
 ghost use Rattle.ck_int.specs.Kinds.{form_of, is_signed};
 

@@ -1,4 +1,4 @@
-// Images of four words and one relocation, and what their audit answers.
+//! Images of four words and one relocation, and what their audit answers.
 
 use crate::answers::must_all_hold;
 use crate::loading::{Wanted, is_answered};

@@ -1,4 +1,4 @@
-// Comparisons of registers.
+//! Comparisons of registers.
 ghost use Rattle.std.specs.Prelude.{◌≡◌, ◌++◌, [], ◌∷◌, OnOk};
 ghost use Rattle.rv_instr.specs.Range.{FitsBits};
 ghost use Rattle.select_words.specs.Integers.{less};

@@ -1,4 +1,4 @@
-// The kinds of integers in registers.
+//! The kinds of integers in registers.
 ghost use Rattle.std.specs.Prelude.{◌≡◌, ◌%◌, ◌^◌, [], ◌∷◌, ◌++◌, OnOk, max, if◌then◌else◌};
 ghost use Rattle.ck_int.specs.Kinds.{form_of, width_of, is_signed};
 ghost use Rattle.rv_instr.specs.Range.{count_bits};

@@ -1,4 +1,4 @@
-// What registers load, store and copy.
+//! What registers load, store and copy.
 ghost use Rattle.std.specs.Prelude.{◌≡◌, ◌+◌, ◌-◌, ◌^◌, ◌≤◌, ◌<◌, [], ◌∷◌, ◌++◌, length, OnOk};
 ghost use Rattle.select_words.specs.Accesses.{store_op, load_words};
 ghost use Rattle.select_words.specs.Copying.{unit_load, unit_store, unit_words};

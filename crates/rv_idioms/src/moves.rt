@@ -1,4 +1,4 @@
-// Moves between registers that all happen at once.
+//! Moves between registers that all happen at once.
 ghost use Rattle.std.specs.Prelude.{◌≡◌, [], ◌++◌, ◌*◌, ◌<◌, ◌==◌, OnOk, length, map, vec_len};
 ghost use Rattle.std.specs.List.{list_any};
 ghost use Rattle.rv_emit.specs.Growing.{Grows, Puts};

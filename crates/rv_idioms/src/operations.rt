@@ -1,4 +1,4 @@
-// Which operation computes with registers, and what ends it.
+//! Which operation computes with registers, and what ends it.
 ghost use Rattle.std.specs.Prelude.{◌≡◌, ◌≤◌, ◌++◌, OnOk};
 ghost use Rattle.ck_int.specs.Kinds.{form_of, width_of};
 ghost use Rattle.select_words.specs.Integers.{long_op, short_op};

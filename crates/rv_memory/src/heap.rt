@@ -1,4 +1,4 @@
-// The allocation of memory.
+//! The allocation of memory.
 ghost use Rattle.std.specs.Prelude.{◌≡◌, ◌<◌, ◌++◌, OnOk};
 ghost use Rattle.purecap_abi.specs.Words.{store_code};
 ghost use Rattle.select_words.specs.Heap.{rounds, places, takes, malloc_code};

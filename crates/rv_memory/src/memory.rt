@@ -1,4 +1,4 @@
-// How a kind is loaded, entries of the table, and objects that become zero.
+//! How a kind is loaded, entries of the table, and objects that become zero.
 ghost use Rattle.std.specs.Prelude.{◌≡◌, ◌+◌, ◌*◌, ◌/◌, ◌^◌, ◌≤◌, ◌<◌, ◌++◌, pos, OnOk};
 ghost use Rattle.purecap_abi.specs.Words.{load_code};
 ghost use Rattle.select_words.specs.Accesses.{load_op};

@@ -1,4 +1,4 @@
-// The registers that no home is in: what an instruction works with.
+//! The registers that no home is in: what an instruction works with.
 ghost use Rattle.std.specs.Prelude.{◌≡◌};
 
 use rv_instr::Reg;

@@ -1,4 +1,4 @@
-// The calls of a function.
+//! The calls of a function.
 ghost use Rattle.std.specs.Prelude.{◌≡◌, ◌^◌, ◌<◌, IfOk, length};
 ghost use Rattle.tac_live.specs.Calls.{AreCalls, is_call, most_places, places_past_eight};
 

@@ -1,4 +1,4 @@
-// The live intervals of a function's temps.
+//! The live intervals of a function's temps.
 ghost use Rattle.std.specs.Prelude.{◌≡◌, ◌^◌, ◌<◌, true, IfOk, length};
 ghost use Rattle.tac_ir.specs.Intervals.{IsLive};
 ghost use Rattle.tac_live.specs.Live.{AreLive, is_numbered};

@@ -1,4 +1,4 @@
-// The loops of some code, those that meet as one. Instructions count from 1, and 0 is the entry.
+//! The loops of some code, those that meet as one. Instructions count from 1, and 0 is the entry.
 ghost use Rattle.std.specs.BTreeMap.{get};
 ghost use Rattle.std.specs.Option.{ForSome};
 ghost use Rattle.std.specs.Ordering.{nat_cmp};

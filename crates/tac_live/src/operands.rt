@@ -1,4 +1,4 @@
-// The temps that an instruction names.
+//! The temps that an instruction names.
 ghost use Rattle.std.specs.Prelude.{◌≡◌, ◌++◌};
 ghost use Rattle.tac_ir.specs.Intervals.{is_control};
 ghost use Rattle.tac_ir.specs.Temps.{in_amount, in_option, reads, writes};

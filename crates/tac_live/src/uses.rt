@@ -1,4 +1,4 @@
-// Which instructions name each temp.
+//! Which instructions name each temp.
 ghost use Rattle.std.specs.Prelude.{◌≡◌, ℕ, ◌^◌, ◌<◌, true, false, None, Some, All, IfOk, length, slice_index_or};
 ghost use Rattle.std.specs.Prelude.{slice_set, vec_len};
 ghost use Rattle.tac_ir.specs.Intervals.{NamesAt};

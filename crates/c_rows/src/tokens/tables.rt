@@ -1,4 +1,4 @@
-// Files and literals with what the standard says of them.
+//! Files and literals with what the standard says of them.
 
 // The tokens of a file, each with its kind, position and spelling, and how it ends, or behind `..` its end alone; and
 // the file from the next line on, each byte as the character of its number. A line `----` ends a row.

@@ -1,4 +1,4 @@
-// Values of an independent model of the format.
+//! Values of an independent model of the format.
 
 use super::Kind::{self, Jump, Load, LoadCap, Store, StoreCap};
 use cap_ops::Cause;

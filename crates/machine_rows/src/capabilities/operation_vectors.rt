@@ -1,4 +1,4 @@
-// Values of an independent model of the format.
+//! Values of an independent model of the format.
 
 use super::Operation::{self, Add, AndPerms, Clear, Narrow, NarrowExact, SealEntry, WithAddress};
 

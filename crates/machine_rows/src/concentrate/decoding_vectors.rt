@@ -1,4 +1,4 @@
-// Values of an independent model of the format.
+//! Values of an independent model of the format.
 
 // The 128 bits, and the base and the top that they give.
 pub static DECODE: [(u128, u64, u128); 100] = [

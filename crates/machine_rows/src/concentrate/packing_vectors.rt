@@ -1,4 +1,4 @@
-// Values of an independent model of the format.
+//! Values of an independent model of the format.
 
 // The 128 bits and their form in memory; then the user permissions, the permissions, the reserved bits and the flag;
 // the object type, L, T and B; and the address.

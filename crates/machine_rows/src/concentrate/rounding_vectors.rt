@@ -1,4 +1,4 @@
-// Values of an independent model of the format.
+//! Values of an independent model of the format.
 
 // A request: base and length. Its bounds: base, top, whether they are exact, L, T and B.
 pub static SET_BOUNDS: [((u64, u64), (u64, u128, bool), (bool, u16, u16)); 100] = [

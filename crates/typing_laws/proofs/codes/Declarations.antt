@@ -29,7 +29,8 @@ use Rattle.c_tree.specs.Declarations.{definition_agrees}
 use Rattle.c_tree.specs.Programs.{is_there, is_typedef, gives_complete, params_of, body_context, first_incomplete}
 use Rattle.c_tree.specs.Programs.{refused_at}
 use Rattle.c_tree.specs.Programs.{define_body, define_named, function_definition, own_prototype}
-use Rattle.typing_laws.proofs.codes.Stepping.{AllOf, Coded, Any, give_coded, refuse_coded, change_coded, then_coded, next_coded}
+use Rattle.typing_laws.proofs.codes.Stepping.{AllOf, Coded, Any, give_coded, refuse_coded, change_coded, then_coded}
+use Rattle.typing_laws.proofs.codes.Stepping.{next_coded}
 use Rattle.typing_laws.proofs.codes.Stepping.{looks, need_coded, if_coded, going, Fine, fine_give, fine_then, fine_next}
 use Rattle.typing_laws.proofs.codes.Declarators.{IsSpecified, IsDeclarator, IsInitializer, judge_coded, is_start_coded}
 use Rattle.typing_laws.proofs.codes.Declarators.{start_slots_coded}

@@ -30,8 +30,10 @@ use Rattle.c_tree.specs.Statics.{Start, Number, There, Entry, Found, ask_for, st
 use Rattle.c_tree.specs.Statics.{known_value}
 use Rattle.c_tree.specs.Conversions.{Operand}
 use Rattle.c_tree.specs.Programs.{is_there}
-use Rattle.typing_laws.proofs.codes.Stepping.{AllOf, Coded, Any, give_coded, refuse_coded, change_coded, then_coded, next_coded}
-use Rattle.typing_laws.proofs.codes.Stepping.{look_coded, need_coded, some_coded, if_coded, where_coded, needs, weaker, going}
+use Rattle.typing_laws.proofs.codes.Stepping.{AllOf, Coded, Any, give_coded, refuse_coded, change_coded, then_coded}
+use Rattle.typing_laws.proofs.codes.Stepping.{next_coded}
+use Rattle.typing_laws.proofs.codes.Stepping.{look_coded, need_coded, some_coded, if_coded, where_coded, needs, weaker}
+use Rattle.typing_laws.proofs.codes.Stepping.{going}
 use Rattle.typing_laws.proofs.codes.Stepping.{fine_give}
 use Rattle.typing_laws.proofs.codes.Stepping.{fine_then, fine_next}
 use Rattle.typing_laws.proofs.codes.Expressions.{value_coded, assigned_coded, unevaluated_coded, IsOperand, read_coded}

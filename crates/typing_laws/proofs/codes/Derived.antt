@@ -23,15 +23,19 @@ use Rattle.c_tree.specs.Grammar.{Derives, Declares, Repeated, Separated, Listed,
 use Rattle.c_tree.specs.Grammar.{Initialized, Declaration, Optional, States, Items}
 use Rattle.typing_laws.proofs.codes.Stepping.{AllOf, Coded, Any, give_coded, then_coded, if_coded, going}
 use Rattle.typing_laws.proofs.codes.Expressions.{IsOperand, named_coded, text_coded, called_coded, prefixed_coded}
-use Rattle.typing_laws.proofs.codes.Expressions.{postfixed_coded, assignment_coded, selected_coded, binary_coded, indexed_coded}
+use Rattle.typing_laws.proofs.codes.Expressions.{postfixed_coded, assignment_coded, selected_coded, binary_coded}
+use Rattle.typing_laws.proofs.codes.Expressions.{indexed_coded}
 use Rattle.typing_laws.proofs.codes.Expressions.{chosen_coded, size_coded, type_size_coded, casts_coded}
 use Rattle.typing_laws.proofs.codes.Declarators.{IsType, IsSpecified, IsDeclarator, IsMember}
 use Rattle.typing_laws.proofs.codes.Declarators.{IsEnumerator, IsParameter, Initializing, IsInitializer}
-use Rattle.typing_laws.proofs.codes.Declarators.{NameTypes, specifiers_coded, typedef_coded, tag_alone_coded, tagged_coded}
-use Rattle.typing_laws.proofs.codes.Declarators.{untagged_coded, enumerator_coded, enumerator_value_coded, enum_alone_coded}
+use Rattle.typing_laws.proofs.codes.Declarators.{NameTypes, specifiers_coded, typedef_coded, tag_alone_coded}
+use Rattle.typing_laws.proofs.codes.Declarators.{tagged_coded}
+use Rattle.typing_laws.proofs.codes.Declarators.{untagged_coded, enumerator_coded, enumerator_value_coded}
+use Rattle.typing_laws.proofs.codes.Declarators.{enum_alone_coded}
 use Rattle.typing_laws.proofs.codes.Declarators.{enum_none_coded, enum_tagged_coded, enum_untagged_coded, length_coded}
 use Rattle.typing_laws.proofs.codes.Declarators.{type_name_coded}
-use Rattle.typing_laws.proofs.codes.Declarators.{member_coded, parameter_coded, prototype_coded, string_coded, plain_coded}
+use Rattle.typing_laws.proofs.codes.Declarators.{member_coded, parameter_coded, prototype_coded, string_coded}
+use Rattle.typing_laws.proofs.codes.Declarators.{plain_coded}
 use Rattle.typing_laws.proofs.codes.Declarators.{braced_coded}
 
 -- an expression, which is no declaration and no label

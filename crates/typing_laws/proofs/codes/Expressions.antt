@@ -32,8 +32,10 @@ use Rattle.c_tree.specs.Expressions.{members_in, member, member_behind, cast, si
 use Rattle.c_tree.specs.Expressions.{call, asked, all_asked, library_call, read_value, read_values, called, prefixed}
 use Rattle.c_tree.specs.Expressions.{assignment, selected, moves, differ, both_agree, is_void_pointer, member_from}
 use Rattle.c_tree.specs.Constants.{is_null_constant}
-use Rattle.typing_laws.proofs.codes.Stepping.{AllOf, Coded, Any, give_coded, refuse_coded, change_coded, then_coded, next_coded}
-use Rattle.typing_laws.proofs.codes.Stepping.{going, fine_give, fine_then, look_coded, need_coded, some_coded, if_coded, needs}
+use Rattle.typing_laws.proofs.codes.Stepping.{AllOf, Coded, Any, give_coded, refuse_coded, change_coded, then_coded}
+use Rattle.typing_laws.proofs.codes.Stepping.{next_coded}
+use Rattle.typing_laws.proofs.codes.Stepping.{going, fine_give, fine_then, look_coded, need_coded, some_coded, if_coded}
+use Rattle.typing_laws.proofs.codes.Stepping.{needs}
 
 pub value_coded : (a : Operand) → Coded Any (value a)
 value_coded a = look_coded λ s. needs _ _ _ refl (give_coded tt)

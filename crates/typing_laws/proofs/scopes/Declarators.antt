@@ -26,10 +26,14 @@ use Rattle.c_tree.specs.Declarators.{place_of}
 use Rattle.c_tree.specs.Declarators.{parameter_of, bind_local, bind_parameter, parameter_list, prototype_of, names_type}
 use Rattle.c_tree.specs.Programs.{type_of_kind}
 use Rattle.typing_laws.proofs.Facts.{AllNames}
-use Rattle.typing_laws.proofs.scopes.Stepping.{More, among_left, among_right, among_either, EntityOpen, NamesOpen, At, at_more}
-use Rattle.typing_laws.proofs.scopes.Stepping.{moved, Runs, Goes, Keeps, Any, going, run_give, run_kept, run_refuse, run_need}
-use Rattle.typing_laws.proofs.scopes.Stepping.{run_then, run_next, give_goes, give_keeps, refuse_goes, goes_then, goes_next}
-use Rattle.typing_laws.proofs.scopes.Stepping.{need_keeps, some_keeps, if_goes, bound, tagged, entered, at_entered, at_left}
+use Rattle.typing_laws.proofs.scopes.Stepping.{More, among_left, among_right, among_either, EntityOpen, NamesOpen, At}
+use Rattle.typing_laws.proofs.scopes.Stepping.{at_more}
+use Rattle.typing_laws.proofs.scopes.Stepping.{moved, Runs, Goes, Keeps, Any, going, run_give, run_kept, run_refuse}
+use Rattle.typing_laws.proofs.scopes.Stepping.{run_need}
+use Rattle.typing_laws.proofs.scopes.Stepping.{run_then, run_next, give_goes, give_keeps, refuse_goes, goes_then}
+use Rattle.typing_laws.proofs.scopes.Stepping.{goes_next}
+use Rattle.typing_laws.proofs.scopes.Stepping.{need_keeps, some_keeps, if_goes, bound, tagged, entered, at_entered}
+use Rattle.typing_laws.proofs.scopes.Stepping.{at_left}
 use Rattle.typing_laws.proofs.scopes.Expressions.{unevaluated_keeps}
 use Rattle.typing_laws.proofs.scopes.Readings.{PrototypeOpen, DerivedOpen, Reads, AllReads, read_keeps}
 

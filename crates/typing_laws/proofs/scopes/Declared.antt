@@ -34,12 +34,16 @@ use Rattle.c_tree.specs.Declarations.{declare_all, declaration, static_of, has_a
 use Rattle.c_tree.specs.Declarations.{object_agrees, waits, is_external, linked, may_be_external, named_function, ready}
 use Rattle.c_tree.specs.Programs.{initializer_of, is_text}
 use Rattle.typing_laws.specs.Scoping.{IsAmong, TermScoped, ActionsScoped}
-use Rattle.typing_laws.proofs.scopes.Stepping.{More, among_left, among_right, among_either, actions_more, actions_append, At}
-use Rattle.typing_laws.proofs.scopes.Stepping.{at_more, moved, Runs, Goes, Keeps, Any, going, on, run_give, run_kept, run_need}
-use Rattle.typing_laws.proofs.scopes.Stepping.{run_then, run_next, give_goes, give_keeps, refuse_goes, goes_then, goes_next}
+use Rattle.typing_laws.proofs.scopes.Stepping.{More, among_left, among_right, among_either, actions_more}
+use Rattle.typing_laws.proofs.scopes.Stepping.{actions_append, At}
+use Rattle.typing_laws.proofs.scopes.Stepping.{at_more, moved, Runs, Goes, Keeps, Any, going, on, run_give, run_kept}
+use Rattle.typing_laws.proofs.scopes.Stepping.{run_need}
+use Rattle.typing_laws.proofs.scopes.Stepping.{run_then, run_next, give_goes, give_keeps, refuse_goes, goes_then}
+use Rattle.typing_laws.proofs.scopes.Stepping.{goes_next}
 use Rattle.typing_laws.proofs.scopes.Stepping.{need_keeps, some_keeps, if_goes, bodies_changed, bodies_added, bound}
 use Rattle.typing_laws.proofs.scopes.Expressions.{Scoped, value_keeps, assigned_keeps}
-use Rattle.typing_laws.proofs.scopes.Readings.{SlotsScoped, FilledScoped, with_vars, ItemsScoped, Itemed, Reads, AllReads}
+use Rattle.typing_laws.proofs.scopes.Readings.{SlotsScoped, FilledScoped, with_vars, ItemsScoped, Itemed, Reads}
+use Rattle.typing_laws.proofs.scopes.Readings.{AllReads}
 use Rattle.typing_laws.proofs.scopes.Readings.{expression_keeps}
 use Rattle.typing_laws.proofs.scopes.Declarators.{judge_keeps}
 

@@ -35,8 +35,10 @@ use Rattle.c_tree.specs.Expressions.{moves, differ, both_agree, is_void_pointer,
 use Rattle.c_tree.specs.Expressions.{arms_type, is_additive, is_modifiable, compounds, points_to_function}
 use Rattle.typing_laws.proofs.Places.{find_name_ok}
 use Rattle.typing_laws.specs.Scoping.{ShapeScoped, TermScoped, TermsScoped}
-use Rattle.typing_laws.proofs.scopes.Stepping.{EntityOpen, BodiesScoped, moved, Keeps, Any, going, on, run_give, run_kept}
-use Rattle.typing_laws.proofs.scopes.Stepping.{run_need, run_then, run_next, give_keeps, refuse_goes, goes_then, goes_next}
+use Rattle.typing_laws.proofs.scopes.Stepping.{EntityOpen, BodiesScoped, moved, Keeps, Any, going, on, run_give}
+use Rattle.typing_laws.proofs.scopes.Stepping.{run_kept}
+use Rattle.typing_laws.proofs.scopes.Stepping.{run_need, run_then, run_next, give_keeps, refuse_goes, goes_then}
+use Rattle.typing_laws.proofs.scopes.Stepping.{goes_next}
 use Rattle.typing_laws.proofs.scopes.Stepping.{need_keeps, some_keeps, if_goes, bodies_changed}
 
 abbrev pub Scoped : List ℕ → Operand → Type 0

@@ -35,7 +35,8 @@ use Rattle.typing_laws.proofs.Functions.{Outside}
 use Rattle.typing_laws.proofs.Readable.{good}
 use Rattle.typing_laws.proofs.Ended.{outside_beginning}
 use Rattle.typing_laws.specs.Scoping.{ActionScoped}
-use Rattle.typing_laws.proofs.scopes.Stepping.{More, among_either, EntityOpen, entity_more, NamesOpen, names_more, BodiesScoped}
+use Rattle.typing_laws.proofs.scopes.Stepping.{More, among_either, EntityOpen, entity_more, NamesOpen, names_more}
+use Rattle.typing_laws.proofs.scopes.Stepping.{BodiesScoped}
 use Rattle.typing_laws.proofs.scopes.Stepping.{At}
 use Rattle.typing_laws.proofs.scopes.Stepping.{moved, Runs, Keeps, Any, going, run_give, run_refuse, run_then, run_next}
 use Rattle.typing_laws.proofs.scopes.Stepping.{give_keeps}

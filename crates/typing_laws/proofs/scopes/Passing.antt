@@ -31,7 +31,8 @@ use Rattle.typing_laws.proofs.PassedHidden.{Holds, holds_append, holds_hidden, h
 use Rattle.typing_laws.proofs.PassedHidden.{holds_first, holds_last, holds_return}
 use Rattle.typing_laws.proofs.PassedVariables.{holds_body, vars_count, numbers_length}
 use Rattle.typing_laws.proofs.PassedStates.{written, passed_whole}
-use Rattle.typing_laws.specs.Scoping.{IsAmong, ShapeScoped, TermScoped, TermsScoped, in_values, FormScoped, ActionScoped}
+use Rattle.typing_laws.specs.Scoping.{IsAmong, ShapeScoped, TermScoped, TermsScoped, in_values, FormScoped}
+use Rattle.typing_laws.specs.Scoping.{ActionScoped}
 use Rattle.typing_laws.specs.Scoping.{ActionsScoped}
 use Rattle.typing_laws.proofs.scopes.Stepping.{among_left, among_right, among_either}
 

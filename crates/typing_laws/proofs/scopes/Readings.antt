@@ -22,9 +22,11 @@ use Rattle.typing_laws.proofs.Facts.{AllNames}
 use Rattle.typing_laws.specs.Scoping.{TermScoped, ActionsScoped}
 use Rattle.typing_laws.proofs.scopes.Stepping.{EntityOpen, Goes, Keeps, Any, give_keeps, refuse_goes, goes_then, going}
 use Rattle.typing_laws.proofs.scopes.Expressions.{Scoped, AllScoped, value_keeps, named_keeps, text_keeps, unary_keeps}
-use Rattle.typing_laws.proofs.scopes.Expressions.{infix_keeps, conditional_keeps, assign_keeps, compound_keeps, stepped_keeps}
+use Rattle.typing_laws.proofs.scopes.Expressions.{infix_keeps, conditional_keeps, assign_keeps, compound_keeps}
+use Rattle.typing_laws.proofs.scopes.Expressions.{stepped_keeps}
 use Rattle.typing_laws.proofs.scopes.Expressions.{address_keeps, dereference_keeps, index_keeps, member_keeps}
-use Rattle.typing_laws.proofs.scopes.Expressions.{member_behind_keeps, cast_keeps, sized_keeps, unevaluated_keeps, call_keeps}
+use Rattle.typing_laws.proofs.scopes.Expressions.{member_behind_keeps, cast_keeps, sized_keeps, unevaluated_keeps}
+use Rattle.typing_laws.proofs.scopes.Expressions.{call_keeps}
 use Rattle.typing_laws.proofs.scopes.Expressions.{library_keeps}
 
 -- ---- what the parts give

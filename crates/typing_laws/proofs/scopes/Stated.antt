@@ -22,10 +22,13 @@ use Rattle.typing_laws.proofs.scopes.Stepping.{among_right, actions_more, action
 use Rattle.typing_laws.proofs.scopes.Stepping.{Any, going, give_goes, give_keeps, refuse_goes, goes_then, goes_next}
 use Rattle.typing_laws.proofs.scopes.Stepping.{need_keeps, if_goes, in_scope_keeps}
 use Rattle.typing_laws.proofs.scopes.Expressions.{converted_scoped, assigned_keeps, condition_keeps}
-use Rattle.typing_laws.proofs.scopes.Readings.{with_vars, ItemsScoped, Itemed, Reads, AllReads, read_keeps, expression_keeps}
-use Rattle.typing_laws.proofs.scopes.Declarators.{constant_keeps, specifiers_keep, kind_keeps, declarator_keeps, prototype_keeps}
+use Rattle.typing_laws.proofs.scopes.Readings.{with_vars, ItemsScoped, Itemed, Reads, AllReads, read_keeps}
+use Rattle.typing_laws.proofs.scopes.Readings.{expression_keeps}
+use Rattle.typing_laws.proofs.scopes.Declarators.{constant_keeps, specifiers_keep, kind_keeps, declarator_keeps}
+use Rattle.typing_laws.proofs.scopes.Declarators.{prototype_keeps}
 use Rattle.typing_laws.proofs.scopes.Declarators.{parameter_of_keeps, member_of_keeps, enumerator_keeps}
-use Rattle.typing_laws.proofs.scopes.Declared.{initializer_keeps, init_declarator_goes, around, both_scoped, declaration_goes}
+use Rattle.typing_laws.proofs.scopes.Declared.{initializer_keeps, init_declarator_goes, around, both_scoped}
+use Rattle.typing_laws.proofs.scopes.Declared.{declaration_goes}
 
 -- statements beside which no variable is declared
 abbrev pub LoneScoped : List ℕ → Items → Type 0

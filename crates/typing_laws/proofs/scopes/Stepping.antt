@@ -16,7 +16,8 @@ use Rattle.typing_laws.proofs.Facts.{AllScopes}
 use Rattle.typing_laws.proofs.Growing.{scopes_more}
 use Rattle.typing_laws.proofs.Steps.{ok_is, refused, changed_from}
 use Rattle.typing_laws.proofs.Tags.{there_from}
-use Rattle.typing_laws.specs.Scoping.{IsAmong, ShapeScoped, TermScoped, TermsScoped, in_values, FormScoped, ActionScoped}
+use Rattle.typing_laws.specs.Scoping.{IsAmong, ShapeScoped, TermScoped, TermsScoped, in_values, FormScoped}
+use Rattle.typing_laws.specs.Scoping.{ActionScoped}
 use Rattle.typing_laws.specs.Scoping.{ActionsScoped}
 
 -- ---- more variables in scope

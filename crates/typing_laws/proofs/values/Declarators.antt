@@ -22,11 +22,14 @@ use Rattle.c_tree.specs.Types.{is_function}
 use Rattle.c_tree.specs.declared.syntax.NodeKind.{NodeKind}
 use Rattle.c_tree.specs.declared.syntax.NodeKind.TheVariants as Kinds
 use Rattle.c_tree.specs.declared.syntax.RecordKind.{RecordKind}
-use Rattle.typing_laws.proofs.values.Stepping.{still, BodiesMade, Runs, Keeps, Any, going, run_give, run_kept, run_refuse}
-use Rattle.typing_laws.proofs.values.Stepping.{run_need, run_then, run_next, give_keeps, refuse_goes, goes_then, goes_next}
+use Rattle.typing_laws.proofs.values.Stepping.{still, BodiesMade, Runs, Keeps, Any, going, run_give, run_kept}
+use Rattle.typing_laws.proofs.values.Stepping.{run_refuse}
+use Rattle.typing_laws.proofs.values.Stepping.{run_need, run_then, run_next, give_keeps, refuse_goes, goes_then}
+use Rattle.typing_laws.proofs.values.Stepping.{goes_next}
 use Rattle.typing_laws.proofs.values.Stepping.{need_keeps, some_keeps, if_goes, entered}
 use Rattle.typing_laws.proofs.values.Expressions.{unevaluated_keeps}
-use Rattle.typing_laws.proofs.values.Readings.{DerivedMade, ParamMade, ParamsMade, PrototypeMade, Reads, AllReads, read_keeps}
+use Rattle.typing_laws.proofs.values.Readings.{DerivedMade, ParamMade, ParamsMade, PrototypeMade, Reads, AllReads}
+use Rattle.typing_laws.proofs.values.Readings.{read_keeps}
 use Rattle.typing_laws.proofs.values.Sorts.{adjusted_unstored}
 
 pub constant_keeps : (r : Reading) → Reads r → Keeps Any (constant r)

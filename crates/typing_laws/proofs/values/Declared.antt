@@ -34,12 +34,16 @@ use Rattle.c_tree.specs.declared.syntax.NodeKind.TheVariants as Kinds
 use Rattle.typing_laws.proofs.Tags.{last_of}
 use Rattle.typing_laws.proofs.values.Sorts.{is_stored}
 use Rattle.typing_laws.proofs.values.Made.{TermWorth, InitsMade, inits_append, actions_append}
-use Rattle.typing_laws.proofs.values.Stepping.{LocalsKept, changed_locals, pushed_locals, run_on, run_from, run_refuse, still}
-use Rattle.typing_laws.proofs.values.Stepping.{Runs, Keeps, Any, going, run_give, run_kept, run_need, run_then, run_next}
-use Rattle.typing_laws.proofs.values.Stepping.{BodiesMade, give_keeps, refuse_goes, goes_then, goes_next, need_keeps, some_keeps}
+use Rattle.typing_laws.proofs.values.Stepping.{LocalsKept, changed_locals, pushed_locals, run_on, run_from, run_refuse}
+use Rattle.typing_laws.proofs.values.Stepping.{still}
+use Rattle.typing_laws.proofs.values.Stepping.{Runs, Keeps, Any, going, run_give, run_kept, run_need, run_then}
+use Rattle.typing_laws.proofs.values.Stepping.{run_next}
+use Rattle.typing_laws.proofs.values.Stepping.{BodiesMade, give_keeps, refuse_goes, goes_then, goes_next, need_keeps}
+use Rattle.typing_laws.proofs.values.Stepping.{some_keeps}
 use Rattle.typing_laws.proofs.values.Stepping.{if_goes, bodies_changed, bodies_added}
 use Rattle.typing_laws.proofs.values.Expressions.{Made, value_keeps, assigned_keeps}
-use Rattle.typing_laws.proofs.values.Readings.{SlotsMade, FilledMade, ItemsMade, ItemsBegin, Reads, AllReads, expression_keeps}
+use Rattle.typing_laws.proofs.values.Readings.{SlotsMade, FilledMade, ItemsMade, ItemsBegin, Reads, AllReads}
+use Rattle.typing_laws.proofs.values.Readings.{expression_keeps}
 use Rattle.typing_laws.proofs.values.Declarators.{judge_keeps}
 
 -- what is looked at

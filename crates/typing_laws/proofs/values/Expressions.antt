@@ -35,9 +35,12 @@ use Rattle.c_tree.specs.declared.typed.UnaryOp.TheVariants as unary
 use Rattle.typing_laws.proofs.Scalars.{promoted_self, common_is_promoted}
 use Rattle.typing_laws.specs.Valued.{IsComputed}
 use Rattle.typing_laws.proofs.values.Made.{TermMade, TermsMade, TermWorth, if_worth, value_made, converted_made}
-use Rattle.typing_laws.proofs.values.Stepping.{LocalsKept, Runs, run_refuse, changed_locals, still, BodiesMade, Keeps, Any, going}
-use Rattle.typing_laws.proofs.values.Stepping.{run_give, run_kept, run_need, run_then, run_next, less, give_keeps, refuse_goes}
-use Rattle.typing_laws.proofs.values.Stepping.{goes_then, goes_next, need_keeps, need_true, some_keeps, if_goes, bodies_changed}
+use Rattle.typing_laws.proofs.values.Stepping.{LocalsKept, Runs, run_refuse, changed_locals, still, BodiesMade, Keeps}
+use Rattle.typing_laws.proofs.values.Stepping.{Any, going}
+use Rattle.typing_laws.proofs.values.Stepping.{run_give, run_kept, run_need, run_then, run_next, less, give_keeps}
+use Rattle.typing_laws.proofs.values.Stepping.{refuse_goes}
+use Rattle.typing_laws.proofs.values.Stepping.{goes_then, goes_next, need_keeps, need_true, some_keeps, if_goes}
+use Rattle.typing_laws.proofs.values.Stepping.{bodies_changed}
 
 abbrev pub Made : Operand → Type 0
 Made a = TermMade a.is

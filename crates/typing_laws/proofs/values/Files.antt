@@ -31,7 +31,8 @@ use Rattle.typing_laws.proofs.Readable.{good}
 use Rattle.typing_laws.proofs.Ended.{outside_beginning}
 use Rattle.typing_laws.proofs.values.Readings.{ParamsMade, WrapsMade, DerivedMade, ItemsMade}
 use Rattle.typing_laws.proofs.values.Sorts.{is_stored}
-use Rattle.typing_laws.proofs.values.Stepping.{BodyMade, AreAdjusted, LocalsKept, bodies_then, BodiesMade, Runs, Keeps, Any}
+use Rattle.typing_laws.proofs.values.Stepping.{BodyMade, AreAdjusted, LocalsKept, bodies_then, BodiesMade, Runs, Keeps}
+use Rattle.typing_laws.proofs.values.Stepping.{Any}
 use Rattle.typing_laws.proofs.values.Stepping.{run_next, give_keeps, refuse_goes, bodies_changed}
 use Rattle.typing_laws.proofs.values.Declared.{checked, linked_routine_keeps, declaration_goes}
 use Rattle.typing_laws.proofs.values.Stated.{AllStated, all_read, all_stated}

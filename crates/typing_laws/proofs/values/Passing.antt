@@ -32,8 +32,10 @@ use Rattle.typing_laws.specs.Valued.{AreScalars, is_plain, IsValue, IsPlace, Are
 use Rattle.typing_laws.specs.Valued.{ActionsValued, IsComputed}
 use Rattle.typing_laws.proofs.values.Stepping.{AreAdjusted}
 use Rattle.typing_laws.proofs.values.Made.{is_read, TermMade, TermsMade, TermWorth, ActionMade, ActionsMade}
-use Rattle.typing_laws.proofs.values.Sorts.{AreFunctions, library_plain, or_second, member_read, function_read, unstored}
-use Rattle.typing_laws.proofs.values.Sorts.{is_stored, is_site, designates_site, decays_site, address_site, modifiable_site}
+use Rattle.typing_laws.proofs.values.Sorts.{AreFunctions, library_plain, or_second, member_read, function_read}
+use Rattle.typing_laws.proofs.values.Sorts.{unstored}
+use Rattle.typing_laws.proofs.values.Sorts.{is_stored, is_site, designates_site, decays_site, address_site}
+use Rattle.typing_laws.proofs.values.Sorts.{modifiable_site}
 use Rattle.typing_laws.proofs.values.Sorts.{unread_site}
 
 -- ---- expressions

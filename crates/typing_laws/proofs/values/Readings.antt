@@ -20,10 +20,13 @@ use Rattle.c_tree.specs.declared.syntax.Selection.TheVariants.{Direct, Indirect}
 use Rattle.typing_laws.proofs.values.Sorts.{is_stored}
 use Rattle.typing_laws.proofs.values.Made.{TermWorth, ActionsMade, InitsMade}
 use Rattle.typing_laws.proofs.values.Stepping.{Keeps, Any, give_keeps, refuse_goes, goes_then, going}
-use Rattle.typing_laws.proofs.values.Expressions.{Made, Worth, AllWorth, value_keeps, named_keeps, text_keeps, unary_keeps}
-use Rattle.typing_laws.proofs.values.Expressions.{infix_keeps, conditional_keeps, assign_keeps, compound_keeps, stepped_keeps}
+use Rattle.typing_laws.proofs.values.Expressions.{Made, Worth, AllWorth, value_keeps, named_keeps, text_keeps}
+use Rattle.typing_laws.proofs.values.Expressions.{unary_keeps}
+use Rattle.typing_laws.proofs.values.Expressions.{infix_keeps, conditional_keeps, assign_keeps, compound_keeps}
+use Rattle.typing_laws.proofs.values.Expressions.{stepped_keeps}
 use Rattle.typing_laws.proofs.values.Expressions.{address_keeps, dereference_keeps, index_keeps, member_keeps}
-use Rattle.typing_laws.proofs.values.Expressions.{member_behind_keeps, cast_keeps, sized_keeps, unevaluated_keeps, call_keeps}
+use Rattle.typing_laws.proofs.values.Expressions.{member_behind_keeps, cast_keeps, sized_keeps, unevaluated_keeps}
+use Rattle.typing_laws.proofs.values.Expressions.{call_keeps}
 use Rattle.typing_laws.proofs.values.Expressions.{library_keeps}
 
 -- ---- what the parts give

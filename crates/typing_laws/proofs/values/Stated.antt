@@ -17,11 +17,13 @@ use Rattle.c_tree.specs.declared.syntax.NodeKind.TheVariants as Kinds
 use Rattle.typing_laws.specs.Valued.{AreOnce}
 use Rattle.typing_laws.proofs.values.Made.{TermWorth, TermsMade, ActionsMade, inits_are, inits_begin, actions_append}
 use Rattle.typing_laws.proofs.values.Made.{converted_made}
-use Rattle.typing_laws.proofs.values.Stepping.{if_known, less, need_true, Keeps, Any, give_keeps, refuse_goes, goes_then}
+use Rattle.typing_laws.proofs.values.Stepping.{if_known, less, need_true, Keeps, Any, give_keeps, refuse_goes}
+use Rattle.typing_laws.proofs.values.Stepping.{goes_then}
 use Rattle.typing_laws.proofs.values.Stepping.{goes_next, need_keeps, if_goes, in_scope_keeps}
 use Rattle.typing_laws.proofs.values.Expressions.{assigned_keeps, condition_keeps}
 use Rattle.typing_laws.proofs.values.Readings.{ItemsMade, ItemsBegin, Reads, AllReads, read_keeps, expression_keeps}
-use Rattle.typing_laws.proofs.values.Declarators.{constant_keeps, specifiers_keep, kind_keeps, declarator_keeps, prototype_keeps}
+use Rattle.typing_laws.proofs.values.Declarators.{constant_keeps, specifiers_keep, kind_keeps, declarator_keeps}
+use Rattle.typing_laws.proofs.values.Declarators.{prototype_keeps}
 use Rattle.typing_laws.proofs.values.Declarators.{parameter_of_keeps, member_of_keeps, enumerator_keeps}
 use Rattle.typing_laws.proofs.values.Declared.{initializer_keeps, init_declarator_goes, both_made, declaration_goes}
 
