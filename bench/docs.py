@@ -9,6 +9,7 @@ import glob
 import os
 import re
 import sys
+import tempfile
 
 from calls import answer_of, parser, prepared
 
@@ -96,16 +97,28 @@ def told(page, text):
             yield files[0], lines[-1] if cells[0].startswith("`exit") else lines[0] if len(lines) == 1 else lines[-1]
 
 
+def not_found(text):
+    """The programs of which the strict meaning finds nothing, each with the line by which `mean` ends."""
+    section = text.partition("## What the strict meaning does not look for")[2].partition("\n## ")[0]
+    for cells in rows_of(section):
+        if program := re.fullmatch(r"`([^`]*\bmain\b[^`]*)`", cells[1]):
+            yield program[1], cells[2].strip("`")
+
+
+def line_of(cheric, mode, program):
+    with tempfile.NamedTemporaryFile("w", suffix=".c") as file:
+        file.write(program)
+        file.flush()
+        return answer_of([cheric, mode, file.name], b"").line
+
+
 def run_faults(cheric):
-    import tempfile
-    for page in ("docs/causes.md", "docs/refusals.md"):
-        for program, line in told(page, text_of(page)):
-            with tempfile.NamedTemporaryFile("w", suffix=".c") as file:
-                file.write(program)
-                file.flush()
-                said = answer_of([cheric, "run", file.name], b"").line
-            if said != line:
-                yield f"{page}: {program} ends by {said}; the page says {line}"
+    rows = [(page, "run", *row) for page in ("docs/causes.md", "docs/refusals.md") for row in told(page, text_of(page))]
+    rows += [("docs/causes.md", "mean", *row) for row in not_found(text_of("docs/causes.md"))]
+    for page, mode, program, line in rows:
+        if (said := line_of(cheric, mode, program)) != line:
+            yield f"{page}: {program} ends by {said}; the page says {line}"
+    print(f"{len(rows)} programs run")
 
 
 def main():

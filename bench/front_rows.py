@@ -37,7 +37,7 @@ def answer(folder, text):
     file = f"{folder}/file.c"
     with open(file, "wb") as it:
         it.write(text.encode())
-    line = subprocess.run([f"{ROOT}/cheric", "build", file], capture_output=True, text=True).stderr.strip()
+    line = subprocess.run([f"{ROOT}/cheric", "build", file], capture_output=True, text=True).stderr.splitlines()[-1]
     return "typed" if line.startswith("built ") else line.removeprefix("refused ")
 
 

@@ -89,6 +89,11 @@ MEAN = [
 ]
 
 
+def said_of(stderr):
+    """What the command says on standard error: without what the script before it says."""
+    return "".join(it for it in stderr.decode().splitlines(True) if not it.startswith("cheric: "))
+
+
 class Rows:
     """A folder, in which the rows run, and the rows that were answered otherwise."""
 
@@ -111,7 +116,7 @@ class Rows:
         self.count += 1
         run = subprocess.run([CHERIC, *words], cwd=self.folder, input=None if taken is None else taken.encode(),
                              stdout=out or subprocess.PIPE, stderr=subprocess.PIPE)
-        got = (run.stdout.decode("latin-1") if run.stdout is not None else output, run.stderr.decode(), run.returncode)
+        got = (run.stdout.decode("latin-1") if run.stdout is not None else output, said_of(run.stderr), run.returncode)
         first = got[1].splitlines()[0] if got[1] else ""
         # A refusal by 120 is at any place, and texts are put without a line.
         whole = "" if line is None else line + "\n"
@@ -131,7 +136,7 @@ class Rows:
             run = subprocess.run([CHERIC, *words], cwd=self.folder, stdin=subprocess.DEVNULL, stdout=out,
                                  stderr=subprocess.PIPE,
                                  preexec_fn=limited)
-        got = (self.read("output").decode("latin-1"), run.stderr.decode(), run.returncode)
+        got = (self.read("output").decode("latin-1"), said_of(run.stderr), run.returncode)
         os.remove(f"{self.folder}/output")
         self.holds(f"cheric {' '.join(words)}: {got}", got == (output, line + "\n", status))
 
@@ -144,7 +149,7 @@ class Rows:
         run = subprocess.run([CHERIC, *words], cwd=self.folder, stdin=near, stdout=subprocess.PIPE,
                              stderr=subprocess.PIPE)
         os.close(near)
-        got = (run.stdout.decode("latin-1"), run.stderr.decode(), run.returncode)
+        got = (run.stdout.decode("latin-1"), said_of(run.stderr), run.returncode)
         self.holds(f"cheric {' '.join(words)}: {got}", got == (output, line + "\n", status))
 
     def holds(self, what, is_so):
@@ -206,7 +211,7 @@ def text_rows(rows):
 
 
 def line_rows(rows):
-    for words in [["run"], ["fly", "a.c"], [], ["run", "a.c", "--steps"], ["run", "a.c", "--steps", "1000000000001"],
+    for words in [["run"], ["fly", "a.c"], ["run", "a.c", "--steps"], ["run", "a.c", "--steps", "1000000000001"],
                   ["run", "a.c", "--steps", "+1"], ["build", "a.c", "--out"], ["exec"], ["run", "a.c", "b.c"]]:
         rows.row(words, "", "words", 11)
 

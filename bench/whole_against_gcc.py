@@ -1,13 +1,14 @@
 #!/usr/bin/env python3
-"""bench/whole_against_gcc.py [COUNT [SEED]] [--dense | --trap] [--jobs N] [--keep FOLDER]: compares generated programs
-with gcc.
+"""bench/whole_against_gcc.py [COUNT [SEED]] [--dense | --trap | --large] [--jobs N] [--keep FOLDER]: compares generated
+programs with gcc.
 
 COUNT programs of whole_programs.py (100 by default, from SEED 1 on) are run by `./cheric run` and as `gcc -O0 -fwrapv
 -funsigned-char` builds them; both get the program's own text as their input, and must put the same bytes and exit with
 the same number. With --dense the programs are those of dense_programs.py: cheric gets the dense one, gcc the one with
 its steps written out. With --trap one statement fails a check of the machine, and an exit stands in its place for gcc:
-a run that comes there must end by that check at its place. Programs over the limit of weight (142), those that are not
-built yet (150), and those on which gcc fails in itself are counted apart. With --keep the programs that are answered
+a run that comes there must end by that check at its place. With --large a program has 500 to 3,000 functions. Programs
+over the limit of weight (142), those that are not built yet (150), and those on which gcc fails in itself are counted
+apart. With --keep the programs that are answered
 otherwise are put into FOLDER, as SEED.c and, where gcc gets another text, SEED.gcc.c. It needs gcc and what ./cheric
 needs. It proves nothing and is no part of the gate."""
 import os
@@ -27,6 +28,8 @@ def pair(seed, words):
     """The program for cheric, the one for gcc, and the line with which a run ends that comes to the failing check."""
     if words.trap:
         return whole_programs.trapping(seed)
+    if words.large:
+        return (whole_programs.large(seed),) * 2 + ("",)
     if words.dense:
         return (*dense_programs.programs(seed), "")
     text = whole_programs.program(seed)
@@ -62,6 +65,7 @@ def programs_parser(text):
     words.add_argument("seed", nargs="?", type=int, default=1, metavar="SEED")
     words.add_argument("--dense", action="store_true", help="dense expressions with side effects")
     words.add_argument("--trap", action="store_true", help="a failing check in each program")
+    words.add_argument("--large", action="store_true", help="500 to 3,000 functions in each program")
     return words
 
 

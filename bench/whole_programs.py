@@ -59,6 +59,9 @@ static void mark(void) {
 putchar(33 + (int)(mixed % 90));
 }"""
 
+# Of a large program: how many functions one calls in a row, and the most pieces.
+CALLS, MOST_PIECES = 20, 60
+
 
 class Int:
     """An integer type, by its spelling."""
@@ -128,15 +131,16 @@ class Function:
 
 class Program:
     """A program while it is written. Where `trapping` holds, one statement fails a check: `trap` is then its line,
-    counted from 0, and the end of the run."""
+    counted from 0, and the end of the run. A large program has so many functions, and others that call them."""
 
-    def __init__(self, seed, trapping=False):
+    def __init__(self, seed, trapping=False, large=0):
         self.random = random.Random(seed)
         self.trap, self.until_trap = None, self.random.randint(2, 25) if trapping else None
         self.lines, self.roots, self.functions, self.records = [], [], [], []
         self.enumerators, self.names, self.level = [], 0, 0
         self.pieces, self.tables = [], []
         self.scale = self.random.choice([1, 1, 2, 3])
+        self.large = large
 
     # Names, chances and lines.
 
@@ -937,7 +941,7 @@ class Program:
         if (takes and gives and isinstance(takes[0], Int) and takes[0].name in ("int", "long", "unsigned")
                 and self.chance(0.4)):
             self.recursion(one, names, takes)
-        self.body(self.random.randint(2, 7) * self.scale)
+        self.body(1 if self.large else self.random.randint(2, 7) * self.scale)
         if gives:
             self.line(f"return {self.value(2)};")
         self.line("}")
@@ -1009,22 +1013,38 @@ class Program:
             self.global_object()
         if self.chance(0.5):
             self.table()
-        for k in range(self.random.randint(2, 5)):
-            if self.chance(0.6):
+        for k in range(self.large or self.random.randint(2, 5)):
+            if self.chance(0.6) and k < MOST_PIECES:
                 self.piece(k)
             self.defined()
+        sweeps = [self.sweep() for _ in range(self.large // CALLS)]
         main = Function("main", Int("int"), [], False)
         self.started(main, 30_000)
         self.line("int main(void) {")
         self.body(self.random.randint(8, 20) * self.scale)
         for name in self.pieces:
             self.line(f"show({name}({self.value(2)}));")
+        for name in sweeps:
+            self.line(f"{name}();")
         self.sums()
         self.line("show(mixed);")
         self.line("mark();")
         self.line("return (int)(mixed & 127);")
         self.line("}")
         return "\n".join(self.lines) + "\n"
+
+    def sweep(self):
+        """A function of a large program that calls others, near and far."""
+        one = Function(self.name("sweep"), None, [], False)
+        self.started(one, 10_000)
+        kept = list(self.roots)
+        self.line(f"static void {one.name}(void) {{")
+        self.body(3)
+        for _ in range(CALLS):
+            self.called()
+        self.line("}")
+        self.roots = kept
+        return one.name
 
     def sums(self):
         """What the objects hold at the end."""
@@ -1037,6 +1057,11 @@ class Program:
 
 def program(seed):
     return Program(seed).text()
+
+
+def large(seed):
+    """A program of 500 to 3,000 functions."""
+    return Program(seed, large=random.Random(-seed).randint(500, 3000)).text()
 
 
 def trapping(seed):
@@ -1054,7 +1079,9 @@ def trapping(seed):
 
 
 if __name__ == "__main__":
-    if "--trap" in sys.argv:
+    if "--large" in sys.argv:
+        print(large(int(sys.argv[1])), end="")
+    elif "--trap" in sys.argv:
         print("{0}/* {2} */".format(*trapping(int(sys.argv[1]))))
     else:
         print(program(int(sys.argv[1])), end="")
