@@ -2,8 +2,8 @@
 """bench/pages.py [--check]: makes crates/README.md and docs/trust.md of the sources.
 
 crates/README.md has the families of crates.txt in their order, and of each crate the first sentence of its head, its
-lines and what it names directly. docs/trust.md has the files of definitions that the contracts of `build` and `cheric`
-rest on, by imports, in an order in which each stands behind what it needs. With --check nothing is written, and the
+lines and what it names directly. docs/trust.md has the files of definitions to which the contracts of `build` and `cheric`
+lead by imports, in an order in which each stands behind what it needs. With --check nothing is written, and the
 status says whether both are as they would be made."""
 import argparse
 import glob
@@ -174,10 +174,11 @@ def trust_page():
     out = [
         "# What the promise rests on",
         "",
-        "Made by `bench/pages.py`; not written by hand. The contracts of `build` (`cheric_build`) and of `cheric`",
-        "(`cheric_top`) speak by the definitions of these files and by the types of these sources, by imports, and by",
-        "nothing else of this repository: who has read them has read all that is claimed. Each file stands behind those",
-        "that it needs. Beside them trust is asked for what README names: the kit, the system and the adapters.",
+        "Made by `bench/pages.py`; not written by hand. The definitions that the contracts of `build` (`cheric_build`) and",
+        "of `cheric` (`cheric_top`) name lead to these files by their imports, and to the types of these sources. Each file",
+        "stands behind those that it needs. The script follows the imports of definitions alone: to be read beside them are",
+        "the two contracts, the clauses of the traits of the outside (`ck_base/src/outside.rt`), and the models that types",
+        "have in their sources. Trust is asked besides for what README names: the kit, the system and the adapters.",
         "",
         f"{len(specs)} files of definitions with {sum(count[at] for at in specs):,} lines, and {len(order) - len(specs)}",
         f"sources, of which only the types count, with {sum(count[at] for at in order if at not in specs):,}.",
