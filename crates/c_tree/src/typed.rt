@@ -96,7 +96,9 @@ pub struct FunDef {
     pub of: u32,
     /// The parameters' numbers among the variables, in order.
     pub params: Sequence<u32>,
-    /// The parameters and then the other locals, in the order of their declarations.
+    /// The parameters; behind them, in a program as it is run, the locals to which structs and unions that came by a
+    /// pointer are copied; then the other locals, in the order of their declarations, and last, as it is run, those that
+    /// hold the structs and unions that calls result in.
     pub vars: Sequence<VarDef>,
     /// The statement that is its body.
     pub body: u32,

@@ -48,7 +48,7 @@ pub const TYPE_TOO_LARGE: u16 = 140;
 /// The file has globals and literals, or locals of one function, of more than 67,108,864 bytes.
 pub const OBJECTS_TOO_LARGE: u16 = 141;
 
-/// The file has a weight of more than 7,780.
+/// A function has a weight of more than 7,780, or the file one of more than 250,000.
 pub const TOO_HEAVY: u16 = 142;
 
 /// The file has more than 4,194,304 bytes.
