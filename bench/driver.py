@@ -65,6 +65,13 @@ RUNS = [
      [], "00042|a  |ff\n", "exit 0", 0),
     ("#include <stdio.h>\nstruct s { char c; int i; } __attribute__((unused)) x;\n"
      "__attribute__((noreturn, format(printf, 1, 2))) int f(char *s, ...) ;\n" + PLAIN, [], "", "refused 103", 10),
+    # A file that asks which C it is told 1999, and does without the words that C11 added.
+    ("#if __STDC_VERSION__ >= 201112L\nstruct s { _Alignas(64) char a[8]; };\n#else\nstruct s { char a[8]; };\n#endif\n"
+     + PLAIN, [], "p", "exit 0", 0),
+    # A thousand files are included.
+    ('#include "own.h"\n' * 1000 + PLAIN.replace("'p'", "OWN"), ["-I", "a folder"], "o", "exit 0", 0),
+    ("\n".join(f'#include "many/{n}.h"' for n in range(1000)) + "\nint main(void) { return v0 + v999 - 999; }\n", [], "",
+     "exit 0", 0),
     # What cannot be preprocessed.
     ('#include "none.h"\n' + PLAIN, [], "", "preprocessor", 23),
     ("#error none\n" + PLAIN, [], "", "preprocessor", 23),
@@ -201,6 +208,20 @@ def example_rows(rows):
         rows.holds("README.md shows examples/hello.c", f"    $ cat examples/hello.c\n{shown}" in page.read())
 
 
+def marker_rows(rows):
+    """Markers that say nothing, or much: each file stops at the second line of the marker's."""
+    wrong = "\nint main(void) {\n  return y; }\n"
+    long = "n" * 100_000
+    for marker, place in (('# 7 "a.h"', "a.h:8:10"), ("# 7", "8:10"), (f'# 7 "{long}"', f"{long}:8:10"),
+                          (f"# {2 ** 32} \"a.h\"", "3:10"), (f'# {"9" * 100_000} "a.h"', "3:10"), ('# 7 "a.h', "8:10"),
+                          (f"#line {2 ** 32 - 1}", f"{2 ** 32}:10"), ("# 0", "1:10"), ("#pragma x", "3:10")):
+        rows.write("m.i", marker + wrong)
+        # As it is, without the preprocessor: the command itself reads it.
+        words = [program_of(rows.cheric), "run", "m.i"]
+        run = subprocess.run(words, cwd=rows.folder, capture_output=True, check=False)
+        rows.holds(f"{marker[:40]}: {run.stderr[:80]}", run.stderr.decode() == f"refused 130 {place}\n")
+
+
 def time_row(rows):
     """A call answers in 2 seconds, once the command is built."""
     rows.write("a.c", HELLO)
@@ -215,8 +236,11 @@ def main():
         os.mkdir(f"{folder}/a folder")
         rows = Rows(cheric, folder)
         rows.write("a folder/own.h", "#define OWN 'o'\n")
+        os.mkdir(f"{folder}/many")
+        for n in range(1000):
+            rows.write(f"many/{n}.h", f"static int v{n} = {n};\n")
         rows.write("a.c", PLAIN)
-        for work in (word_rows, run_rows, stream_rows, kept_rows, preprocessor_rows, macro_rows, example_rows,
+        for work in (word_rows, run_rows, stream_rows, kept_rows, preprocessor_rows, macro_rows, marker_rows, example_rows,
                      time_row):
             work(rows)
     print(f"{rows.count - rows.wrong} passed, {rows.wrong} failed")
